@@ -1,0 +1,4 @@
+mod FirstByte
+mod Lebs
+mod Parts
+mod SignedLebs
