@@ -1,0 +1,43 @@
+//! The types that several crates share: units, entries, queries and answers, and the texts of the answers.
+//!
+//! Units and entries are those of DWARF 5, sections 7.5.1 and 2.3 (DWARF 4 for versions 2 to 4). An index answers questions
+//! about them (DWARF 5, section 6.1).
+#![tactic(auto)]
+
+mod answer;
+mod entry;
+pub mod index_code;
+mod index_laws;
+mod job;
+mod laws;
+mod list;
+mod query;
+mod range;
+mod rules;
+mod shard;
+mod staged;
+mod steps;
+mod text;
+mod unit;
+
+pub use answer::{Answer, CacheSize, Hits, Look, Main, MainName, Reply};
+pub use entry::{Entry, Kind, Run};
+pub use index_laws::{
+    core_goes_on, core_is_right, each_job_once, each_name_has_its_slot, path_finds_all,
+    path_has_each_slot, pieces_are_maximal,
+};
+pub use job::{CacheKind, Job, Moment};
+pub use laws::{
+    entries_are_in_order, first_fault_goes_by_phases, simple_names_are_ends,
+    spans_stand_for_children, stages_go_on, unit_at_is_the_least, units_tile_their_sections,
+    visited_goes_by_the_parent, walks_are_in_order,
+};
+pub use list::List;
+pub use query::Query;
+pub use range::{Range, UnitRange};
+pub use rules::{Class, Facts, Parent};
+pub use shard::{Import, Linked, LinkedEntry, Next, Node, Raw, Root, Shard, Span, TextPlace};
+pub use staged::Staged;
+pub use steps::Steps;
+pub use text::Text;
+pub use unit::{Part, Unit, UnitSort};
