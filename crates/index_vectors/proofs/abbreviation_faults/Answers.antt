@@ -1,0 +1,19 @@
+-- Written by tools/gen_vectors.py; not to be changed by hand.
+use Rattle.index_vectors.proofs.AbbreviationFaultsHold.{abbreviations_code_too_large as abbreviations_code_too_large_holds, abbreviations_tag_too_large as abbreviations_tag_too_large_holds, abbreviations_form_too_large as abbreviations_form_too_large_holds, abbreviations_constant_too_large as abbreviations_constant_too_large_holds, abbreviations_constant_cut as abbreviations_constant_cut_holds, abbreviations_cut_before_the_children_flag as abbreviations_cut_before_the_children_flag_holds, abbreviations_cut_in_a_pair as abbreviations_cut_in_a_pair_holds, abbreviations_without_code_0 as abbreviations_without_code_0_holds, debug_abbrev_byte_1a_made_01 as debug_abbrev_byte_1a_made_01_holds, debug_abbrev_without_bits as debug_abbrev_without_bits_holds, header_abbreviations_at_the_end_of_their_section as header_abbreviations_at_the_end_of_their_section_holds, header_abbreviations_past_their_section as header_abbreviations_past_their_section_holds}
+use Rattle.index_vectors.proofs.abbreviation_faults.Goals as goal
+
+pub returns : goal.returns
+returns c = record {
+  abbreviations_code_too_large = abbreviations_code_too_large_holds;
+  abbreviations_tag_too_large = abbreviations_tag_too_large_holds;
+  abbreviations_form_too_large = abbreviations_form_too_large_holds;
+  abbreviations_constant_too_large = abbreviations_constant_too_large_holds;
+  abbreviations_constant_cut = abbreviations_constant_cut_holds;
+  abbreviations_cut_before_the_children_flag = abbreviations_cut_before_the_children_flag_holds;
+  abbreviations_cut_in_a_pair = abbreviations_cut_in_a_pair_holds;
+  abbreviations_without_code_0 = abbreviations_without_code_0_holds;
+  debug_abbrev_byte_1a_made_01 = debug_abbrev_byte_1a_made_01_holds;
+  debug_abbrev_without_bits = debug_abbrev_without_bits_holds;
+  header_abbreviations_at_the_end_of_their_section = header_abbreviations_at_the_end_of_their_section_holds;
+  header_abbreviations_past_their_section = header_abbreviations_past_their_section_holds;
+}

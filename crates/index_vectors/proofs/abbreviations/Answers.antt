@@ -1,0 +1,16 @@
+-- Written by tools/gen_vectors.py; not to be changed by hand.
+use Rattle.index_vectors.proofs.AbbreviationsHold.{abbreviations_bytes_after_code_0 as abbreviations_bytes_after_code_0_holds, abbreviations_children_flag_2 as abbreviations_children_flag_2_holds, abbreviations_equal_codes_first_counts as abbreviations_equal_codes_first_counts_holds, abbreviations_largest_code as abbreviations_largest_code_holds, abbreviations_largest_constant as abbreviations_largest_constant_holds, abbreviations_least_constant as abbreviations_least_constant_holds, abbreviations_padded_constant as abbreviations_padded_constant_holds, abbreviations_padded_everywhere as abbreviations_padded_everywhere_holds, abbreviations_unused_unknown_form as abbreviations_unused_unknown_form_holds}
+use Rattle.index_vectors.proofs.abbreviations.Goals as goal
+
+pub returns : goal.returns
+returns c = record {
+  abbreviations_bytes_after_code_0 = abbreviations_bytes_after_code_0_holds;
+  abbreviations_children_flag_2 = abbreviations_children_flag_2_holds;
+  abbreviations_equal_codes_first_counts = abbreviations_equal_codes_first_counts_holds;
+  abbreviations_largest_code = abbreviations_largest_code_holds;
+  abbreviations_largest_constant = abbreviations_largest_constant_holds;
+  abbreviations_least_constant = abbreviations_least_constant_holds;
+  abbreviations_padded_constant = abbreviations_padded_constant_holds;
+  abbreviations_padded_everywhere = abbreviations_padded_everywhere_holds;
+  abbreviations_unused_unknown_form = abbreviations_unused_unknown_form_holds;
+}

@@ -1,0 +1,32 @@
+-- Written by tools/gen_vectors.py; not to be changed by hand.
+use Rattle.index_vectors.proofs.AdaNamesHold.{ada_decodes___12_by_name as ada_decodes___12_by_name_holds, ada_decodes__ada__ada_q_by_name as ada_decodes__ada__ada_q_by_name_holds, ada_decodes__ada__ada_q_by_simple as ada_decodes__ada__ada_q_by_simple_holds, ada_decodes__ada__by_name as ada_decodes__ada__by_name_holds, ada_decodes__ada_q_by_name as ada_decodes__ada_q_by_name_holds, ada_decodes__ada_x__y_by_name as ada_decodes__ada_x__y_by_name_holds, ada_decodes__ada_x__y_by_simple as ada_decodes__ada_x__y_by_simple_holds, ada_decodes_a1__b_c_by_name as ada_decodes_a1__b_c_by_name_holds, ada_decodes_a1__b_c_by_simple as ada_decodes_a1__b_c_by_simple_holds, ada_decodes_a__1__2_by_name as ada_decodes_a__1__2_by_name_holds, ada_decodes_a__1_by_name as ada_decodes_a__1_by_name_holds, ada_decodes_a__1_by_simple as ada_decodes_a__1_by_simple_holds, ada_decodes_a___b_by_name as ada_decodes_a___b_by_name_holds, ada_decodes_a__b2_by_name as ada_decodes_a__b2_by_name_holds, ada_decodes_a__b2_by_simple as ada_decodes_a__b2_by_simple_holds, ada_decodes_a__b__c__12_by_name as ada_decodes_a__b__c__12_by_name_holds, ada_decodes_a__b__c__12_by_simple as ada_decodes_a__b__c__12_by_simple_holds, ada_decodes_a__b_by_name as ada_decodes_a__b_by_name_holds, ada_decodes_a__by_name as ada_decodes_a__by_name_holds, ada_decodes_x___by_name as ada_decodes_x___by_name_holds, ada_decodes_x___by_simple as ada_decodes_x___by_simple_holds, ada_main_procedure as ada_main_procedure_holds, ada_name_that_stays as ada_name_that_stays_holds, ada_overloaded_procedure as ada_overloaded_procedure_holds, inside_an_ada_subprogram as inside_an_ada_subprogram_holds}
+use Rattle.index_vectors.proofs.ada_names.Goals as goal
+
+pub returns : goal.returns
+returns c = record {
+  ada_decodes___12_by_name = ada_decodes___12_by_name_holds;
+  ada_decodes__ada__ada_q_by_name = ada_decodes__ada__ada_q_by_name_holds;
+  ada_decodes__ada__ada_q_by_simple = ada_decodes__ada__ada_q_by_simple_holds;
+  ada_decodes__ada__by_name = ada_decodes__ada__by_name_holds;
+  ada_decodes__ada_q_by_name = ada_decodes__ada_q_by_name_holds;
+  ada_decodes__ada_x__y_by_name = ada_decodes__ada_x__y_by_name_holds;
+  ada_decodes__ada_x__y_by_simple = ada_decodes__ada_x__y_by_simple_holds;
+  ada_decodes_a1__b_c_by_name = ada_decodes_a1__b_c_by_name_holds;
+  ada_decodes_a1__b_c_by_simple = ada_decodes_a1__b_c_by_simple_holds;
+  ada_decodes_a__1__2_by_name = ada_decodes_a__1__2_by_name_holds;
+  ada_decodes_a__1_by_name = ada_decodes_a__1_by_name_holds;
+  ada_decodes_a__1_by_simple = ada_decodes_a__1_by_simple_holds;
+  ada_decodes_a___b_by_name = ada_decodes_a___b_by_name_holds;
+  ada_decodes_a__b2_by_name = ada_decodes_a__b2_by_name_holds;
+  ada_decodes_a__b2_by_simple = ada_decodes_a__b2_by_simple_holds;
+  ada_decodes_a__b__c__12_by_name = ada_decodes_a__b__c__12_by_name_holds;
+  ada_decodes_a__b__c__12_by_simple = ada_decodes_a__b__c__12_by_simple_holds;
+  ada_decodes_a__b_by_name = ada_decodes_a__b_by_name_holds;
+  ada_decodes_a__by_name = ada_decodes_a__by_name_holds;
+  ada_decodes_x___by_name = ada_decodes_x___by_name_holds;
+  ada_decodes_x___by_simple = ada_decodes_x___by_simple_holds;
+  ada_main_procedure = ada_main_procedure_holds;
+  ada_name_that_stays = ada_name_that_stays_holds;
+  ada_overloaded_procedure = ada_overloaded_procedure_holds;
+  inside_an_ada_subprogram = inside_an_ada_subprogram_holds;
+}

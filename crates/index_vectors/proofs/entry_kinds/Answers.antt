@@ -1,0 +1,24 @@
+-- Written by tools/gen_vectors.py; not to be changed by hand.
+use Rattle.index_vectors.proofs.EntryKindsHold.{tag_base_type_of_cpp as tag_base_type_of_cpp_holds, tag_imported_unit_isnt_indexed as tag_imported_unit_isnt_indexed_holds, tag_interface_type_of_cpp as tag_interface_type_of_cpp_holds, tag_lexical_block_isnt_indexed as tag_lexical_block_isnt_indexed_holds, tag_member_isnt_indexed as tag_member_isnt_indexed_holds, tag_namespace_of_cpp as tag_namespace_of_cpp_holds, tag_subrange_type_of_cpp as tag_subrange_type_of_cpp_holds, tag_typedef_of_cpp as tag_typedef_of_cpp_holds, tag_union_type_of_cpp as tag_union_type_of_cpp_holds, subprogram_with_entry_alone as subprogram_with_entry_alone_holds, subprogram_with_entry_as_a_constant as subprogram_with_entry_as_a_constant_holds, subprogram_with_high_alone as subprogram_with_high_alone_holds, subprogram_with_low_alone as subprogram_with_low_alone_holds, subprogram_without_an_address as subprogram_without_an_address_holds, variable_with_a_constant as variable_with_a_constant_holds, variable_without_a_place as variable_without_a_place_holds, constant_with_a_place_alone as constant_with_a_place_alone_holds}
+use Rattle.index_vectors.proofs.entry_kinds.Goals as goal
+
+pub returns : goal.returns
+returns c = record {
+  tag_base_type_of_cpp = tag_base_type_of_cpp_holds;
+  tag_imported_unit_isnt_indexed = tag_imported_unit_isnt_indexed_holds;
+  tag_interface_type_of_cpp = tag_interface_type_of_cpp_holds;
+  tag_lexical_block_isnt_indexed = tag_lexical_block_isnt_indexed_holds;
+  tag_member_isnt_indexed = tag_member_isnt_indexed_holds;
+  tag_namespace_of_cpp = tag_namespace_of_cpp_holds;
+  tag_subrange_type_of_cpp = tag_subrange_type_of_cpp_holds;
+  tag_typedef_of_cpp = tag_typedef_of_cpp_holds;
+  tag_union_type_of_cpp = tag_union_type_of_cpp_holds;
+  subprogram_with_entry_alone = subprogram_with_entry_alone_holds;
+  subprogram_with_entry_as_a_constant = subprogram_with_entry_as_a_constant_holds;
+  subprogram_with_high_alone = subprogram_with_high_alone_holds;
+  subprogram_with_low_alone = subprogram_with_low_alone_holds;
+  subprogram_without_an_address = subprogram_without_an_address_holds;
+  variable_with_a_constant = variable_with_a_constant_holds;
+  variable_without_a_place = variable_without_a_place_holds;
+  constant_with_a_place_alone = constant_with_a_place_alone_holds;
+}

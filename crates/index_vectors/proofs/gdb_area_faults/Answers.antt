@@ -1,0 +1,34 @@
+-- Written by tools/gen_vectors.py; not to be changed by hand.
+use Rattle.index_vectors.proofs.GdbAreaFaultsHold.{gdb8_index_cut_to_0 as gdb8_index_cut_to_0_holds, gdb8_index_cut_to_3 as gdb8_index_cut_to_3_holds, look_gdb_empty_file as look_gdb_empty_file_holds, look_gdb_version_7 as look_gdb_version_7_holds, look_gdb_version_10 as look_gdb_version_10_holds, gdb8_index_cut_to_4 as gdb8_index_cut_to_4_holds, gdb8_index_cut_to_23 as gdb8_index_cut_to_23_holds, gdb8_index_cut_to_24 as gdb8_index_cut_to_24_holds, gdb8_index_cut_to_40 as gdb8_index_cut_to_40_holds, gdb8_index_cut_to_75 as gdb8_index_cut_to_75_holds, look_gdb9_pool_too_near as look_gdb9_pool_too_near_holds, look_gdb_addresses_before_types as look_gdb_addresses_before_types_holds, look_gdb_cu_list_inside_the_header as look_gdb_cu_list_inside_the_header_holds, look_gdb_pool_before_table as look_gdb_pool_before_table_holds, look_gdb_pool_past_the_section as look_gdb_pool_past_the_section_holds, look_gdb_table_before_addresses as look_gdb_table_before_addresses_holds, look_gdb_types_before_cus as look_gdb_types_before_cus_holds, look_gdb_types_past_the_section as look_gdb_types_past_the_section_holds, look_gdb_version_9_header_cut as look_gdb_version_9_header_cut_holds, look_gdb_cus_before_types as look_gdb_cus_before_types_holds, look_gdb_cus_not_a_multiple_of_16 as look_gdb_cus_not_a_multiple_of_16_holds, look_gdb_types_not_a_multiple_of_24 as look_gdb_types_not_a_multiple_of_24_holds, look_gdb_address_before_table as look_gdb_address_before_table_holds, look_gdb_address_of_no_unit as look_gdb_address_of_no_unit_holds, look_gdb_addresses_not_a_multiple_of_20 as look_gdb_addresses_not_a_multiple_of_20_holds, look_gdb_table_not_a_multiple_of_8 as look_gdb_table_not_a_multiple_of_8_holds, look_gdb_three_slots as look_gdb_three_slots_holds}
+use Rattle.index_vectors.proofs.gdb_area_faults.Goals as goal
+
+pub returns : goal.returns
+returns c = record {
+  gdb8_index_cut_to_0 = gdb8_index_cut_to_0_holds;
+  gdb8_index_cut_to_3 = gdb8_index_cut_to_3_holds;
+  look_gdb_empty_file = look_gdb_empty_file_holds;
+  look_gdb_version_7 = look_gdb_version_7_holds;
+  look_gdb_version_10 = look_gdb_version_10_holds;
+  gdb8_index_cut_to_4 = gdb8_index_cut_to_4_holds;
+  gdb8_index_cut_to_23 = gdb8_index_cut_to_23_holds;
+  gdb8_index_cut_to_24 = gdb8_index_cut_to_24_holds;
+  gdb8_index_cut_to_40 = gdb8_index_cut_to_40_holds;
+  gdb8_index_cut_to_75 = gdb8_index_cut_to_75_holds;
+  look_gdb9_pool_too_near = look_gdb9_pool_too_near_holds;
+  look_gdb_addresses_before_types = look_gdb_addresses_before_types_holds;
+  look_gdb_cu_list_inside_the_header = look_gdb_cu_list_inside_the_header_holds;
+  look_gdb_pool_before_table = look_gdb_pool_before_table_holds;
+  look_gdb_pool_past_the_section = look_gdb_pool_past_the_section_holds;
+  look_gdb_table_before_addresses = look_gdb_table_before_addresses_holds;
+  look_gdb_types_before_cus = look_gdb_types_before_cus_holds;
+  look_gdb_types_past_the_section = look_gdb_types_past_the_section_holds;
+  look_gdb_version_9_header_cut = look_gdb_version_9_header_cut_holds;
+  look_gdb_cus_before_types = look_gdb_cus_before_types_holds;
+  look_gdb_cus_not_a_multiple_of_16 = look_gdb_cus_not_a_multiple_of_16_holds;
+  look_gdb_types_not_a_multiple_of_24 = look_gdb_types_not_a_multiple_of_24_holds;
+  look_gdb_address_before_table = look_gdb_address_before_table_holds;
+  look_gdb_address_of_no_unit = look_gdb_address_of_no_unit_holds;
+  look_gdb_addresses_not_a_multiple_of_20 = look_gdb_addresses_not_a_multiple_of_20_holds;
+  look_gdb_table_not_a_multiple_of_8 = look_gdb_table_not_a_multiple_of_8_holds;
+  look_gdb_three_slots = look_gdb_three_slots_holds;
+}

@@ -1,0 +1,39 @@
+-- Written by tools/gen_vectors.py; not to be changed by hand.
+use Rattle.index_vectors.proofs.GdbLookUpsHold.{look_gdb8_address_inside as look_gdb8_address_inside_holds, look_gdb8_address_past as look_gdb8_address_past_holds, look_gdb8_main as look_gdb8_main_holds, look_gdb8_name as look_gdb8_name_holds, look_gdb8_name_of_other_case as look_gdb8_name_of_other_case_holds, look_gdb9_address_inside as look_gdb9_address_inside_holds, look_gdb9_address_past as look_gdb9_address_past_holds, look_gdb9_main as look_gdb9_main_holds, look_gdb9_name as look_gdb9_name_holds, look_gdb9_name_of_other_case as look_gdb9_name_of_other_case_holds, look_gdb_address_entry_that_ends_before_it_begins as look_gdb_address_entry_that_ends_before_it_begins_holds, look_gdb_bits_24_to_27_are_ignored as look_gdb_bits_24_to_27_are_ignored_holds, look_gdb_gap_after_the_header as look_gdb_gap_after_the_header_holds, look_gdb_kind_0 as look_gdb_kind_0_holds, look_gdb_kind_1 as look_gdb_kind_1_holds, look_gdb_kind_2 as look_gdb_kind_2_holds, look_gdb_kind_4 as look_gdb_kind_4_holds, look_gdb_kind_5 as look_gdb_kind_5_holds, look_gdb_kind_6 as look_gdb_kind_6_holds, look_gdb_kind_7 as look_gdb_kind_7_holds, look_gdb_over_nothing_address as look_gdb_over_nothing_address_holds, look_gdb_over_nothing_main as look_gdb_over_nothing_main_holds, look_gdb_over_nothing_name as look_gdb_over_nothing_name_holds, look_gdb_second_address_entry as look_gdb_second_address_entry_holds, look_gdb_shortcut_area_of_12_bytes as look_gdb_shortcut_area_of_12_bytes_holds, look_gdb_shortcut_of_a_large_language as look_gdb_shortcut_of_a_large_language_holds, look_gdb_shortcut_of_language_0 as look_gdb_shortcut_of_language_0_holds, look_gdb_shortcut_of_language_ffff as look_gdb_shortcut_of_language_ffff_holds, look_gdb_table_of_one_slot_name as look_gdb_table_of_one_slot_name_holds, look_gdb_table_of_one_slot_other_name as look_gdb_table_of_one_slot_other_name_holds, look_gdb_cache_isnt_offered as look_gdb_cache_isnt_offered_holds, look_gdb_simple_isnt_offered as look_gdb_simple_isnt_offered_holds}
+use Rattle.index_vectors.proofs.gdb_look_ups.Goals as goal
+
+pub returns : goal.returns
+returns c = record {
+  look_gdb8_address_inside = look_gdb8_address_inside_holds;
+  look_gdb8_address_past = look_gdb8_address_past_holds;
+  look_gdb8_main = look_gdb8_main_holds;
+  look_gdb8_name = look_gdb8_name_holds;
+  look_gdb8_name_of_other_case = look_gdb8_name_of_other_case_holds;
+  look_gdb9_address_inside = look_gdb9_address_inside_holds;
+  look_gdb9_address_past = look_gdb9_address_past_holds;
+  look_gdb9_main = look_gdb9_main_holds;
+  look_gdb9_name = look_gdb9_name_holds;
+  look_gdb9_name_of_other_case = look_gdb9_name_of_other_case_holds;
+  look_gdb_address_entry_that_ends_before_it_begins = look_gdb_address_entry_that_ends_before_it_begins_holds;
+  look_gdb_bits_24_to_27_are_ignored = look_gdb_bits_24_to_27_are_ignored_holds;
+  look_gdb_gap_after_the_header = look_gdb_gap_after_the_header_holds;
+  look_gdb_kind_0 = look_gdb_kind_0_holds;
+  look_gdb_kind_1 = look_gdb_kind_1_holds;
+  look_gdb_kind_2 = look_gdb_kind_2_holds;
+  look_gdb_kind_4 = look_gdb_kind_4_holds;
+  look_gdb_kind_5 = look_gdb_kind_5_holds;
+  look_gdb_kind_6 = look_gdb_kind_6_holds;
+  look_gdb_kind_7 = look_gdb_kind_7_holds;
+  look_gdb_over_nothing_address = look_gdb_over_nothing_address_holds;
+  look_gdb_over_nothing_main = look_gdb_over_nothing_main_holds;
+  look_gdb_over_nothing_name = look_gdb_over_nothing_name_holds;
+  look_gdb_second_address_entry = look_gdb_second_address_entry_holds;
+  look_gdb_shortcut_area_of_12_bytes = look_gdb_shortcut_area_of_12_bytes_holds;
+  look_gdb_shortcut_of_a_large_language = look_gdb_shortcut_of_a_large_language_holds;
+  look_gdb_shortcut_of_language_0 = look_gdb_shortcut_of_language_0_holds;
+  look_gdb_shortcut_of_language_ffff = look_gdb_shortcut_of_language_ffff_holds;
+  look_gdb_table_of_one_slot_name = look_gdb_table_of_one_slot_name_holds;
+  look_gdb_table_of_one_slot_other_name = look_gdb_table_of_one_slot_other_name_holds;
+  look_gdb_cache_isnt_offered = look_gdb_cache_isnt_offered_holds;
+  look_gdb_simple_isnt_offered = look_gdb_simple_isnt_offered_holds;
+}

@@ -1,0 +1,26 @@
+-- Written by tools/gen_vectors.py; not to be changed by hand.
+use Rattle.index_vectors.proofs.HeaderFaultsHold.{debug_info_cut_to_1 as debug_info_cut_to_1_holds, debug_info_cut_to_4 as debug_info_cut_to_4_holds, debug_info_cut_to_12 as debug_info_cut_to_12_holds, debug_info_cut_to_48 as debug_info_cut_to_48_holds, header_cut_after_2_bytes as header_cut_after_2_bytes_holds, header_cut_after_3_bytes as header_cut_after_3_bytes_holds, header_cut_after_7_bytes as header_cut_after_7_bytes_holds, header_length_0 as header_length_0_holds, header_length_1 as header_length_1_holds, header_length_one_too_many as header_length_one_too_many_holds, header_length_too_short_for_the_unit_type as header_length_too_short_for_the_unit_type_holds, header_long_length_of_64_bits as header_long_length_of_64_bits_holds, header_reserved_length as header_reserved_length_holds, header_of_version_4_cut as header_of_version_4_cut_holds, skeleton_unit_without_an_id as skeleton_unit_without_an_id_holds, type_unit_without_an_offset as type_unit_without_an_offset_holds, second_unit_leaves_the_section as second_unit_leaves_the_section_holds, length_cut_at_the_sections_end as length_cut_at_the_sections_end_holds, header_of_second_unit_before_code_of_first as header_of_second_unit_before_code_of_first_holds}
+use Rattle.index_vectors.proofs.header_faults.Goals as goal
+
+pub returns : goal.returns
+returns c = record {
+  debug_info_cut_to_1 = debug_info_cut_to_1_holds;
+  debug_info_cut_to_4 = debug_info_cut_to_4_holds;
+  debug_info_cut_to_12 = debug_info_cut_to_12_holds;
+  debug_info_cut_to_48 = debug_info_cut_to_48_holds;
+  header_cut_after_2_bytes = header_cut_after_2_bytes_holds;
+  header_cut_after_3_bytes = header_cut_after_3_bytes_holds;
+  header_cut_after_7_bytes = header_cut_after_7_bytes_holds;
+  header_length_0 = header_length_0_holds;
+  header_length_1 = header_length_1_holds;
+  header_length_one_too_many = header_length_one_too_many_holds;
+  header_length_too_short_for_the_unit_type = header_length_too_short_for_the_unit_type_holds;
+  header_long_length_of_64_bits = header_long_length_of_64_bits_holds;
+  header_reserved_length = header_reserved_length_holds;
+  header_of_version_4_cut = header_of_version_4_cut_holds;
+  skeleton_unit_without_an_id = skeleton_unit_without_an_id_holds;
+  type_unit_without_an_offset = type_unit_without_an_offset_holds;
+  second_unit_leaves_the_section = second_unit_leaves_the_section_holds;
+  length_cut_at_the_sections_end = length_cut_at_the_sections_end_holds;
+  header_of_second_unit_before_code_of_first = header_of_second_unit_before_code_of_first_holds;
+}

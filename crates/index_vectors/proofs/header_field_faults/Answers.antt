@@ -1,0 +1,23 @@
+-- Written by tools/gen_vectors.py; not to be changed by hand.
+use Rattle.index_vectors.proofs.HeaderFieldFaultsHold.{header_version_0 as header_version_0_holds, unit_of_version_1 as unit_of_version_1_holds, unit_version_6 as unit_version_6_holds, header_version_6_before_unit_type as header_version_6_before_unit_type_holds, type_unit_version_refused as type_unit_version_refused_holds, header_cut_but_of_version_6 as header_cut_but_of_version_6_holds, header_unit_type_0 as header_unit_type_0_holds, header_unit_type_5 as header_unit_type_5_holds, header_unit_type_before_address_size as header_unit_type_before_address_size_holds, header_cut_but_of_unit_type_7 as header_cut_but_of_unit_type_7_holds, header_address_size_4 as header_address_size_4_holds, header_version_4_address_size_4 as header_version_4_address_size_4_holds, debug_info_byte_04_made_04 as debug_info_byte_04_made_04_holds, debug_info_byte_07_made_0c as debug_info_byte_07_made_0c_holds, second_unit_of_address_size_2 as second_unit_of_address_size_2_holds, header_cut_but_of_address_size_4 as header_cut_but_of_address_size_4_holds}
+use Rattle.index_vectors.proofs.header_field_faults.Goals as goal
+
+pub returns : goal.returns
+returns c = record {
+  header_version_0 = header_version_0_holds;
+  unit_of_version_1 = unit_of_version_1_holds;
+  unit_version_6 = unit_version_6_holds;
+  header_version_6_before_unit_type = header_version_6_before_unit_type_holds;
+  type_unit_version_refused = type_unit_version_refused_holds;
+  header_cut_but_of_version_6 = header_cut_but_of_version_6_holds;
+  header_unit_type_0 = header_unit_type_0_holds;
+  header_unit_type_5 = header_unit_type_5_holds;
+  header_unit_type_before_address_size = header_unit_type_before_address_size_holds;
+  header_cut_but_of_unit_type_7 = header_cut_but_of_unit_type_7_holds;
+  header_address_size_4 = header_address_size_4_holds;
+  header_version_4_address_size_4 = header_version_4_address_size_4_holds;
+  debug_info_byte_04_made_04 = debug_info_byte_04_made_04_holds;
+  debug_info_byte_07_made_0c = debug_info_byte_07_made_0c_holds;
+  second_unit_of_address_size_2 = second_unit_of_address_size_2_holds;
+  header_cut_but_of_address_size_4 = header_cut_but_of_address_size_4_holds;
+}

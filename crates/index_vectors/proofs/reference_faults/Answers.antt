@@ -1,0 +1,19 @@
+-- Written by tools/gen_vectors.py; not to be changed by hand.
+use Rattle.index_vectors.proofs.ReferenceFaultsHold.{near_reference_past_the_unit as near_reference_past_the_unit_holds, specification_inside_an_entry as specification_inside_an_entry_holds, origin_inside_an_entry as origin_inside_an_entry_holds, type_offset_inside_an_entry as type_offset_inside_an_entry_holds, type_offset_past_the_unit as type_offset_past_the_unit_holds, bad_chain_of_a_scope as bad_chain_of_a_scope_holds, declaration_isnt_indexed_but_followed as declaration_isnt_indexed_but_followed_holds, second_fault_of_a_later_unit as second_fault_of_a_later_unit_holds, chain_of_nine_hops as chain_of_nine_hops_holds, chain_that_goes_in_a_circle as chain_that_goes_in_a_circle_holds, specifications_that_name_each_other as specifications_that_name_each_other_holds, scopes_that_go_in_a_circle as scopes_that_go_in_a_circle_holds}
+use Rattle.index_vectors.proofs.reference_faults.Goals as goal
+
+pub returns : goal.returns
+returns c = record {
+  near_reference_past_the_unit = near_reference_past_the_unit_holds;
+  specification_inside_an_entry = specification_inside_an_entry_holds;
+  origin_inside_an_entry = origin_inside_an_entry_holds;
+  type_offset_inside_an_entry = type_offset_inside_an_entry_holds;
+  type_offset_past_the_unit = type_offset_past_the_unit_holds;
+  bad_chain_of_a_scope = bad_chain_of_a_scope_holds;
+  declaration_isnt_indexed_but_followed = declaration_isnt_indexed_but_followed_holds;
+  second_fault_of_a_later_unit = second_fault_of_a_later_unit_holds;
+  chain_of_nine_hops = chain_of_nine_hops_holds;
+  chain_that_goes_in_a_circle = chain_that_goes_in_a_circle_holds;
+  specifications_that_name_each_other = specifications_that_name_each_other_holds;
+  scopes_that_go_in_a_circle = scopes_that_go_in_a_circle_holds;
+}

@@ -1,0 +1,22 @@
+-- Written by tools/gen_vectors.py; not to be changed by hand.
+use Rattle.index_vectors.proofs.ReferencesHold.{chain_of_eight_hops as chain_of_eight_hops_holds, near_reference as near_reference_holds, references_of_version_2_have_8_bytes as references_of_version_2_have_8_bytes_holds, own_name_before_the_chains as own_name_before_the_chains_holds, specification_before_origin as specification_before_origin_holds, specification_in_a_data_form_is_absent as specification_in_a_data_form_is_absent_holds, specification_in_another_unit_1_workers as specification_in_another_unit_1_workers_holds, specification_of_the_root as specification_of_the_root_holds, member_isnt_followed as member_isnt_followed_holds, entry_in_a_subprogram_isnt_followed as entry_in_a_subprogram_isnt_followed_holds, name_by_signature as name_by_signature_holds, name_by_signature_of_the_class as name_by_signature_of_the_class_holds, signature_of_no_unit as signature_of_no_unit_holds, signature_that_isnt_needed as signature_that_isnt_needed_holds, type_unit_without_a_name as type_unit_without_a_name_holds}
+use Rattle.index_vectors.proofs.references.Goals as goal
+
+pub returns : goal.returns
+returns c = record {
+  chain_of_eight_hops = chain_of_eight_hops_holds;
+  near_reference = near_reference_holds;
+  references_of_version_2_have_8_bytes = references_of_version_2_have_8_bytes_holds;
+  own_name_before_the_chains = own_name_before_the_chains_holds;
+  specification_before_origin = specification_before_origin_holds;
+  specification_in_a_data_form_is_absent = specification_in_a_data_form_is_absent_holds;
+  specification_in_another_unit_1_workers = specification_in_another_unit_1_workers_holds;
+  specification_of_the_root = specification_of_the_root_holds;
+  member_isnt_followed = member_isnt_followed_holds;
+  entry_in_a_subprogram_isnt_followed = entry_in_a_subprogram_isnt_followed_holds;
+  name_by_signature = name_by_signature_holds;
+  name_by_signature_of_the_class = name_by_signature_of_the_class_holds;
+  signature_of_no_unit = signature_of_no_unit_holds;
+  signature_that_isnt_needed = signature_that_isnt_needed_holds;
+  type_unit_without_a_name = type_unit_without_a_name_holds;
+}

@@ -1,0 +1,21 @@
+-- Written by tools/gen_vectors.py; not to be changed by hand.
+use Rattle.index_vectors.proofs.SectionTableFaultsHold.{section_header_size_63 as section_header_size_63_holds, section_table_past_the_file as section_table_past_the_file_holds, section_table_far_past_the_file as section_table_far_past_the_file_holds, one_section_too_many as one_section_too_many_holds, names_section_of_no_section as names_section_of_no_section_holds, names_section_past_the_file as names_section_past_the_file_holds, names_section_without_bits as names_section_without_bits_holds, names_section_zero as names_section_zero_holds, names_without_a_last_zero as names_without_a_last_zero_holds, section_past_the_file as section_past_the_file_holds, section_end_past_64_bits as section_end_past_64_bits_holds, section_name_at_the_end_of_the_names as section_name_at_the_end_of_the_names_holds, section_name_past_the_names as section_name_past_the_names_holds, two_sections_past_the_file as two_sections_past_the_file_holds}
+use Rattle.index_vectors.proofs.section_table_faults.Goals as goal
+
+pub returns : goal.returns
+returns c = record {
+  section_header_size_63 = section_header_size_63_holds;
+  section_table_past_the_file = section_table_past_the_file_holds;
+  section_table_far_past_the_file = section_table_far_past_the_file_holds;
+  one_section_too_many = one_section_too_many_holds;
+  names_section_of_no_section = names_section_of_no_section_holds;
+  names_section_past_the_file = names_section_past_the_file_holds;
+  names_section_without_bits = names_section_without_bits_holds;
+  names_section_zero = names_section_zero_holds;
+  names_without_a_last_zero = names_without_a_last_zero_holds;
+  section_past_the_file = section_past_the_file_holds;
+  section_end_past_64_bits = section_end_past_64_bits_holds;
+  section_name_at_the_end_of_the_names = section_name_at_the_end_of_the_names_holds;
+  section_name_past_the_names = section_name_past_the_names_holds;
+  two_sections_past_the_file = two_sections_past_the_file_holds;
+}

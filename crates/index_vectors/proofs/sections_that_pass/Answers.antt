@@ -1,0 +1,15 @@
+-- Written by tools/gen_vectors.py; not to be changed by hand.
+use Rattle.index_vectors.proofs.SectionsThatPassHold.{shared_object as shared_object_holds, names_section_in_section_0 as names_section_in_section_0_holds, number_of_sections_in_section_0 as number_of_sections_in_section_0_holds, section_0_with_a_wild_header as section_0_with_a_wild_header_holds, section_without_bits_past_the_file as section_without_bits_past_the_file_holds, second_debug_info_doesnt_count as second_debug_info_doesnt_count_holds, compressed_text_isnt_debug_information as compressed_text_isnt_debug_information_holds, gnu_link_once_name_counts_as_another as gnu_link_once_name_counts_as_another_holds}
+use Rattle.index_vectors.proofs.sections_that_pass.Goals as goal
+
+pub returns : goal.returns
+returns c = record {
+  shared_object = shared_object_holds;
+  names_section_in_section_0 = names_section_in_section_0_holds;
+  number_of_sections_in_section_0 = number_of_sections_in_section_0_holds;
+  section_0_with_a_wild_header = section_0_with_a_wild_header_holds;
+  section_without_bits_past_the_file = section_without_bits_past_the_file_holds;
+  second_debug_info_doesnt_count = second_debug_info_doesnt_count_holds;
+  compressed_text_isnt_debug_information = compressed_text_isnt_debug_information_holds;
+  gnu_link_once_name_counts_as_another = gnu_link_once_name_counts_as_another_holds;
+}

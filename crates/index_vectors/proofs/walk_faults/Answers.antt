@@ -1,0 +1,27 @@
+-- Written by tools/gen_vectors.py; not to be changed by hand.
+use Rattle.index_vectors.proofs.WalkFaultsHold.{walk_code_cut as walk_code_cut_holds, walk_root_code_cut as walk_root_code_cut_holds, walk_code_too_large as walk_code_too_large_holds, walk_high_cut as walk_high_cut_holds, walk_name_attribute_cut as walk_name_attribute_cut_holds, debug_info_byte_30_made_01 as debug_info_byte_30_made_01_holds, two_damaged_units_the_first_counts as two_damaged_units_the_first_counts_holds, debug_info_byte_08_made_01 as debug_info_byte_08_made_01_holds, debug_info_byte_0c_made_03 as debug_info_byte_0c_made_03_holds, walk_first_token_a_padded_null as walk_first_token_a_padded_null_holds, walk_unknown_code_before_other_root as walk_unknown_code_before_other_root_holds, debug_abbrev_byte_01_made_10 as debug_abbrev_byte_01_made_10_holds, walk_root_of_another_tag as walk_root_of_another_tag_holds, debug_info_byte_0c_made_00 as debug_info_byte_0c_made_00_holds, header_zeros_and_a_one as header_zeros_and_a_one_holds, walk_before_strings as walk_before_strings_holds, walk_byte_after_the_tree as walk_byte_after_the_tree_holds, walk_entry_after_the_tree as walk_entry_after_the_tree_holds, walk_padded_null_and_a_tail as walk_padded_null_and_a_tail_holds, walk_root_without_children_and_a_tail as walk_root_without_children_and_a_tail_holds}
+use Rattle.index_vectors.proofs.walk_faults.Goals as goal
+
+pub returns : goal.returns
+returns c = record {
+  walk_code_cut = walk_code_cut_holds;
+  walk_root_code_cut = walk_root_code_cut_holds;
+  walk_code_too_large = walk_code_too_large_holds;
+  walk_high_cut = walk_high_cut_holds;
+  walk_name_attribute_cut = walk_name_attribute_cut_holds;
+  debug_info_byte_30_made_01 = debug_info_byte_30_made_01_holds;
+  two_damaged_units_the_first_counts = two_damaged_units_the_first_counts_holds;
+  debug_info_byte_08_made_01 = debug_info_byte_08_made_01_holds;
+  debug_info_byte_0c_made_03 = debug_info_byte_0c_made_03_holds;
+  walk_first_token_a_padded_null = walk_first_token_a_padded_null_holds;
+  walk_unknown_code_before_other_root = walk_unknown_code_before_other_root_holds;
+  debug_abbrev_byte_01_made_10 = debug_abbrev_byte_01_made_10_holds;
+  walk_root_of_another_tag = walk_root_of_another_tag_holds;
+  debug_info_byte_0c_made_00 = debug_info_byte_0c_made_00_holds;
+  header_zeros_and_a_one = header_zeros_and_a_one_holds;
+  walk_before_strings = walk_before_strings_holds;
+  walk_byte_after_the_tree = walk_byte_after_the_tree_holds;
+  walk_entry_after_the_tree = walk_entry_after_the_tree_holds;
+  walk_padded_null_and_a_tail = walk_padded_null_and_a_tail_holds;
+  walk_root_without_children_and_a_tail = walk_root_without_children_and_a_tail_holds;
+}

@@ -1,0 +1,62 @@
+-- What a row says, in the words of the definitions.
+use Rattle.std.specs.Prelude.{◌≡◌, ℕ, List, Some, None, Result, Ok}
+use Rattle.ix_base.specs.declared.fault.Fault.{Fault}
+use Rattle.index_model.specs.declared.answer.CacheSize.TheVariants.{TooLarge}
+use Rattle.index_model.specs.declared.job.CacheKind.{CacheKind}
+use Rattle.index_model.specs.declared.job.CacheKind.TheVariants.{Gdb8, Gdb9, Names}
+use Rattle.index_model.specs.Meaning.{◌>>=◌}
+use Rattle.index_model.specs.Faults.{built_of}
+use Rattle.index_model.specs.Cache.{Cache, GdbBytes, NameBytes, cache_in, size_in}
+use Rattle.index_model.specs.Texts.{text_of_line}
+use Rattle.index_model.specs.Transcripts.{lines_of, transcript_of}
+use Rattle.index_vectors.specs.LookTexts.{written_of_gdb, written_of_names}
+
+-- ---- questions about a file
+
+-- Asked this line about the file, the program ends with the status and writes the text. The length of an index isn't asked, so it is left out.
+abbrev pub Prints : List ℕ → List ℕ → ℕ → List ℕ → Type 0
+Prints file line status text = text_of_line file TooLarge line ≡ Some (status, text)
+
+-- the same, where the length of the index is asked, which has version 8
+abbrev pub PrintsLength : List ℕ → List ℕ → ℕ → List ℕ → Type 0
+PrintsLength file line status text = text_of_line file (size_in Gdb8 (built_of file)) line ≡ Some (status, text)
+
+-- the line asks nothing
+abbrev pub IsBadQuery : List ℕ → List ℕ → Type 0
+IsBadQuery file line = text_of_line file TooLarge line ≡ None
+
+-- A session on this input, whose look-ups are at these stages, writes the text. The index has version 8.
+abbrev pub Serves : List ℕ → List ℕ → List ℕ → List ℕ → Type 0
+Serves file input stages text = transcript_of (built_of file) (size_in Gdb8 (built_of file)) (lines_of input) stages ≡ text
+
+-- ---- the index of a file
+
+-- the index of this kind, or the file's first fault
+abbrev pub index_of : CacheKind → List ℕ → Result Cache Fault
+index_of kind file = built_of file >>= λ b. Ok (cache_in kind b)
+
+-- the bytes of the `.gdb_index` of version 8
+abbrev pub WritesGdb8 : List ℕ → List ℕ → Type 0
+WritesGdb8 file bytes = index_of Gdb8 file ≡ Ok (GdbBytes bytes)
+
+-- the bytes of the `.gdb_index` of version 9
+abbrev pub WritesGdb9 : List ℕ → List ℕ → Type 0
+WritesGdb9 file bytes = index_of Gdb9 file ≡ Ok (GdbBytes bytes)
+
+-- the bytes of the `.debug_names`, and the strings that it adds to `.debug_str`
+abbrev pub WritesNames : List ℕ → List ℕ → List ℕ → Type 0
+WritesNames file bytes strings = index_of Names file ≡ Ok (NameBytes bytes strings)
+
+-- ---- questions about an index
+
+-- looked up with this line in a `.gdb_index`, it ends with the status and writes the text
+abbrev pub GdbPrints : List ℕ → List ℕ → ℕ → List ℕ → Type 0
+GdbPrints index line status text = written_of_gdb index line ≡ Some (status, text)
+
+-- a `.gdb_index` doesn't offer this
+abbrev pub GdbOffersNot : List ℕ → List ℕ → Type 0
+GdbOffersNot index line = written_of_gdb index line ≡ None
+
+-- looked up in a `.debug_names`, where of `.debug_str` these bytes from base on are known
+abbrev pub NamesPrint : List ℕ → List ℕ → ℕ → List ℕ → ℕ → List ℕ → Type 0
+NamesPrint index strings base line status text = written_of_names index strings base line ≡ Some (status, text)
