@@ -1,0 +1,4 @@
+pub mod CountLaws
+pub mod FileLaws
+mod ShelfLaws
+pub mod WrittenLaws

@@ -1,0 +1,5 @@
+pub mod Counts
+pub mod Files
+pub mod MemShelves
+pub mod MemSinks
+pub mod Written
