@@ -1,0 +1,5 @@
+pub mod Tables
+pub mod Named
+pub mod Fronts
+pub mod CompressedLaws
+pub mod Opened
