@@ -1,0 +1,5 @@
+pub mod UnitLaws
+pub mod Loops
+pub mod InsideLaws
+pub mod Both
+pub mod Images
