@@ -1,0 +1,94 @@
+//! An entry of a unit.
+
+ghost use Rattle.std.specs.Prelude.{◌≡◌, ◌≤◌, ◌<◌, ◌^◌};
+
+use crate::attributes::Attributes;
+use form_reader::Value;
+use std::marker::Model;
+
+/// A debugging information entry. Its attributes stay in the unit's bytes, and are read where they are asked for.
+/// Contracts see it as the entry of the definitions.
+#[derive(Drop)]
+pub struct Item<'a> {
+    pub(crate) at: u64,
+    pub(crate) after: u64,
+    pub(crate) depth: u32,
+    pub(crate) children: bool,
+    pub(crate) tag: u64,
+    pub(crate) values: Attributes<'a>,
+}
+
+impl<'a> Model for Item<'a> {
+    ghost use Rattle.index_model.specs.Walk.{Item as Entry};
+
+    ghost Value = { Entry };
+
+    ghost use Rattle.std.specs.Prelude.{◌≤◌, ◌<◌, ◌^◌};
+
+    ghost view = { λ d. record { at = d.at; after = d.after; depth = d.depth; children = d.children; tag = d.tag; values = d.values } };
+
+    ghost invariant = { λ d. (d.depth ≤ 1024) × (d.at < 2 ^ 63) × (d.after < 2 ^ 63) };
+}
+
+impl<'a> Item<'a> {
+    ghost use Rattle.std.specs.Prelude.{option_map};
+    ghost use Rattle.index_model.specs.Attributes.{attribute as attribute_of};
+    ghost use Rattle.form_reader.specs.Seen.{seen};
+
+    /// Its joint offset.
+    pub fn offset(&self) -> u64
+        ensures value { result ≡ self.now.at }
+        ensures within { result < 2 ^ 63 }
+    {
+        self.at
+    }
+
+    /// The joint offset of the first byte behind it.
+    pub fn after(&self) -> u64
+        ensures value { result ≡ self.now.after }
+        ensures within { result < 2 ^ 63 }
+    {
+        self.after
+    }
+
+    /// Its depth, at most 1,024. The root has depth 0.
+    pub fn depth(&self) -> u32
+        ensures value { result ≡ self.now.depth }
+        ensures within { result ≤ 1024 }
+    {
+        self.depth
+    }
+
+    /// Its tag (DWARF 5, section 7.5.3, table 7.3).
+    pub fn tag(&self) -> u64
+        ensures { result ≡ self.now.tag }
+    {
+        self.tag
+    }
+
+    /// Whether its abbreviation says that it has children.
+    pub fn children(&self) -> bool
+        ensures { result ≡ self.now.children }
+    {
+        self.children
+    }
+
+    /// The value of its first attribute with this number. None where it has none.
+    pub fn value(&self, attribute: u64) -> Option<Value<'a>>
+        ensures { option_map seen result ≡ attribute_of attribute self.now }
+    {
+        for (number, value) in self.attributes() {
+            if number == attribute {
+                return Some(value);
+            }
+        }
+        None
+    }
+
+    /// Its attributes in order, for a caller that reads more than one: they are read in one pass.
+    pub fn attributes(&self) -> Attributes<'a>
+        ensures { result ≡ self.now.values }
+    {
+        self.values.again()
+    }
+}

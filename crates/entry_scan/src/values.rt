@@ -1,0 +1,69 @@
+//! The values of an entry's attributes, by the specs that its abbreviation lists.
+
+ghost use Rattle.std.specs.Prelude.{◌≡◌};
+ghost use Rattle.ix_base.specs.Moves.{MovesOn};
+ghost use Rattle.index_model.specs.Forms.{value_at};
+ghost use Rattle.index_model.specs.Gives.{GivesAlways};
+ghost use Rattle.form_reader.specs.Seen.{seen};
+ghost use Rattle.entry_scan.specs.Values.{values_at, place_read};
+
+use crate::sizes::size_of;
+use abbrev_table::Spec;
+use form_reader::{Value, read_value};
+use ix_base::Cursor;
+use ix_base::code::TRUNCATED;
+
+/// How the numbers of a unit's entries are written.
+#[derive(Clone, Copy, Debug, PartialEq, Eq)]
+pub(crate) struct Format {
+    pub version: u16,
+    pub wide: bool,
+}
+
+// The value at the cursor, by its spec.
+pub(crate) fn read<'a>(
+    spec: &Spec,
+    format: Format,
+    cursor: &mut Cursor<'a>,
+) -> Result<Value<'a>, u8>
+    ensures value { GivesAlways (λ v. (seen v, cursor.new)) result (value_at format.version format.wide spec.now.form spec.now.constant cursor.old) }
+    ensures place { MovesOn cursor.old cursor.new }
+{
+    read_value(
+        format.wide,
+        format.version,
+        spec.form,
+        spec.constant,
+        cursor,
+    )
+}
+
+// Passes the value at the cursor, by its spec. Where its size is known it isn't read.
+fn pass_one(spec: &Spec, format: Format, cursor: &mut Cursor<'_>) -> Result<(), u8>
+    ensures value { GivesAlways (λ _. cursor.new) result (place_read (value_at format.version format.wide spec.now.form spec.now.constant cursor.old)) }
+    ensures place { MovesOn cursor.old cursor.new }
+{
+    match size_of(spec.form, format) {
+        Some(size) => match cursor.skip(size) {
+            Some(_) => Ok(()),
+            None => Err(TRUNCATED),
+        },
+        None => match read(spec, format, cursor) {
+            Ok(_) => Ok(()),
+            Err(code) => Err(code),
+        },
+    }
+}
+
+// Passes the values at the cursor. The error is that of the first value that can't be read.
+pub(crate) fn pass(specs: &[Spec], format: Format, cursor: &mut Cursor<'_>) -> Result<(), u8>
+    ensures value { GivesAlways (λ _. cursor.new) result (place_read (values_at format specs.now cursor.old)) }
+    ensures place { MovesOn cursor.old cursor.new }
+{
+    for spec in specs {
+        if let Err(code) = pass_one(spec, format, cursor) {
+            return Err(code);
+        }
+    }
+    Ok(())
+}
