@@ -1,0 +1,107 @@
+//! Which entries are visited, indexed and static.
+
+ghost use Rattle.std.specs.Prelude.{◌≡◌};
+ghost use Rattle.index_model.specs.Rules.{is_visited_under, is_indexed, is_static, opens, row_allows, row_of};
+
+use crate::tag::{
+    BASE_TYPE, CLASS_TYPE, CONSTANT, ENUMERATION_TYPE, ENUMERATOR, INTERFACE_TYPE, NAMESPACE,
+    STRUCTURE_TYPE, SUBPROGRAM, SUBRANGE_TYPE, TYPEDEF, UNION_TYPE, VARIABLE, in_table,
+};
+use index_model::{Class, Facts, Parent};
+
+/// Whether an entry with such a parent is visited. The children of the root are, and those of a visited namespace, class,
+/// structure, union, interface or enumeration. In an Ada unit those of a visited subprogram are too.
+pub fn visited(parent: Parent, ada: bool) -> bool
+    ensures { result ≡ is_visited_under parent ada }
+{
+    match parent {
+        Parent::Root => true,
+        Parent::Other => false,
+        Parent::Seen(tag) => opens(tag, ada),
+    }
+}
+
+// Whether the children of a visited entry are visited.
+fn opens(tag: u64, ada: bool) -> bool
+    ensures { result ≡ opens ada tag }
+{
+    match tag {
+        NAMESPACE | CLASS_TYPE | STRUCTURE_TYPE | UNION_TYPE | INTERFACE_TYPE | ENUMERATION_TYPE =>
+            true,
+        SUBPROGRAM => ada,
+        _ => false,
+    }
+}
+
+/// Whether an entry is indexed: it is visited, isn't a declaration itself, has a name, and has itself what its tag asks
+/// for. A subprogram needs an address; a variable and a constant need a value.
+pub fn indexed(facts: &Facts) -> bool
+    ensures { result ≡ is_indexed facts.now }
+{
+    facts.visited && !facts.declaration && facts.named && has_what_its_tag_asks(facts)
+}
+
+// Whether the entry has a tag of the table, and what that tag asks for.
+fn has_what_its_tag_asks(facts: &Facts) -> bool
+    ensures { result ≡ row_allows facts.now (row_of facts.now.tag) }
+{
+    match facts.tag {
+        SUBPROGRAM => facts.address,
+        VARIABLE | CONSTANT => facts.value,
+        tag => in_table(tag),
+    }
+}
+
+/// Whether the name of an entry is static: it counts in its own unit alone (GDB manual, "Index Section Format").
+pub fn is_static(facts: &Facts) -> bool
+    ensures { result ≡ is_static facts.now }
+{
+    match facts.tag {
+        CLASS_TYPE | STRUCTURE_TYPE | UNION_TYPE | INTERFACE_TYPE | ENUMERATION_TYPE | ENUMERATOR =>
+            facts.class != Class::Cxx,
+        TYPEDEF | BASE_TYPE | SUBRANGE_TYPE => true,
+        SUBPROGRAM => !facts.external && facts.class != Class::Ada,
+        VARIABLE | CONSTANT => !facts.external,
+        _ => false,
+    }
+}
+
+#[cfg(test)]
+mod tests {
+    use super::*;
+
+    #[test]
+    fn visits_what_a_namespace_holds(rt: HostRuntime) {
+        assert!(rt; visited(Parent::Root, false));
+        assert!(rt; visited(Parent::Seen(0x39), false));
+        assert!(rt; !visited(Parent::Seen(0x2e), false));
+        assert!(rt; visited(Parent::Seen(0x2e), true));
+        assert!(rt; !visited(Parent::Other, true));
+    }
+
+    // gdb lists the function `main` of a C unit, and marks `helper`, which isn't external, as static.
+    #[test]
+    fn lists_a_function_with_an_address(rt: HostRuntime) {
+        let main = Facts {
+            tag: 0x2e,
+            class: Class::C,
+            visited: true,
+            named: true,
+            declaration: false,
+            external: true,
+            address: true,
+            value: false,
+        };
+        let helper = Facts {
+            external: false,
+            ..main
+        };
+        let declared = Facts {
+            declaration: true,
+            ..main
+        };
+        assert!(rt; indexed(&main) && !is_static(&main));
+        assert!(rt; indexed(&helper) && is_static(&helper));
+        assert!(rt; !indexed(&declared));
+    }
+}
