@@ -1,0 +1,4 @@
+mod Digits
+mod FileReads
+mod Joined
+mod Said

@@ -1,0 +1,6 @@
+pub mod Numbers
+pub mod Words
+pub mod SeenWords
+pub mod FilesRead
+pub mod Statuses
+pub mod Replies

@@ -1,0 +1,23 @@
+-- The words and commands of the code as those of the grammar.
+use Rattle.std.specs.Prelude.{ℕ, List, map, String}
+use Rattle.std.specs.String.{string_bytes}
+use Rattle.index_cmd.specs.declared.words.Command.{Command}
+use Rattle.index_cmd.specs.declared.words.Command.TheVariants as code
+use Rattle.index_cmd.specs.declared.words.Ask.{Ask}
+use Rattle.index_cmd.specs.declared.words.Split.{Split}
+use Rattle.index_cmd.specs.Words as grammar
+
+-- the bytes of each word
+abbrev pub words_of : {Z : Type 0} → List (String Z) → List (List ℕ)
+words_of words = map string_bytes words
+
+abbrev pub seen_split : Split → grammar.Workers
+seen_split s = record { workers = s.workers; others = words_of s.others.now }
+
+abbrev pub seen_ask : Ask → grammar.Asked
+seen_ask a = record { workers = a.workers; file = a.file.now; query = words_of a.query.now }
+
+abbrev pub seen_command : Command → grammar.Wanted
+seen_command code.Help = grammar.Help
+seen_command code.Version = grammar.Version
+seen_command (code.Ask a) = grammar.Ask (seen_ask a)

@@ -1,0 +1,40 @@
+//! How a command ended.
+
+ghost use Rattle.std.specs.Prelude.{◌≡◌};
+ghost use Rattle.index_cmd.specs.Statuses.{status_code};
+
+/// How a command ended. Its number is the status of the program.
+#[derive(Clone, Copy, Debug, PartialEq, Eq)]
+pub(crate) enum Status {
+    /// The answer was written.
+    Answered,
+    /// The file has a fault.
+    Refused,
+    /// The words aren't in the grammar.
+    Usage,
+    /// A read of the shelf failed.
+    ReadFault,
+    /// A write to the sink failed.
+    WriteFault,
+    /// Memory was refused.
+    NoMemory,
+    /// A file is longer than its limit.
+    FileTooBig,
+}
+
+impl Status {
+    /// The number.
+    pub(crate) fn code(self) -> u8
+        ensures { result ≡ status_code self }
+    {
+        match self {
+            Status::Answered => 0,
+            Status::Refused => 1,
+            Status::Usage => 2,
+            Status::ReadFault => 3,
+            Status::WriteFault => 5,
+            Status::NoMemory => 7,
+            Status::FileTooBig => 10,
+        }
+    }
+}
