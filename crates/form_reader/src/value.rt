@@ -2,10 +2,10 @@
 
 ghost use Rattle.std.specs.Prelude.{◌≡◌, ◌≢◌};
 ghost use Rattle.ix_base.specs.Moves.{MovesOn};
-ghost use Rattle.ix_base.specs.Reading.{number, offset, uleb, sleb, bytes};
+ghost use Rattle.ix_base.specs.Reading.{number, offset, uleb, sleb, bytes, skip};
 ghost use Rattle.index_model.specs.Meaning.{some_or};
 ghost use Rattle.index_model.specs.Gives.{GivesAlways};
-ghost use Rattle.index_model.specs.Forms.{by, Signed, reader_of, plain_forms, indirect, value_at};
+ghost use Rattle.index_model.specs.Forms.{by, Signed, Wide, reader_of, plain_forms, indirect, value_at};
 ghost use Rattle.form_reader.specs.Seen.{seen};
 
 use crate::form;
@@ -115,6 +115,15 @@ fn block<'a>(count: u64, cursor: &mut Cursor<'a>) -> Result<&'a [u8], u8>
     Ok(cursor.bytes(count).ok_or(TRUNCATED)?)
 }
 
+// The value of form data16, which isn't kept.
+fn sixteen<'a>(cursor: &mut Cursor<'a>) -> Result<Value<'a>, u8>
+    ensures value { GivesAlways (λ v. (seen v, cursor.new)) result (by (skip 16) (λ _. Wide) cursor.old) }
+    ensures place { MovesOn cursor.old cursor.new }
+{
+    cursor.skip(16).ok_or(TRUNCATED)?;
+    Ok(Value::Wide)
+}
+
 // The value of form sdata.
 fn signed<'a>(cursor: &mut Cursor<'a>) -> Result<Value<'a>, u8>
     ensures value { GivesAlways (λ v. (seen v, cursor.new)) result (by sleb Signed cursor.old) }
@@ -149,10 +158,7 @@ fn plain<'a>(wide: bool, version: u16, form: u64, cursor: &mut Cursor<'a>) -> Re
         form::DATA8 => Ok(Value::Unsigned(eight(cursor)?)),
         form::REF8 => Ok(Value::Near(eight(cursor)?)),
         form::REF_SIG8 => Ok(Value::Signature(eight(cursor)?)),
-        form::DATA16 => {
-            cursor.skip(16).ok_or(TRUNCATED)?;
-            Ok(Value::Wide)
-        }
+        form::DATA16 => sixteen(cursor),
         form::STRP => Ok(Value::Str(offset_of(wide, cursor)?)),
         form::REF_ADDR => Ok(Value::Far(offset_of(wide || version == 2, cursor)?)),
         form::SEC_OFFSET => Ok(Value::Offset(offset_of(wide, cursor)?)),
