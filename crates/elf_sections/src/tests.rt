@@ -1,5 +1,11 @@
+mod rows;
+
+ghost use Rattle.std.specs.Prelude.{◌≤◌, length};
+ghost use Rattle.ix_base.specs.declared.limits.TheConstants.{MAX_FILE_BYTES};
+
 use crate::Sections;
 use ix_base::{MAX_FILE_BYTES, Stop};
+use rows::{CHANGED, PLAIN, SOUND, WHOLE};
 use std::alloc::{AllocError, Global};
 use std::test::Fail;
 
@@ -72,6 +78,47 @@ fn names_the_first_fault(rt: HostRuntime) -> Result<(), Fail> {
             _ => (0, 0),
         };
         assert_eq!(rt; fault, (code, place), "byte {at}");
+    }
+    Ok(())
+}
+
+// What is wrong with a file.
+fn first_fault(alloc: Global, file: &[u8]) -> Result<(u8, u64), Fail>
+    requires { length file.now ≤ MAX_FILE_BYTES }
+{
+    match Sections::open(alloc, file) {
+        Ok(_) => Ok(SOUND),
+        Err(Stop::Fault(fault)) => Ok((fault.code, fault.at)),
+        Err(Stop::Memory) => Ok((u8::MAX, 0)),
+    }
+}
+
+// `PLAIN` with other bytes at some places.
+fn changed(alloc: Global, edits: &[(usize, u8)]) -> Result<Vec<u8>, AllocError> {
+    let mut file = Vec::from_slice(alloc, &PLAIN)?;
+    for (at, byte) in edits {
+        if let Some(place) = file.get_mut(*at) {
+            *place = *byte;
+        }
+    }
+    Ok(file)
+}
+
+#[test]
+fn first_faults_of_changed_files(rt: HostRuntime) -> Result<(), Fail> {
+    for (name, edits, want) in CHANGED {
+        let file = changed(rt.alloc(), edits)?;
+        assert!(rt; file.len() as u64 <= MAX_FILE_BYTES);
+        assert_eq!(rt; first_fault(rt.alloc(), &file)?, want, "{name}");
+    }
+    Ok(())
+}
+
+#[test]
+fn first_faults_of_whole_files(rt: HostRuntime) -> Result<(), Fail> {
+    for (name, file, want) in WHOLE {
+        assert!(rt; file.len() as u64 <= MAX_FILE_BYTES);
+        assert_eq!(rt; first_fault(rt.alloc(), file)?, want, "{name}");
     }
     Ok(())
 }

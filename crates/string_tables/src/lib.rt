@@ -85,6 +85,51 @@ mod tests {
         Ok(())
     }
 
+    // In the 64-bit format an entry of the table has eight bytes: both offsets together name a place far behind the
+    // strings, and there is no second entry.
+    #[test]
+    fn offsets_of_eight_bytes(rt: HostRuntime) -> Result<(), Stop> {
+        let file = file_of_strings(rt.alloc())?;
+        assert!(rt; file.len() <= 1_073_741_824);
+        let sections = Sections::open(rt.alloc(), &file)?;
+        for (index, base, want) in [
+            (0u64, Some(8u64), Err(13u8)),
+            (1, Some(8), Err(13)),
+            (0, Some(9), Err(13)),
+            (0, None, Err(14)),
+        ] {
+            let got = text(&sections, base, true, &Value::StrIndex(index));
+            assert_eq!(rt; got, want, "index {index}");
+        }
+        Ok(())
+    }
+
+    // A file in which `.debug_info` alone has bytes.
+    #[test]
+    fn texts_without_their_sections(rt: HostRuntime) -> Result<(), Stop> {
+        let mut file = file_of_strings(rt.alloc())?;
+        // the sizes of sections 2, 3 and 4
+        for at in [200usize + 2 * 64 + 32, 200 + 3 * 64 + 32, 200 + 4 * 64 + 32] {
+            if let Some(size) = file.get_mut(at) {
+                *size = 0;
+            }
+        }
+        assert!(rt; file.len() <= 1_073_741_824);
+        let sections = Sections::open(rt.alloc(), &file)?;
+        let rows: [(Value<'_>, Option<u64>, Result<Option<&[u8]>, u8>); 6] = [
+            (Value::Inline(b"main"), None, Ok(Some(b"main"))),
+            (Value::Str(0), None, Err(13)),
+            (Value::LineStr(0), None, Err(13)),
+            (Value::StrIndex(0), Some(0), Err(13)),
+            (Value::StrIndex(0), None, Err(14)),
+            (Value::Flag(true), None, Ok(None)),
+        ];
+        for (index, (value, base, want)) in rows.iter().enumerate() {
+            assert_eq!(rt; text(&sections, *base, false, value), *want, "row {index}");
+        }
+        Ok(())
+    }
+
     // The file has a long text behind its section headers.
     #[test]
     fn a_string_has_at_most_a_mebibyte(rt: HostRuntime) -> Result<(), Stop> {

@@ -1,6 +1,9 @@
+mod rows;
+
 use crate::Image;
 use index_model::{Part, Unit, UnitSort};
 use ix_base::{MAX_FILE_BYTES, Stop};
+use rows::{FAULTS, UNITS};
 use std::alloc::{AllocError, Global};
 use std::test::Fail;
 
@@ -128,6 +131,34 @@ fn names_the_first_fault(rt: HostRuntime) -> Result<(), Fail> {
             _ => (0, 0),
         };
         assert_eq!(rt; fault, (code, place));
+    }
+    Ok(())
+}
+
+#[test]
+fn first_faults_of_headers(rt: HostRuntime) -> Result<(), Fail> {
+    for (name, info, types, want) in FAULTS {
+        let file = file(rt.alloc(), info, types)?;
+        assert!(rt; file.len() as u64 <= MAX_FILE_BYTES);
+        let fault = match Image::open(rt.alloc(), &file) {
+            Err(Stop::Fault(fault)) => (fault.code, fault.at),
+            _ => (0, 0),
+        };
+        assert_eq!(rt; fault, want, "{name}");
+    }
+    Ok(())
+}
+
+#[test]
+fn units_of_one_header(rt: HostRuntime) -> Result<(), Fail> {
+    for (name, info, want) in UNITS {
+        let file = file(rt.alloc(), info, b"")?;
+        assert!(rt; file.len() as u64 <= MAX_FILE_BYTES);
+        let image = Image::open(rt.alloc(), &file)?;
+        assert!(rt; image.units().len() == 1, "{name}");
+        let unit = image.units()[0];
+        let got = (unit.length, unit.version, unit.wide, unit.sort, unit.body);
+        assert_eq!(rt; got, want, "{name}");
     }
     Ok(())
 }

@@ -1,8 +1,13 @@
+mod rows;
+
 ghost use Rattle.std.specs.Prelude.{◌≡◌, ◌≤◌, ◌<◌, length};
 
 use super::*;
+use abbrev_table::BadAbbrev;
 use form_reader::Value;
 use index_model::{Part, UnitSort};
+use rows::{FORM_FAULTS, FORMS, WALK_FAULTS, WALKS};
+use std::alloc::Global;
 
 // The abbreviations of a C program: code 1 a compile unit with children, code 2 a subprogram without.
 const ABBREVS: &[u8; 27] =
@@ -136,4 +141,86 @@ fn stops_at_the_first_fault(rt: HostRuntime) {
         ),
         Ok(1)
     );
+}
+
+// The first fault of a unit that begins at a joint offset; (0, 0) for none.
+fn fault_of(alloc: Global, table: &[u8], start: u64, bytes: &[u8]) -> Result<(u8, u64), BadAbbrev>
+    requires header { 12 ≤ length bytes.now }
+    requires short { length bytes.now < 1000 }
+    requires start { start < 1000 }
+{
+    let abbrevs = Abbrevs::read(alloc, table, 0)?;
+    let unit = Unit {
+        start,
+        ..unit_of_12(bytes.len() as u64)
+    };
+    let mut walk = Walk::new(bytes, &unit, &abbrevs);
+    for _ in 0..1000 {
+        match walk.next() {
+            Ok(Some(_)) => {}
+            Ok(None) => return Ok((0, 0)),
+            Err(fault) => return Ok((fault.code, fault.at)),
+        }
+    }
+    Ok((0, 0))
+}
+
+#[test]
+fn faults_of_units(rt: HostRuntime) -> Result<(), BadAbbrev> {
+    for (name, table, start, bytes, want) in WALK_FAULTS {
+        assert!(rt; bytes.len() >= 12 && bytes.len() < 1000 && start < 1000);
+        let got = fault_of(rt.alloc(), table, start, bytes)?;
+        assert_eq!(rt; got, want, "{name}");
+    }
+    Ok(())
+}
+
+#[test]
+fn faults_of_values(rt: HostRuntime) -> Result<(), BadAbbrev> {
+    for (name, table, start, bytes, want) in FORM_FAULTS {
+        assert!(rt; bytes.len() >= 12 && bytes.len() < 1000 && start < 1000);
+        let got = fault_of(rt.alloc(), table, start, bytes)?;
+        assert_eq!(rt; got, want, "{name}");
+    }
+    Ok(())
+}
+
+// Whether the entries of a unit are these: depth, offset and tag of each.
+fn has_entries(
+    alloc: Global,
+    table: &[u8],
+    bytes: &[u8],
+    want: &[(u32, u64, u64)],
+) -> Result<bool, BadAbbrev>
+    requires header { 12 ≤ length bytes.now }
+    requires short { length bytes.now < 1000 }
+{
+    let abbrevs = Abbrevs::read(alloc, table, 0)?;
+    let unit = unit_of_12(bytes.len() as u64);
+    let mut walk = Walk::new(bytes, &unit, &abbrevs);
+    for entry in want {
+        match walk.next() {
+            Ok(Some(item)) if (item.depth(), item.offset(), item.tag()) == *entry => {}
+            _ => return Ok(false),
+        }
+    }
+    Ok(matches!(walk.next(), Ok(None)))
+}
+
+#[test]
+fn entries_of_units(rt: HostRuntime) -> Result<(), BadAbbrev> {
+    for (name, table, bytes, want) in WALKS {
+        assert!(rt; bytes.len() >= 12 && bytes.len() < 1000);
+        assert!(rt; has_entries(rt.alloc(), table, bytes, want)?, "{name}");
+    }
+    Ok(())
+}
+
+#[test]
+fn entries_with_values_of_each_form(rt: HostRuntime) -> Result<(), BadAbbrev> {
+    for (name, table, bytes, want) in FORMS {
+        assert!(rt; bytes.len() >= 12 && bytes.len() < 1000);
+        assert!(rt; has_entries(rt.alloc(), table, bytes, want)?, "{name}");
+    }
+    Ok(())
 }
