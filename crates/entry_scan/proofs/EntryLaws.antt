@@ -1,6 +1,6 @@
 -- An entry and a null, by what was read of them.
 use Rattle.std.proofs.Common.{◌≡◌, ℕ, ◌<◌, ◌≤◌, Bool, true, false, cond, leb, eqb, ◌&&◌, ◌||◌, List, [], ◌∷◌, length, map, Option, Some, None, Result, Ok, Err, refl, ap, sym, ◌∙◌, arith}
-use Rattle.std.proofs.lemmas.Bool.{le-leb, lt-leb}
+use Rattle.std.proofs.lemmas.Bool.{le-leb, lt-leb, leb-true, true≢false}
 use Rattle.ix_base.specs.declared.code.TheConstants.{TRUNCATED, BAD_CODE, BAD_ROOT, DEPTH}
 use Rattle.ix_base.specs.Reading.{Input, uleb}
 use Rattle.index_model.specs.declared.unit.Unit.{Unit as UnitHeader}
@@ -8,7 +8,7 @@ use Rattle.index_model.specs.Meaning.{◌>>=◌, ◌>>◌, holds_or, some_or, at
 use Rattle.index_model.specs.Tags.{is_root_tag}
 use Rattle.index_model.specs.Abbreviations.{Abbrev, Spec, abbrev_of}
 use Rattle.index_model.specs.Forms.{Value, value_at}
-use Rattle.index_model.specs.Walk.{Token, Null, Entry, Levels, is_null, values, entry_at, token_at, token_or_fault}
+use Rattle.index_model.specs.Walk.{Item, Token, Null, Entry, Levels, is_null, values, entry_at, token_at, token_or_fault}
 use Rattle.abbrev_table.specs.declared.parts.Spec.{Spec as ReadSpec}
 use Rattle.abbrev_table.specs.declared.table.Abbrev.{Abbrev as ReadAbbrev}
 use Rattle.abbrev_table.specs.Seen.{spec_seen, abbrev_seen}
@@ -183,3 +183,32 @@ module _ (u : UnitHeader) (table : List Abbrev) where
 
   pub null_below_root : (open_ : Levels) (i : Input) (t : Token × Input) → token_or_fault u table open_ i ≡ Ok t → is_null t.0 ≡ true → open_.root ≡ true
   null_below_root open_ i t e = (token_facts open_ i t (placed_ok i.at (token_at u table open_ i) t e)).1
+
+  -- an entry isn't deeper than the limit
+  tested : (b : Bool) (code : ℕ) (r : Read) (t : Token × Input) → (holds_or b code >> r) ≡ Ok t → b ≡ true
+  tested true code r t e = refl
+  tested false code r t e = absurd cc
+
+  abbrev depth_of : Token → ℕ
+  depth_of (Null depth after) = depth
+  depth_of (Entry d) = d.depth
+
+  shallow_made : (open_ : Levels) (at : ℕ) (a : Abbrev) (i : Input) (t : Token × Input) → entry_at u table open_ at a i ≡ Ok t → depth_of t.0 ≤ 1024
+  unfolding entry_at
+  shallow_made open_ at a i t e =
+      let h = entry_made open_ at a i t e in
+      let b = tested (leb open_.depth 1024) DEPTH (holds_or (open_.root || is_root_tag a.tag) BAD_ROOT >> (values u table a.specs i >>= λ vs. Ok (made open_ at a vs))) t e in
+      let n = leb-true open_.depth 1024 b in
+      omega (arith, n, ap (λ (q : Token × Input). depth_of q.0) h.2)
+
+  pub shallow_token : (open_ : Levels) (i : Input) (d : Item) (next : Input) → token_or_fault u table open_ i ≡ Ok (Entry d, next) → d.depth ≤ 1024
+  unfolding token_at
+  shallow_token open_ i d next e =
+      let t : Token × Input = (Entry d, next) in
+      let is = placed_ok i.at (token_at u table open_ i) t e in
+      let c = bind_ok (some_or (uleb i) TRUNCATED) (λ c. cond (eqb c.0 0 && open_.root) (Ok (Null open_.depth c.1.at, c.1)) (entry_by open_ i.at c)) t is in
+      either (eqb c.0.0 0 && open_.root) c.0 c.2
+    where
+      either : (b : Bool) (c : ℕ × Input) → cond b (Ok (Null open_.depth c.1.at, c.1)) (entry_by open_ i.at c) ≡ Ok (Entry d, next) → d.depth ≤ 1024
+      either true c e = absurd (true≢false (ap (λ (q : Token × Input). is_null q.0) (same_done (Null open_.depth c.1.at, c.1) (Entry d, next) e)))
+      either false c e = let h = bind_ok (some_or (abbrev_of table c.0) BAD_CODE) (λ a. entry_at u table open_ i.at a c.1) (Entry d, next) e in shallow_made open_ i.at h.0 c.1 (Entry d, next) h.2

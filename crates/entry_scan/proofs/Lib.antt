@@ -4,3 +4,6 @@ pub mod Steady
 pub mod EntryLaws
 pub mod LeftLaws
 pub mod SizeLaws
+pub mod OrderAhead
+pub mod SpanAt
+pub mod MethodSpan

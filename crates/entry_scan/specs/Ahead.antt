@@ -1,5 +1,5 @@
 -- What of a walk is still to come.
-use Rattle.std.specs.Prelude.{◌≡◌, [], ◌∷◌, Option, Some, None, Result, Ok, Err}
+use Rattle.std.specs.Prelude.{◌≡◌, ◌≤◌, ℕ, [], ◌∷◌, Contains, Option, Some, None, Result, Ok, Err, ⊤}
 use Rattle.ix_base.specs.declared.fault.Fault.{Fault}
 use Rattle.index_model.specs.Walk as meant
 use Rattle.index_model.specs.WalkLeft.{left}
@@ -48,3 +48,29 @@ abbrev pub GivesItem : meant.Walk → meant.Walk → Result (Option Item) Fault 
 GivesItem old new (Ok (Some d)) = BeginsWith old new d
 GivesItem old new (Ok None) = EndsSo old new None
 GivesItem old new (Err f) = EndsSo old new (Some f)
+
+-- Each entry of the walk stands at this place or behind it.
+abbrev pub StandsBehind : ℕ → meant.Walk → Type 0
+StandsBehind place w = (d : meant.Item) → Contains (meant.items w) d → place ≤ d.at
+
+-- the place behind a token
+abbrev pub place_behind : meant.Token → ℕ
+place_behind (meant.Null depth after) = after
+place_behind (meant.Entry d) = d.after
+
+-- What is ahead stands behind the token that was read.
+abbrev pub FollowsRead : meant.Walk → Result Token Fault → Type 0
+FollowsRead new (Ok t) = StandsBehind (place_behind (token_seen t)) new
+FollowsRead new (Err f) = ⊤
+
+-- What is ahead stands behind the token that was given.
+abbrev pub FollowsToken : meant.Walk → Result (Option Token) Fault → Type 0
+FollowsToken new (Ok (Some t)) = StandsBehind (place_behind (token_seen t)) new
+FollowsToken new (Ok None) = ⊤
+FollowsToken new (Err f) = ⊤
+
+-- What is ahead stands behind the entry that was given.
+abbrev pub FollowsItem : meant.Walk → Result (Option Item) Fault → Type 0
+FollowsItem new (Ok (Some d)) = StandsBehind d.after new
+FollowsItem new (Ok None) = ⊤
+FollowsItem new (Err f) = ⊤

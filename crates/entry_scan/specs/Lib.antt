@@ -1,3 +1,4 @@
 pub mod Values
 pub mod Tokens
 pub mod Ahead
+pub mod Inside

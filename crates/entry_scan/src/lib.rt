@@ -5,6 +5,7 @@
 #![tactic(auto)]
 
 mod attributes;
+mod inside;
 mod item;
 mod sizes;
 mod token;
@@ -13,6 +14,7 @@ mod values;
 mod walk;
 
 pub use attributes::Attributes;
+pub use inside::item_at;
 pub use item::Item;
 pub use token::Token;
 pub use walk::Walk;

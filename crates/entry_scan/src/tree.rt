@@ -18,7 +18,7 @@ pub(crate) struct Tree<'a> {
 
 impl<'a> Tree<'a> {
     ghost use Rattle.entry_scan.specs.Tokens.{levels_seen, joint};
-    ghost use Rattle.entry_scan.specs.Ahead.{ahead, GivesNext};
+    ghost use Rattle.entry_scan.specs.Ahead.{ahead, GivesNext, FollowsRead};
 
     // Whether the tree ends here: with the bytes, or where all its levels are closed. It is empty where the first byte
     // is zero.
@@ -53,6 +53,7 @@ impl<'a> Tree<'a> {
         requires small { self.old.frame.unit.start + self.old.cursor.at + length self.old.cursor.rest < 2 ^ 63 }
         requires goes_on { is_over (levels_seen self.old.levels) self.old.cursor ≡ false }
         ensures value { GivesNext (ahead self.old) (ahead self.new) result }
+        ensures order { FollowsRead (ahead self.new) result }
         ensures frame { self.new.frame ≡ self.old.frame }
         ensures place { MovesOn self.old.cursor self.new.cursor }
     {

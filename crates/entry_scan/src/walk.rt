@@ -6,7 +6,7 @@ use crate::item::Item;
 use crate::token::{Frame, Levels, Token};
 use crate::tree::Tree;
 use abbrev_table::Abbrevs;
-use index_model::Unit;
+use index_model::{Span, Unit};
 use ix_base::{Cursor, Fault};
 use std::marker::Model;
 
@@ -32,7 +32,8 @@ impl<'a> Model for Walk<'a> {
 
 impl<'a> Walk<'a> {
     ghost use Rattle.index_model.specs.Walk.{walk_of};
-    ghost use Rattle.entry_scan.specs.Ahead.{GivesToken, GivesItem};
+    ghost use Rattle.entry_scan.specs.Ahead.{GivesToken, GivesItem, FollowsToken, FollowsItem};
+    ghost use Rattle.entry_scan.specs.Inside.{inside_of};
 
     /// The entries of a unit. `bytes` are the unit's own, from its first byte to its end, and `abbrevs` are those at its
     /// abbreviation offset.
@@ -60,11 +61,44 @@ impl<'a> Walk<'a> {
         }
     }
 
+    // The entries from the place on where a span begins, one level below the entry of the span.
+    pub(crate) fn inside(
+        bytes: &'a [u8],
+        unit: &Unit,
+        abbrevs: &'a Abbrevs,
+        span: &Span,
+    ) -> Walk<'a>
+        requires begins { unit.now.start ≤ span.now.from }
+        requires ends { span.now.from ≤ unit.now.start + length bytes.now }
+        requires deep { span.now.depth ≤ 1024 }
+        requires small { unit.now.start + length bytes.now < 2 ^ 63 }
+        ensures { result ≡ inside_of unit.now abbrevs.now bytes.now span.now }
+    {
+        let levels = Levels {
+            root: true,
+            depth: span.depth + 1,
+        };
+        let frame = Frame {
+            unit: *unit,
+            abbrevs,
+        };
+        let cursor = Cursor::new(bytes, (span.from - unit.start) as usize);
+        Walk {
+            tree: Tree {
+                frame,
+                cursor,
+                levels,
+            },
+            fault: None,
+        }
+    }
+
     /// The next entry, or None at the unit's end. Behind the root's tree only zeros may stand.
     ///
     /// After a fault each call gives it again, and after None each call gives None.
     pub fn next(&mut self) -> Result<Option<Item<'a>>, Fault>
-        ensures { GivesItem self.old self.new result }
+        ensures value { GivesItem self.old self.new result }
+        ensures order { FollowsItem self.new result }
     {
         loop {
             match self.token() {
@@ -78,7 +112,8 @@ impl<'a> Walk<'a> {
 
     /// The next entry or null, or None at the unit's end, else as `next`.
     pub fn token(&mut self) -> Result<Option<Token<'a>>, Fault>
-        ensures { GivesToken self.old self.new result }
+        ensures value { GivesToken self.old self.new result }
+        ensures order { FollowsToken self.new result }
     {
         if let Some(fault) = self.fault {
             return Err(fault);

@@ -7,13 +7,12 @@ use Rattle.ix_base.specs.declared.fault.Fault.{Fault}
 use Rattle.ix_base.specs.Reading.{Input}
 use Rattle.index_model.specs.declared.unit.Unit.{Unit as UnitHeader}
 use Rattle.index_model.specs.declared.shard.Span.{Span}
-use Rattle.index_model.specs.Sections.{Section}
 use Rattle.index_model.specs.Abbreviations.{Abbrev}
 use Rattle.index_model.specs.Walk.{Item, Token, Null, Entry, Levels, Walk, is_over, begins_with_zero, item_in, behind, with_token, tail_of, token_or_fault}
 use Rattle.index_model.specs.WalkLeft.{levels_after, left_from, left}
 use Rattle.index_model.specs.Program.{Walked, items_of, body}
 use Rattle.index_model.specs.ShardParts.{span_of}
-use Rattle.index_model.specs.LawsSpans.{bytes_at, resumed, ResumedGivesTheSame}
+use Rattle.index_model.specs.LawsSpans.{ResumedGivesTheSame}
 use Rattle.index_model.proofs.Meanings.{contains_here, contains_later, contains_cases}
 use Rattle.index_model.proofs.UnitReads.{Passes, passes_on}
 use Rattle.index_model.proofs.TokenReads.{IsToken, start, read_is, left_follow, walk_left}
@@ -150,9 +149,14 @@ and_on false y is = absurd cc
 
 -- ---- spans
 
-module _ (ss : List Section) (u : UnitHeader) (a : List Abbrev) (e : Item) (s : Span) (from : s.from ≡ e.after) (depth : s.depth ≡ e.depth) (children : e.children ≡ true) where
-  abbrev whole : Input
-  whole = body ss u
+module _ (u : UnitHeader) (a : List Abbrev) (whole : Input) (e : Item) (s : Span) (from : s.from ≡ e.after) (depth : s.depth ≡ e.depth) (children : e.children ≡ true) where
+  -- the bytes from behind the entry on
+  abbrev onward : Input
+  onward = record { at = s.from; rest = drop (s.from - whole.at) whole.rest }
+
+  -- the walk that begins there, one level below the entry
+  abbrev again : Walk
+  again = left (token u a) (record { root = true; depth = s.depth + 1 }) onward
 
   -- from the end of the entry on, as far as the span goes
   abbrev inside : Item → Bool
@@ -165,17 +169,17 @@ module _ (ss : List Section) (u : UnitHeader) (a : List Abbrev) (e : Item) (s : 
     abbrev rest : List Token
     rest = (left (token u a) (below e) r.next).tokens
 
-    at_next : r.next ≡ bytes_at ss u s.from
+    at_next : r.next ≡ onward
     at_next =
-        let n : r.bytes ≡ s.from - (u.start + u.body) = omega (arith, ap (λ (i : Input). i.at) r.passes.on, r.place, from) in
+        let n : r.bytes ≡ s.from - whole.at = omega (arith, ap (λ (i : Input). i.at) r.passes.on, r.place, from) in
         let p : whole.at + r.bytes ≡ s.from = omega (arith, ap (λ (i : Input). i.at) r.passes.on, r.place, from) in
         sym r.passes.on ∙ ap (λ (k : ℕ). let i : Input = record { at = k; rest = drop r.bytes whole.rest } in i) p ∙ ap (λ (k : ℕ). let i : Input = record { at = s.from; rest = drop k whole.rest } in i) n
 
     level : below e ≡ record { root = true; depth = s.depth + 1 }
     level = ap (λ (b : Bool). let l : Levels = record { root = true; depth = cond b (e.depth + 1) e.depth } in l) children ∙ ap (λ (n : ℕ). let l : Levels = record { root = true; depth = n + 1 } in l) (sym depth)
 
-    rest_is : rest ≡ (resumed ss u a s).tokens
-    rest_is = ap (λ (i : Input). (left (token u a) (below e) i).tokens) at_next ∙ ap (λ (l : Levels). (left (token u a) l (bytes_at ss u s.from)).tokens) level
+    rest_is : rest ≡ again.tokens
+    rest_is = ap (λ (i : Input). (left (token u a) (below e) i).tokens) at_next ∙ ap (λ (l : Levels). (left (token u a) l onward).tokens) level
 
     before_out : (d : Item) → Contains (entries r.before) d → inside d ≡ false
     before_out d c = and_off (leb s.from d.at) (ltb d.at s.to) (lt-leb s.from d.at (omega (arith, r.earlier d c, from)))
@@ -188,7 +192,7 @@ module _ (ss : List Section) (u : UnitHeader) (a : List Abbrev) (e : Item) (s : 
         let b = bounded (below e) r.next rest (left_follow u a (length r.next.rest) (below e) r.next) d c in
         and_on (leb s.from d.at) (ltb d.at s.to) (le-leb s.from d.at (omega (arith, b.0, r.place, from)))
 
-    same : filter in_time (entries (resumed ss u a s).tokens) ≡ filter inside (entries w.tokens)
+    same : filter in_time (entries again.tokens) ≡ filter inside (entries w.tokens)
     same =
         let split : entries w.tokens ≡ entries r.before ++ e ∷ entries rest = ap entries r.is ∙ filter_map-append item_in r.before (Entry e ∷ rest) in
         let parts : filter inside (entries r.before ++ e ∷ entries rest) ≡ filter inside (entries r.before) ++ filter inside (e ∷ entries rest) = filter-append inside (entries r.before) (e ∷ entries rest) in
@@ -197,7 +201,11 @@ module _ (ss : List Section) (u : UnitHeader) (a : List Abbrev) (e : Item) (s : 
         let all : filter inside (entries w.tokens) ≡ filter in_time (entries rest) = ap (filter inside) split ∙ parts ∙ ap (λ (xs : List Item). xs ++ filter inside (e ∷ entries rest)) out ∙ own ∙ filter_same inside in_time (entries rest) rest_in in
         ap (λ (ts : List Token). filter in_time (entries ts)) (sym rest_is) ∙ sym all
 
-span_facts : (w : Walked) (o : Item) → ((span_of w o).from ≡ o.after) × ((span_of w o).depth ≡ o.depth)
+  -- it gives the entries of the whole walk, as far as the span goes
+  pub same_inside : Contains (entries (left (token u a) start whole).tokens) e → filter in_time (entries again.tokens) ≡ filter inside (entries (left (token u a) start whole).tokens)
+  same_inside member = same (left (token u a) start whole) (resume u a (length whole.rest) start whole (omega arith) e member)
+
+pub span_facts : (w : Walked) (o : Item) → ((span_of w o).from ≡ o.after) × ((span_of w o).depth ≡ o.depth)
 unfolding span_of
 span_facts w o = (refl, refl)
 
@@ -211,5 +219,4 @@ resumed_same ss u w a at is s c =
     let by : read ss u a ≡ w = walked_by ss u a w at is in
     let walk : w.walk ≡ left (token u.1 a) start (body ss u.1) = ap (λ (v : Walked). v.walk) (sym by) ∙ walk_left u.1 a (body ss u.1) in
     let member : Contains (entries (left (token u.1 a) start (body ss u.1)).tokens) m.0 = subst (λ (v : Walk). Contains (entries v.tokens) m.0) walk k.0 in
-    let r = resume u.1 a (length (body ss u.1).rest) start (body ss u.1) (omega arith) m.0 member in
-    same ss u.1 a m.0 s from depth k.1 (left (token u.1 a) start (body ss u.1)) r ∙ ap (λ (v : Walk). filter (λ (d : Item). leb s.from d.at && ltb d.at s.to) (entries v.tokens)) (sym walk)
+    same_inside u.1 a (body ss u.1) m.0 s from depth k.1 member ∙ ap (λ (v : Walk). filter (λ (d : Item). leb s.from d.at && ltb d.at s.to) (entries v.tokens)) (sym walk)
