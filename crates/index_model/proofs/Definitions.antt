@@ -25,7 +25,7 @@ abbrev seen : Replied → Reply
 seen = reply_seen
 
 -- what a shard stands for
-abbrev stands : List ℕ → List Section → Shard → List Walked → Type 0
+abbrev stands : List Section → Shard → List Walked → Type 0
 stands = StandsFor
 
 -- what a call gives

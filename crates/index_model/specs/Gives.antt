@@ -1,5 +1,5 @@
 -- What a call answered is what the text means: its value, or what is first wrong.
-use Rattle.std.specs.Prelude.{◌≡◌, Result, Ok, Err}
+use Rattle.std.specs.Prelude.{◌≡◌, Result, Ok, Err, IsOkAnd}
 use Rattle.ix_base.specs.declared.fault.Fault.{Fault}
 use Rattle.ix_base.specs.declared.fault.Stop.{Stop}
 use Rattle.ix_base.specs.declared.fault.Stop.TheVariants as stops
@@ -14,7 +14,12 @@ abbrev pub Gives : {X Y : Type 0} → (X → Y) → Result X Stop → Result Y F
 Gives view (Ok x) meaning = meaning ≡ Ok (view x)
 Gives view (Err stop) meaning = StopsAs stop meaning
 
--- The same, where there is no want of memory: the answer, seen by view, is the meaning.
+-- The answer stands for the meaning: the relation holds of both values at Ok, and Fault is the meaning's first fault. Want of memory is free.
+abbrev pub GivesFor : {X Y : Type 0} → (X → Y → Type 0) → Result X Stop → Result Y Fault → Type 0
+GivesFor StandsFor (Ok x) meaning = IsOkAnd meaning (StandsFor x)
+GivesFor StandsFor (Err stop) meaning = StopsAs stop meaning
+
+-- The same as Gives, where there is no want of memory: the answer, seen by view, is the meaning.
 abbrev pub GivesAlways : {X Y E : Type 0} → (X → Y) → Result X E → Result Y E → Type 0
 GivesAlways view (Ok x) meaning = meaning ≡ Ok (view x)
 GivesAlways view (Err e) meaning = meaning ≡ Err e

@@ -79,8 +79,8 @@ IsSummary s m = IsOkAnd (built_of s.file) (λ b. (m.main ≡ main_of b.program b
 
 -- what a job makes where it meets no fault
 abbrev pub Makes : Subject → Job → Made → Type 0
-Makes s (Scan k) (ShardOf shard) = IsOkAnd (sections_of s.file) (λ ss. IsOkAnd (scan_of_run s k) (StandsFor s.file ss shard))
-Makes s (Link k) (LinkedOf linked) = IsOkAnd (program_of s.file) (λ p. IsOkAnd (link_of_run s k) (IsLinked s.file p linked))
+Makes s (Scan k) (ShardOf shard) = IsOkAnd (sections_of s.file) (λ ss. IsOkAnd (scan_of_run s k) (StandsFor ss shard))
+Makes s (Link k) (LinkedOf linked) = IsOkAnd (program_of s.file) (λ p. IsOkAnd (link_of_run s k) (IsLinked p linked))
 Makes s Main (SummaryOf m) = IsSummary s m
 Makes s (Name k) (RunOf es) = IsOkAnd (built_of s.file) (λ b. es ≡ filter (λ e. is_in_run s k e.unit) (entries_in b))
 Makes s Merge (TableOf es) = IsOkAnd (built_of s.file) (λ b. es ≡ entries_in b)

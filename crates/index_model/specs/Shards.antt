@@ -1,5 +1,5 @@
 -- When a Shard stands for the walks of a run of units, and when what links say of it is right.
-use Rattle.std.specs.Prelude.{◌≡◌, ℕ, List, [], ◌∷◌, flat_map, map, length, Option, Some, None, ⊤}
+use Rattle.std.specs.Prelude.{◌≡◌, ℕ, List, [], ◌∷◌, flat_map, map, length, Option, Some, None, option_map, ⊤}
 use Rattle.std.specs.List.{AllZip}
 use Rattle.index_model.specs.declared.shard.Shard.{Shard}
 use Rattle.index_model.specs.declared.shard.LinkedEntry.{LinkedEntry}
@@ -8,7 +8,7 @@ use Rattle.index_model.specs.Sections.{Section}
 use Rattle.index_model.specs.Program.{Walked, Program}
 use Rattle.index_model.specs.Chains.{is_external, linkage_name_of}
 use Rattle.index_model.specs.Links.{Link, indexed_in, qualified_of}
-use Rattle.index_model.specs.ShardParts.{root_facts, kept_in, Spells, IsNodeOf, spans_of, imports_in}
+use Rattle.index_model.specs.ShardParts.{root_facts, kept_in, IsNodeOf, spans_of, imports_in}
 
 -- ---- walks
 
@@ -17,11 +17,11 @@ abbrev pub first_number : List Walked → ℕ → Type 0
 first_number [] n = ⊤
 first_number (w ∷ ws) n = n ≡ w.number
 
--- the Shard stands for these walks of the file f with these sections
-pub record StandsFor (f : List ℕ) (ss : List Section) (s : Shard) (run : List Walked) : Type 0 where
+-- the Shard stands for these walks of a file with these sections
+pub record StandsFor (ss : List Section) (s : Shard) (run : List Walked) : Type 0 where
   pub first : first_number run s.first
   pub roots : s.roots ≡ map root_facts run
-  pub nodes : AllZip (IsNodeOf f ss) (s.nodes) (kept_in run)
+  pub nodes : AllZip (IsNodeOf ss) (s.nodes) (kept_in run)
   pub spans : s.spans ≡ flat_map spans_of run
   pub imports : s.imports ≡ flat_map (imports_in ss) run
 
@@ -33,13 +33,13 @@ length_of (Some name) = length name
 length_of None = 0
 
 -- what a link says of an indexed entry
-pub record IsLinkedEntryOf (f : List ℕ) (p : Program) (e : LinkedEntry) (k : Link) : Type 0 where
+pub record IsLinkedEntryOf (p : Program) (e : LinkedEntry) (k : Link) : Type 0 where
   pub offset : e.offset ≡ k.entry.item.at
   pub external : e.external ≡ is_external k.chain
-  pub name : Spells f e.name k.spelled
-  pub linkage : Spells f e.linkage (linkage_name_of p k.chain)
+  pub name : option_map (λ t. t.now) e.name ≡ k.spelled
+  pub linkage : option_map (λ t. t.now) e.linkage ≡ linkage_name_of p k.chain
   pub length : e.length ≡ length_of (qualified_of k)
 
 -- the Linked is what the links of a run say of its indexed entries
-abbrev pub IsLinked : List ℕ → Program → Linked → List Link → Type 0
-IsLinked f p linked ks = AllZip (IsLinkedEntryOf f p) (linked.entries) (indexed_in ks)
+abbrev pub IsLinked : Program → Linked → List Link → Type 0
+IsLinked p linked ks = AllZip (IsLinkedEntryOf p) (linked.entries) (indexed_in ks)

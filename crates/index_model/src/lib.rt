@@ -36,7 +36,7 @@ pub use list::List;
 pub use query::Query;
 pub use range::{Range, UnitRange};
 pub use rules::{Class, Facts, Parent};
-pub use shard::{Import, Linked, LinkedEntry, Next, Node, Raw, Root, Shard, Span, TextPlace};
+pub use shard::{Import, Linked, LinkedEntry, Next, Node, Raw, Root, Shard, Span};
 pub use staged::Staged;
 pub use steps::Steps;
 pub use text::Text;

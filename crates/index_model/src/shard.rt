@@ -2,18 +2,9 @@
 //!
 //! Most entries are neither indexed nor named by a reference. So a node is kept only of a root and of an entry that may be
 //! visited, and a span of each entry with children: from the spans the lexical parent of every entry is known (DWARF 5,
-//! section 2.3), and an entry without a node is read again from the file.
+//! section 2.3), and an entry without a node is read again from the file. Names are borrowed from the file.
 
 use crate::list::List;
-
-/// Where a text stands in the file.
-#[derive(Clone, Copy, Debug, PartialEq, Eq)]
-pub struct TextPlace {
-    /// The place of its first byte in the file, counted from 0.
-    pub at: u64,
-    /// How many bytes it has, the zero behind it not counted.
-    pub len: u32,
-}
 
 /// What the root of a unit says of the whole unit (DWARF 5, section 3.1.1).
 #[derive(Clone, Copy, Debug, PartialEq, Eq)]
@@ -54,7 +45,7 @@ pub enum Raw {
 
 /// A root, or an entry that may be visited.
 #[derive(Clone, Copy, Debug, PartialEq, Eq)]
-pub struct Node {
+pub struct Node<'f> {
     /// The unit's number in section order, counted from 0.
     pub unit: u32,
     /// The joint offset of the entry.
@@ -74,10 +65,10 @@ pub struct Node {
     pub address: bool,
     /// Whether the entry itself has a const_value or, as a variable, a location.
     pub value: bool,
-    /// Its own name, if it has one.
-    pub name: Option<TextPlace>,
+    /// Its own name, if it has one, as it stands in the file.
+    pub name: Option<&'f [u8]>,
     /// Its own linkage name, if it has one.
-    pub linkage: Option<TextPlace>,
+    pub linkage: Option<&'f [u8]>,
     pub next: Option<Next>,
     /// The signature of the type unit that describes it.
     pub signature: Option<u64>,
@@ -112,13 +103,13 @@ pub struct Import {
 
 /// What stands for the walks of a run of consecutive units. All lists are in section order.
 #[derive(Drop)]
-pub struct Shard {
+pub struct Shard<'f> {
     /// The number of the run's first unit.
     pub first: u32,
     /// One of each unit.
     pub roots: List<Root>,
     /// One of each root and of each entry that may be visited.
-    pub nodes: List<Node>,
+    pub nodes: List<Node<'f>>,
     /// One of each entry with children.
     pub spans: List<Span>,
     pub imports: List<Import>,
@@ -126,21 +117,21 @@ pub struct Shard {
 
 /// What its references say of an indexed entry.
 #[derive(Clone, Copy, Debug, PartialEq, Eq)]
-pub struct LinkedEntry {
+pub struct LinkedEntry<'f> {
     /// The joint offset of the entry.
     pub offset: u64,
     /// Whether some entry of its chain is external.
     pub external: bool,
     /// The name that the file spells for it. None for the anonymous namespace alone.
-    pub name: Option<TextPlace>,
+    pub name: Option<&'f [u8]>,
     /// The first linkage name on its chain.
-    pub linkage: Option<TextPlace>,
+    pub linkage: Option<&'f [u8]>,
     /// The length of its qualified name in bytes.
     pub length: u32,
 }
 
 /// The indexed entries of a run of units, in section order.
 #[derive(Drop)]
-pub struct Linked {
-    pub entries: List<LinkedEntry>,
+pub struct Linked<'f> {
+    pub entries: List<LinkedEntry<'f>>,
 }
