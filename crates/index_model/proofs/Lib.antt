@@ -5,9 +5,11 @@ pub mod Scans
 pub mod UnitReads
 pub mod UnitTilingLaws
 pub mod ValueReads
+pub mod TextReads
 pub mod TokenReads
 pub mod ParentLaws
 pub mod OrderLaws
+pub mod TextLaws
 pub mod Pairs
 pub mod LinkLaws
 pub mod EntryLaws

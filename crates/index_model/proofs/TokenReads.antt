@@ -15,6 +15,7 @@ use Rattle.index_model.specs.WalkLeft.{levels_after, left_from, left}
 use Rattle.index_model.proofs.Meanings.{bind_ok, holds_ok, some_ok, same_ok}
 use Rattle.index_model.proofs.UnitReads.{Passes, passes_on}
 use Rattle.index_model.proofs.ValueReads.{uleb_passes, values_move}
+use Rattle.index_model.proofs.TextReads.{KeepsTexts, values_keep, passed_later}
 use Rattle.index_model.proofs.WalkLaws.{walk_is_left}
 
 -- what a token says of the levels that are open, and of where it begins and ends
@@ -28,6 +29,7 @@ pub record IsToken (open_ : Levels) (i next : Input) (t : Token) : Type 0 where
   pub some : 0 < bytes
   pub passes : Passes bytes i next
   pub says : Says open_ i next t
+  pub texts : KeepsTexts i next t
 
 module _ (u : UnitHeader) (table : List Abbrev) (open_ : Levels) (i : Input) where
   abbrev entry : Abbrev → List (ℕ × Value) × Input → Token
@@ -41,14 +43,14 @@ module _ (u : UnitHeader) (table : List Abbrev) (open_ : Levels) (i : Input) whe
       let r = holds_ok (open_.root || is_root_tag a.tag) BAD_ROOT (values u table a.specs j >>= λ vs. Ok (entry a vs, vs.1)) x d.1 in
       let v = bind_ok (values u table a.specs j) (λ vs. Ok (entry a vs, vs.1)) x r.1 in
       let g = values_move u table a.specs j v.0 v.1 in
-      let made : IsToken open_ i v.0.1 (entry a v.0) = record { bytes = n + g.0; some = omega (arith, some); passes = passes_on n g.0 i j v.0.1 p g.1; says = (refl, refl, refl) } in
+      let made : IsToken open_ i v.0.1 (entry a v.0) = record { bytes = n + g.0; some = omega (arith, some); passes = passes_on n g.0 i j v.0.1 p g.1; says = (refl, refl, refl); texts = λ m text c. passed_later i j v.0.1 text (n, p) (values_keep u table a.specs j v.0 v.1 m text c) } in
       subst (λ (y : Token × Input). IsToken open_ i y.1 y.0) (same_ok (entry a v.0, v.0.1) x v.2) made
 
   abbrev null_or : Bool → ℕ × Input → Result (Token × Input) ℕ
   null_or null code = cond null (Ok (Null open_.depth code.1.at, code.1)) (some_or (abbrev_of table code.0) BAD_CODE >>= λ a. entry_at u table open_ i.at a code.1)
 
   null_or_entry : (null : Bool) (code : ℕ × Input) (n : ℕ) (x : Token × Input) → (null ≡ true → open_.root ≡ true) → 0 < n → Passes n i code.1 → null_or null code ≡ Ok x → IsToken open_ i x.1 x.0
-  null_or_entry true code n x root some p is = subst (λ (y : Token × Input). IsToken open_ i y.1 y.0) (same_ok (Null open_.depth code.1.at, code.1) x is) (record { bytes = n; some = some; passes = p; says = (root refl, refl, refl) })
+  null_or_entry true code n x root some p is = subst (λ (y : Token × Input). IsToken open_ i y.1 y.0) (same_ok (Null open_.depth code.1.at, code.1) x is) (record { bytes = n; some = some; passes = p; says = (root refl, refl, refl); texts = tt })
   null_or_entry false code n x root some p is =
       let a = some_ok (abbrev_of table code.0) BAD_CODE (λ a. entry_at u table open_ i.at a code.1) x is in
       entry_is a.0 code.1 n x some p a.2

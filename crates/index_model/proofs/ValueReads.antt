@@ -167,7 +167,7 @@ kept constant i = Ok (Signed constant, i)
 kept_moves : (constant : ℤ) (i : Input) (x : Value × Input) → kept constant i ≡ Ok x → Goes i x.1
 kept_moves constant i x is = subst (Goes i) (ap (λ (q : Value × Input). q.1) (same_ok (Signed constant, i) x is)) (stays i)
 
-value_moves : (version : ℕ) (wide : Bool) (form : ℕ) (constant : ℤ) → ReaderMoves (value_at version wide form constant)
+pub value_moves : (version : ℕ) (wide : Bool) (form : ℕ) (constant : ℤ) → ReaderMoves (value_at version wide form constant)
 unfolding value_at
 value_moves version wide form constant = reader_moves ((0x16, indirect version wide) ∷ (0x21, kept constant) ∷ plain_forms version wide) form (indirect_moves version wide, (kept_moves constant, plain_forms_move version wide))
 

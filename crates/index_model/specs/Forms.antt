@@ -21,7 +21,7 @@ abbrev pub by : {A : Type 0} → (Input → Option (A × Input)) → (A → Valu
 by read make i = some_or (read i) TRUNCATED >>= λ x. Ok (make x.0, x.1)
 
 -- a count, and so many bytes
-abbrev counted : (Input → Option (ℕ × Input)) → Input → Option (List ℕ × Input)
+abbrev pub counted : (Input → Option (ℕ × Input)) → Input → Option (List ℕ × Input)
 counted count i = count i >>=? λ n. bytes n.0 n.1
 
 -- the form isn't read
@@ -37,7 +37,7 @@ abbrev nothing : Input → Option (record {} × Input)
 nothing i = Some (record {}, i)
 
 -- a reference into the section: eight bytes in version 2, else an offset
-abbrev section_reference : ℕ → Bool → Input → Option (ℕ × Input)
+abbrev pub section_reference : ℕ → Bool → Input → Option (ℕ × Input)
 section_reference version wide i = if version == 2 then number 8 i else offset wide i
 
 -- the forms that stand for themselves

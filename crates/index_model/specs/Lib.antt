@@ -35,6 +35,7 @@ pub mod LawsStages
 pub mod LawsOrder
 pub mod LawsEntries
 pub mod LawsSpans
+pub mod LawsTexts
 pub mod LawsFaults
 pub mod LawsRules
 pub mod LawsTiling

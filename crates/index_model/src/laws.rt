@@ -7,6 +7,7 @@ ghost use Rattle.index_model.specs.LawsRanges.{UnitAtIsLeast};
 ghost use Rattle.index_model.specs.LawsRules.{VisitedIsByParent};
 ghost use Rattle.index_model.specs.LawsSpans.{NoSpanHoldsARoot, ParentHasTheInnermostSpan, ResumedGivesTheSame};
 ghost use Rattle.index_model.specs.LawsStages.{ReachableIsTheClosure, ReachableIsLeads, LastStagesStay};
+ghost use Rattle.index_model.specs.LawsTexts.{AttributeTextsStandInTheirEntries, InlineTextsStandInTheirEntries};
 ghost use Rattle.index_model.specs.LawsTiling.{UnitBytesAreTheSections, UnitsAreTheTiling};
 
 /// What is reachable is exactly the closure of the steps, by numbers: 0 to 5 from 0, 2, 3 and 5 from 1, 3 and 5 from 2. A
@@ -47,6 +48,13 @@ pub fn spans_stand_for_children()
     ensures parent { ParentHasTheInnermostSpan }
     ensures root { NoSpanHoldsARoot }
     ensures resumed { ResumedGivesTheSame }
+{}
+
+/// A text that is itself the value of an attribute (DWARF 5, section 7.5.5, form string) stands in the bytes of its unit, from
+/// the entry's place on and before the place behind the entry.
+pub fn inline_texts_stand_in_their_entries()
+    ensures values { InlineTextsStandInTheirEntries }
+    ensures attributes { AttributeTextsStandInTheirEntries }
 {}
 
 /// The simple name of an entry is the end of its qualified name.

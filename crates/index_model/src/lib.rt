@@ -28,9 +28,9 @@ pub use index_laws::{
 };
 pub use job::{CacheKind, Job, Moment};
 pub use laws::{
-    entries_are_in_order, first_fault_goes_by_phases, simple_names_are_ends,
-    spans_stand_for_children, stages_go_on, unit_at_is_the_least, units_tile_their_sections,
-    visited_goes_by_the_parent, walks_are_in_order,
+    entries_are_in_order, first_fault_goes_by_phases, inline_texts_stand_in_their_entries,
+    simple_names_are_ends, spans_stand_for_children, stages_go_on, unit_at_is_the_least,
+    units_tile_their_sections, visited_goes_by_the_parent, walks_are_in_order,
 };
 pub use list::List;
 pub use query::Query;
