@@ -15,6 +15,8 @@ pub mod LinkLaws
 pub mod EntryLaws
 pub mod SpanLaws
 pub mod InnermostLaws
+pub mod UnitsApart
+pub mod SpanOrder
 pub mod ResumeLaws
 pub mod SimpleNames
 pub mod FaultLaws

@@ -31,6 +31,7 @@ pub mod Seen
 pub mod Texts
 pub mod ShardParts
 pub mod Shards
+pub mod Parents
 pub mod LawsStages
 pub mod LawsOrder
 pub mod LawsEntries

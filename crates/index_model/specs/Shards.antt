@@ -1,5 +1,5 @@
 -- When a Shard stands for the walks of a run of units, and when what links say of it is right.
-use Rattle.std.specs.Prelude.{◌≡◌, ℕ, List, [], ◌∷◌, flat_map, map, length, Option, Some, None, option_map, ⊤}
+use Rattle.std.specs.Prelude.{◌≡◌, ℕ, List, [], ◌∷◌, ◌++◌, flat_map, map, length, Option, Some, None, option_map, ⊤}
 use Rattle.std.specs.List.{AllZip}
 use Rattle.index_model.specs.declared.shard.Shard.{Shard}
 use Rattle.index_model.specs.declared.shard.LinkedEntry.{LinkedEntry}
@@ -24,6 +24,12 @@ pub record StandsFor (ss : List Section) (s : Shard) (run : List Walked) : Type 
   pub nodes : AllZip (IsNodeOf ss) (s.nodes) (kept_in run)
   pub spans : s.spans ≡ flat_map spans_of run
   pub imports : s.imports ≡ flat_map (imports_in ss) run
+
+-- the walks are those of consecutive units of the program
+pub record IsRunOf (p : Program) (run : List Walked) : Type 0 where
+  pub before : List Walked
+  pub after : List Walked
+  pub is : p.walks ≡ before ++ (run ++ after)
 
 -- ---- links
 

@@ -11,6 +11,7 @@ mod index_laws;
 mod job;
 mod laws;
 mod list;
+mod parents;
 mod query;
 mod range;
 mod rules;
