@@ -10,6 +10,7 @@ pub mod TokenReads
 pub mod ParentLaws
 pub mod OrderLaws
 pub mod TextLaws
+pub mod FirstSome
 pub mod Pairs
 pub mod LinkLaws
 pub mod EntryLaws
@@ -17,6 +18,9 @@ pub mod SpanLaws
 pub mod InnermostLaws
 pub mod UnitsApart
 pub mod SpanOrder
+pub mod ShardRoots
+pub mod ShardNodes
+pub mod UnitLanguages
 pub mod ResumeLaws
 pub mod SimpleNames
 pub mod FaultLaws

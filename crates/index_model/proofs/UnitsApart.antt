@@ -91,7 +91,7 @@ Apart v w = (v.number < w.number) × (v.unit.start + v.unit.length ≤ w.unit.st
 abbrev pub IsWalk : List Section → Walked → Type 0
 IsWalk ss w = (u : ℕ × UnitHeader) × (walked ss u ≡ Ok w)
 
-walk_parts : (ss : List Section) (u : ℕ × UnitHeader) (w : Walked) → walked ss u ≡ Ok w → (w.number ≡ u.0) × (w.unit ≡ u.1)
+pub walk_parts : (ss : List Section) (u : ℕ × UnitHeader) (w : Walked) → walked ss u ≡ Ok w → (w.number ≡ u.0) × (w.unit ≡ u.1)
 walk_parts ss u w is = let r = walked_read ss u w is in (ap (λ (x : Walked). x.number) (sym r.1), ap (λ (x : Walked). x.unit) (sym r.1))
 
 -- a walk of these units, the first of which has the number n

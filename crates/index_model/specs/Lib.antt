@@ -32,6 +32,7 @@ pub mod Texts
 pub mod ShardParts
 pub mod Shards
 pub mod Parents
+pub mod ShardLanguages
 pub mod LawsStages
 pub mod LawsOrder
 pub mod LawsEntries

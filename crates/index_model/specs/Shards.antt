@@ -25,6 +25,12 @@ pub record StandsFor (ss : List Section) (s : Shard) (run : List Walked) : Type 
   pub spans : s.spans ≡ flat_map spans_of run
   pub imports : s.imports ≡ flat_map (imports_in ss) run
 
+-- these shards stand for consecutive runs that make up all units of the program
+pub record AreShardsOf (p : Program) (shards : List Shard) : Type 0 where
+  pub runs : List (List Walked)
+  pub all : flat_map (λ run. run) runs ≡ p.walks
+  pub stand : AllZip (StandsFor p.sections) shards runs
+
 -- the walks are those of consecutive units of the program
 pub record IsRunOf (p : Program) (run : List Walked) : Type 0 where
   pub before : List Walked

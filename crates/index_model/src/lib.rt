@@ -2,6 +2,10 @@
 //!
 //! Units and entries are those of DWARF 5, sections 7.5.1 and 2.3 (DWARF 4 for versions 2 to 4). An index answers questions
 //! about them (DWARF 5, section 6.1).
+//!
+//! Beside the types stand the definitions, in specs/: what the bytes of a file mean, from its sections to the answers, in the
+//! words of the standards. The contracts of all crates cite them. docs/DEFINITIONS.md reads them aloud in their order; begin
+//! there. `laws` and `index_laws` say what follows from them.
 #![tactic(auto)]
 
 mod answer;
@@ -9,6 +13,7 @@ mod entry;
 pub mod index_code;
 mod index_laws;
 mod job;
+mod languages;
 mod laws;
 mod list;
 mod parents;
@@ -28,6 +33,7 @@ pub use index_laws::{
     path_has_each_slot, pieces_are_maximal,
 };
 pub use job::{CacheKind, Job, Moment};
+pub use languages::language;
 pub use laws::{
     entries_are_in_order, first_fault_goes_by_phases, inline_texts_stand_in_their_entries,
     simple_names_are_ends, spans_stand_for_children, stages_go_on, unit_at_is_the_least,

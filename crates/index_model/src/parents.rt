@@ -40,10 +40,10 @@ mod tests {
     use crate::list::List;
     use std::alloc::AllocError;
 
-    // A span of the second unit.
+    // A span of the third unit.
     fn span(entry: u64, depth: u32, from: u64, to: u64) -> Span {
         Span {
-            unit: 1,
+            unit: 2,
             entry,
             depth,
             from,
@@ -51,7 +51,7 @@ mod tests {
         }
     }
 
-    // Namespace m has namespace s, which has the structure B.
+    // The root has a namespace, which has a class, which has a function.
     #[test]
     fn finds_the_innermost(rt: HostRuntime) -> Result<(), AllocError> {
         let spans = [
@@ -60,7 +60,7 @@ mod tests {
             span(0x55, 2, 0x58, 0x5c),
         ];
         let shard = Shard {
-            first: 1,
+            first: 2,
             roots: List::of(Vec::new(rt.alloc())),
             nodes: List::of(Vec::new(rt.alloc())),
             spans: List::of(Vec::from_slice(rt.alloc(), &spans)?),
