@@ -48,8 +48,8 @@ located_rise n (w ∷ ws) h = pairs_append UnitsRise (located w) (flat_map locat
     (same_units w.number (located w) (λ d c. ap (λ (x : Walked). x.number) (in_unit w d c)))
     (located_rise (n + 1) ws h.1)
     (λ d e dc ec.
-      let v = of_flat_map located ws e ec in
-      omega (arith, h.0, ap (λ (x : Walked). x.number) (in_unit w d dc), ap (λ (x : Walked). x.number) (in_unit v.0 e v.2), numbered_low (n + 1) ws v.0 h.1 v.1))
+    let v = of_flat_map located ws e ec in
+    omega (arith, h.0, ap (λ (x : Walked). x.number) (in_unit w d dc), ap (λ (x : Walked). x.number) (in_unit v.0 e v.2), numbered_low (n + 1) ws v.0 h.1 v.1))
 
 module _ (ss : List Section) where
   node_of : (nodes : List Node) (ds : List Located) → AllZip (IsNodeOf ss) nodes ds → (n : Node) → Contains nodes n → (d : Located) × Contains ds d × (n.unit ≡ d.home.number)
@@ -74,9 +74,9 @@ module _ (ss : List Section) where
   rises s run n stands h i j d le within =
       let pairs = nodes_rise s.nodes (kept_in run) stands.nodes (pairs_filter UnitsRise (λ e. is_kept e.home e.item) (flat_map located run) (located_rise n run h)) in
       ⊎_elim
-        (λ (lt : i < j). let r = all_pairs NodeUnitsRise s.nodes pairs i j d lt within in omega (arith, r))
-        (λ (ge : j ≤ i). let same : i ≡ j = omega (arith, le, ge) in subst (λ (k : ℕ). (get_or s.nodes i d).unit ≤ (get_or s.nodes k d).unit) same (omega arith))
-        (cases_lt i j)
+      (λ (lt : i < j). let r = all_pairs NodeUnitsRise s.nodes pairs i j d lt within in omega (arith, r))
+      (λ (ge : j ≤ i). let same : i ≡ j = omega (arith, le, ge) in subst (λ (k : ℕ). (get_or s.nodes i d).unit ≤ (get_or s.nodes k d).unit) same (omega arith))
+      (cases_lt i j)
 
   -- the nodes of every shard rise
   pub all_rise : (shards : List Shard) (runs : List (List Walked)) (n : ℕ) → AllZip (StandsFor ss) shards runs → Numbered n (joined runs) → All NodesRise shards
@@ -151,13 +151,13 @@ module _ (w : Walked) (r : Item) (rest : List Item) (items : items_of w ≡ r �
   root_found n (v ∷ vs) h c = ⊎_elim
       (λ (same : v ≡ w). subst (λ (x : Walked). find (not_before w.number) (kept_in (x ∷ vs)) ≡ Some root) (sym same) (root_first vs))
       (λ (l : Contains vs w).
-        let low = numbered_low (n + 1) vs w h.1 l in
-        let own = kept_of (located v) in
-        let none : find (not_before w.number) own ≡ None = find_none (not_before w.number) own (λ d dc.
-            let m = of_filter (λ e. is_kept e.home e.item) (located v) d dc in
-            lt-leb w.number d.home.number (omega (arith, low, h.0, ap (λ (x : Walked). x.number) (in_unit v d m.0)))) in
-        ap (find (not_before w.number)) (filter-append (λ d. is_kept d.home d.item) (located v) (flat_map located vs)) ∙
-        find-append (not_before w.number) own (kept_in vs) ∙
-        ap (λ (o : Option Located). option_or o (find (not_before w.number) (kept_in vs))) none ∙
-        root_found (n + 1) vs h.1 l)
+      let low = numbered_low (n + 1) vs w h.1 l in
+      let own = kept_of (located v) in
+      let none : find (not_before w.number) own ≡ None = find_none (not_before w.number) own (λ d dc.
+      let m = of_filter (λ e. is_kept e.home e.item) (located v) d dc in
+      lt-leb w.number d.home.number (omega (arith, low, h.0, ap (λ (x : Walked). x.number) (in_unit v d m.0)))) in
+      ap (find (not_before w.number)) (filter-append (λ d. is_kept d.home d.item) (located v) (flat_map located vs)) ∙
+      find-append (not_before w.number) own (kept_in vs) ∙
+      ap (λ (o : Option Located). option_or o (find (not_before w.number) (kept_in vs))) none ∙
+      root_found (n + 1) vs h.1 l)
       (contains_cases v vs w c)

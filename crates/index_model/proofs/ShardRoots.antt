@@ -59,8 +59,8 @@ find_number n [] w h c = absurd (omega (arith, c.1))
 find_number n (v ∷ vs) w h c = ⊎_elim
     (λ (same : v ≡ w). ap (λ (b : Bool). cond b (Some v) (find (λ x. eqb x.number w.number) vs)) (eq-eqb v.number w.number (ap (λ (x : Walked). x.number) same)) ∙ ap {B = Option Walked} (λ (x : Walked). Some x) same)
     (λ (l : Contains vs w).
-      let low = numbered_low (n + 1) vs w h.1 l in
-      ap (λ (b : Bool). cond b (Some v) (find (λ x. eqb x.number w.number) vs)) (ne_eqb v.number w.number (λ e. omega (arith, low, h.0, e))) ∙ find_number (n + 1) vs w h.1 l)
+    let low = numbered_low (n + 1) vs w h.1 l in
+    ap (λ (b : Bool). cond b (Some v) (find (λ x. eqb x.number w.number) vs)) (ne_eqb v.number w.number (λ e. omega (arith, low, h.0, e))) ∙ find_number (n + 1) vs w h.1 l)
     (contains_cases v vs w c)
 
 -- ---- roots
@@ -73,23 +73,23 @@ roots_at : (unit n : ℕ) (run : List Walked) → Numbered n run → cond (leb n
 roots_at unit n [] h = no_root (leb n unit)
 roots_at unit n (w ∷ ws) h = ⊎_elim
     (λ (same : n ≡ unit).
-      let zero_ : unit - n ≡ 0 = omega (arith, same) in
-      let left : cond (leb n unit) (slice_get (map root_facts (w ∷ ws)) (unit - n)) None ≡ Some (root_facts w) = rw (le-leb n unit (omega (arith, same)), zero_) refl in
-      let right : find (λ x. eqb x.number unit) (w ∷ ws) ≡ Some w = ap (λ (b : Bool). cond b (Some w) (find (λ x. eqb x.number unit) ws)) (eq-eqb w.number unit (h.0 ∙ same)) in
-      left ∙ ap (option_map root_facts) (sym right))
+    let zero_ : unit - n ≡ 0 = omega (arith, same) in
+    let left : cond (leb n unit) (slice_get (map root_facts (w ∷ ws)) (unit - n)) None ≡ Some (root_facts w) = rw (le-leb n unit (omega (arith, same)), zero_) refl in
+    let right : find (λ x. eqb x.number unit) (w ∷ ws) ≡ Some w = ap (λ (b : Bool). cond b (Some w) (find (λ x. eqb x.number unit) ws)) (eq-eqb w.number unit (h.0 ∙ same)) in
+    left ∙ ap (option_map root_facts) (sym right))
     (λ (other : (n < unit) ⊎ (unit < n)).
-      let skip : (w.number ≡ unit → ⊥) → find (λ x. eqb x.number unit) ws ≡ find (λ x. eqb x.number unit) (w ∷ ws) = λ off. ap (λ (b : Bool). cond b (Some w) (find (λ x. eqb x.number unit) ws)) (sym (ne_eqb w.number unit off)) in
-      ⊎_elim
-      (λ (lt : n < unit).
-        let more : unit - n ≡ suc (unit - (n + 1)) = omega (arith, lt) in
-        let left : cond (leb n unit) (slice_get (map root_facts (w ∷ ws)) (unit - n)) None ≡ slice_get (map root_facts ws) (unit - (n + 1)) = rw (le-leb n unit (omega (arith, lt)), more) refl in
-        let next : cond (leb (n + 1) unit) (slice_get (map root_facts ws) (unit - (n + 1))) None ≡ slice_get (map root_facts ws) (unit - (n + 1)) = ap (λ (b : Bool). cond b (slice_get (map root_facts ws) (unit - (n + 1))) None) (le-leb (n + 1) unit (omega (arith, lt))) in
-        left ∙ sym next ∙ roots_at unit (n + 1) ws h.1 ∙ ap (option_map root_facts) (skip (λ e. omega (arith, e, lt, h.0))))
-      (λ (gt : unit < n).
-        let left : cond (leb n unit) (slice_get (map root_facts (w ∷ ws)) (unit - n)) None ≡ None = ap (λ (b : Bool). cond b (slice_get (map root_facts (w ∷ ws)) (unit - n)) None) (lt-leb n unit gt) in
-        let next : cond (leb (n + 1) unit) (slice_get (map root_facts ws) (unit - (n + 1))) None ≡ None = ap (λ (b : Bool). cond b (slice_get (map root_facts ws) (unit - (n + 1))) None) (lt-leb (n + 1) unit (omega (arith, gt))) in
-        left ∙ sym next ∙ roots_at unit (n + 1) ws h.1 ∙ ap (option_map root_facts) (skip (λ e. omega (arith, e, gt, h.0))))
-      other)
+    let skip : (w.number ≡ unit → ⊥) → find (λ x. eqb x.number unit) ws ≡ find (λ x. eqb x.number unit) (w ∷ ws) = λ off. ap (λ (b : Bool). cond b (Some w) (find (λ x. eqb x.number unit) ws)) (sym (ne_eqb w.number unit off)) in
+    ⊎_elim
+    (λ (lt : n < unit).
+    let more : unit - n ≡ suc (unit - (n + 1)) = omega (arith, lt) in
+    let left : cond (leb n unit) (slice_get (map root_facts (w ∷ ws)) (unit - n)) None ≡ slice_get (map root_facts ws) (unit - (n + 1)) = rw (le-leb n unit (omega (arith, lt)), more) refl in
+    let next : cond (leb (n + 1) unit) (slice_get (map root_facts ws) (unit - (n + 1))) None ≡ slice_get (map root_facts ws) (unit - (n + 1)) = ap (λ (b : Bool). cond b (slice_get (map root_facts ws) (unit - (n + 1))) None) (le-leb (n + 1) unit (omega (arith, lt))) in
+    left ∙ sym next ∙ roots_at unit (n + 1) ws h.1 ∙ ap (option_map root_facts) (skip (λ e. omega (arith, e, lt, h.0))))
+    (λ (gt : unit < n).
+    let left : cond (leb n unit) (slice_get (map root_facts (w ∷ ws)) (unit - n)) None ≡ None = ap (λ (b : Bool). cond b (slice_get (map root_facts (w ∷ ws)) (unit - n)) None) (lt-leb n unit gt) in
+    let next : cond (leb (n + 1) unit) (slice_get (map root_facts ws) (unit - (n + 1))) None ≡ None = ap (λ (b : Bool). cond b (slice_get (map root_facts ws) (unit - (n + 1))) None) (lt-leb (n + 1) unit (omega (arith, gt))) in
+    left ∙ sym next ∙ roots_at unit (n + 1) ws h.1 ∙ ap (option_map root_facts) (skip (λ e. omega (arith, e, gt, h.0))))
+    other)
     (cases_order n unit)
 
 -- a shard says of a unit the facts of its root, if the unit is one of its run

@@ -41,14 +41,14 @@ module _ {A : Type 0} (R : A → A → Type 0) (p : A → Bool) where
     passes on h = ⊎_elim
         (λ (l : ((x : A) → Contains ys x → p x ≡ true → ⊥) × (r ≡ Some y)). inr (y, l.1, contains_here y ys, on, λ x c t. ⊎_elim (λ (same : y ≡ x). inl (sym same)) (λ (later : Contains ys x). absurd (l.0 x later t)) (contains_cases y ys x c)))
         (λ (g : (e : A) × (r ≡ Some e) × Contains ys e × (p e ≡ true) × ((x : A) → Contains ys x → p x ≡ true → (x ≡ e) ⊎ R x e)).
-          inr (g.0, g.1, contains_later y ys g.0 g.2, g.3, λ x c t. ⊎_elim (λ (same : y ≡ x). inr (subst (λ (z : A). R z g.0) same (first g.0 g.2))) (λ (later : Contains ys x). g.4 x later t) (contains_cases y ys x c)))
+        inr (g.0, g.1, contains_later y ys g.0 g.2, g.3, λ x c t. ⊎_elim (λ (same : y ≡ x). inr (subst (λ (z : A). R z g.0) same (first g.0 g.2))) (λ (later : Contains ys x). g.4 x later t) (contains_cases y ys x c)))
         h
 
     skips : p y ≡ false → IsLast ys before r → IsLast (y ∷ ys) before r
     skips off h = ⊎_elim
         (λ (l : ((x : A) → Contains ys x → p x ≡ true → ⊥) × (r ≡ before)). inl (λ x c t. ⊎_elim (λ (same : y ≡ x). true≢false (sym t ∙ ap p (sym same) ∙ off)) (λ (later : Contains ys x). l.0 x later t) (contains_cases y ys x c), l.1))
         (λ (g : (e : A) × (r ≡ Some e) × Contains ys e × (p e ≡ true) × ((x : A) → Contains ys x → p x ≡ true → (x ≡ e) ⊎ R x e)).
-          inr (g.0, g.1, contains_later y ys g.0 g.2, g.3, λ x c t. ⊎_elim (λ (same : y ≡ x). absurd (true≢false (sym t ∙ ap p (sym same) ∙ off))) (λ (later : Contains ys x). g.4 x later t) (contains_cases y ys x c)))
+        inr (g.0, g.1, contains_later y ys g.0 g.2, g.3, λ x c t. ⊎_elim (λ (same : y ≡ x). absurd (true≢false (sym t ∙ ap p (sym same) ∙ off))) (λ (later : Contains ys x). g.4 x later t) (contains_cases y ys x c)))
         h
 
   pub last_is : (xs : List A) (before : Option A) → Pairs R xs → IsLast xs before (last_or before (filter p xs))
@@ -95,8 +95,8 @@ children_inside ss u w is =
     let tokens : List Token = (walk_of u.1 r.0 (body ss u.1)).tokens in
     let f : Follow start (body ss u.1) tokens = walk_follows u.1 r.0 (body ss u.1) in
     let made : (d : Item) → Contains (entries tokens) d → first_place (filter_map (ends_children d) tokens) (u.1.start + u.1.length) ≤ u.1.start + u.1.length = λ d c.
-        let b = bounded start (body ss u.1) tokens f d c in
-        ends_inside d (u.1.start + u.1.length) start (body ss u.1) tokens f (omega (arith, b.0, b.1, b.2, length-take (u.1.length - u.1.body) own)) in
+    let b = bounded start (body ss u.1) tokens f d c in
+    ends_inside d (u.1.start + u.1.length) start (body ss u.1) tokens f (omega (arith, b.0, b.1, b.2, length-take (u.1.length - u.1.body) own)) in
     subst (λ (v : Walked). (d : Item) → Contains (items_of v) d → first_place (filter_map (ends_children d) v.walk.tokens) (v.unit.start + v.unit.length) ≤ v.unit.start + v.unit.length) r.1 made
 
 -- what is known of a span of a unit
@@ -137,11 +137,11 @@ run_rises ss [] a = tt
 run_rises ss (w ∷ ws) a =
     let others = run_rises ss ws (record { apart = a.apart.1; walks = λ v c. a.walks v (contains_later w ws v c) }) in
     pairs_append Later (spans_of w) (flat_map spans_of ws) (unit_rises ss w (a.walks w (contains_here w ws))) others (λ s t sc tc.
-      let v = of_flat_map spans_of ws t tc in
-      let x = spans_inside ss w (a.walks w (contains_here w ws)) s sc in
-      let y = spans_inside ss v.0 (a.walks v.0 (contains_later w ws v.0 v.1)) t v.2 in
-      let z = a.apart.0 v.0 v.1 in
-      omega (arith, x.from, y.begins, z.1))
+    let v = of_flat_map spans_of ws t tc in
+    let x = spans_inside ss w (a.walks w (contains_here w ws)) s sc in
+    let y = spans_inside ss v.0 (a.walks v.0 (contains_later w ws v.0 v.1)) t v.2 in
+    let z = a.apart.0 v.0 v.1 in
+    omega (arith, x.from, y.begins, z.1))
 
 to_flat_map : {A B : Type 0} (f : A → List B) (xs : List A) (x : A) (y : B) → Contains xs x → Contains (f x) y → Contains (flat_map f xs) y
 to_flat_map f [] x y c l = absurd (omega (arith, c.1))
@@ -159,12 +159,12 @@ module _ (ss : List Section) (run : List Walked) (a : AreApart ss run) (w : Walk
       let walk = a.walks w wc in
       let o = (walks_in_order ss walk.0 w walk.1).inside d dc in
       ⊎_elim
-        (λ (same : v.0 ≡ w). subst (λ (y : Walked). Contains (spans_of y) s) same v.2)
-        (λ (other : Apart v.0 w ⊎ Apart w v.0). ⊎_elim
-          (λ (l : Apart v.0 w). absurd (omega (arith, l.1, o.begins, h.1, x.to)))
-          (λ (r : Apart w v.0). absurd (omega (arith, r.1, o.some, o.ends, h.0, x.begins)))
-          other)
-        (pairs_cases Apart run a.apart v.0 w v.1 wc)
+      (λ (same : v.0 ≡ w). subst (λ (y : Walked). Contains (spans_of y) s) same v.2)
+      (λ (other : Apart v.0 w ⊎ Apart w v.0). ⊎_elim
+      (λ (l : Apart v.0 w). absurd (omega (arith, l.1, o.begins, h.1, x.to)))
+      (λ (r : Apart w v.0). absurd (omega (arith, r.1, o.some, o.ends, h.0, x.begins)))
+      other)
+      (pairs_cases Apart run a.apart v.0 w v.1 wc)
 
   -- so is the innermost
   module _ (e : Item) (s : IsInnermost (spans_of w) d.at (span_of w e)) where
@@ -188,7 +188,7 @@ module _ (place : ℕ) where
     none_open none = ⊎_elim
         (λ (l : ((s : Span) → Contains begun s → is_open s ≡ true → ⊥) × (last_or None (filter is_open begun) ≡ None)). l.1)
         (λ (g : (s : Span) × (last_or None (filter is_open begun) ≡ Some s) × Contains begun s × (is_open s ≡ true) × ((x : Span) → Contains begun x → is_open x ≡ true → (x ≡ s) ⊎ Later x s)).
-          let m = h.members g.0 g.2 in absurd (none g.0 m.0 (m.1, ltb-true place g.0.to g.3)))
+        let m = h.members g.0 g.2 in absurd (none g.0 m.0 (m.1, ltb-true place g.0.to g.3)))
         (last_is Later is_open begun None h.rise)
 
     innermost_open : (s : Span) → IsInnermost spans place s → last_or None (filter is_open begun) ≡ Some s
@@ -198,11 +198,11 @@ module _ (place : ℕ) where
         ⊎_elim
         (λ (l : ((x : Span) → Contains begun x → is_open x ≡ true → ⊥) × (last_or None (filter is_open begun) ≡ None)). absurd (l.0 s c on))
         (λ (g : (x : Span) × (last_or None (filter is_open begun) ≡ Some x) × Contains begun x × (is_open x ≡ true) × ((y : Span) → Contains begun y → is_open y ≡ true → (y ≡ x) ⊎ Later y x)).
-          let m = h.members g.0 g.2 in
-          g.1 ∙ ap (λ (x : Span). Some x) (⊎_elim
-            (λ (same : g.0 ≡ s). same)
-            (λ (lt : Later g.0 s). ⊎_elim (λ (same : s ≡ g.0). sym same) (λ (gt : Later s g.0). absurd (omega (arith, lt, gt))) (g.4 s c on))
-            (i.greatest g.0 m.0 (m.1, ltb-true place g.0.to g.3))))
+        let m = h.members g.0 g.2 in
+        g.1 ∙ ap (λ (x : Span). Some x) (⊎_elim
+        (λ (same : g.0 ≡ s). same)
+        (λ (lt : Later g.0 s). ⊎_elim (λ (same : s ≡ g.0). sym same) (λ (gt : Later s g.0). absurd (omega (arith, lt, gt))) (g.4 s c on))
+        (i.greatest g.0 m.0 (m.1, ltb-true place g.0.to g.3))))
         (last_is Later is_open begun None h.rise)
 
 -- the first n, where they begin at the place or before it and the others later
@@ -242,14 +242,14 @@ module _ (ss : List Section) (run : List Walked) (a : AreApart ss run) (begun : 
   parent_in : (w : Walked) → Contains run w → (d : Item) → Contains (items_of w) d → AreBegun d.at (flat_map spans_of run) begun → option_map entry (last_or None (filter (is_open d.at) begun)) ≡ option_map (λ e. e.at) (parent_of (items_of w) d)
   parent_in w wc d dc b = ⊎_elim
       (λ (top : d.depth ≡ 0).
-        let walk = a.walks w wc in
-        let none = none_open d.at (flat_map spans_of run) begun b (λ s c h. root_in_no_span ss walk.0 w walk.1 d dc top s (same_unit ss run a w wc d dc s c h) h) in
-        ap (option_map entry) none ∙ ap (option_map (λ e. e.at)) (sym ((walks_in_order ss walk.0 w walk.1).root d dc top).1))
+      let walk = a.walks w wc in
+      let none = none_open d.at (flat_map spans_of run) begun b (λ s c h. root_in_no_span ss walk.0 w walk.1 d dc top s (same_unit ss run a w wc d dc s c h) h) in
+      ap (option_map entry) none ∙ ap (option_map (λ e. e.at)) (sym ((walks_in_order ss walk.0 w walk.1).root d dc top).1))
       (λ (deep : 0 < d.depth).
-        let walk = a.walks w wc in
-        let p = parent_innermost ss walk.0 w walk.1 d dc deep in
-        let found = innermost_open d.at (flat_map spans_of run) begun b (span_of w p.0) (in_run ss run a w wc d dc p.0 p.2) in
-        ap (option_map entry) found ∙ ap (λ (n : ℕ). Some n) (entry_is w p.0) ∙ ap (option_map (λ e. e.at)) (sym p.1))
+      let walk = a.walks w wc in
+      let p = parent_innermost ss walk.0 w walk.1 d dc deep in
+      let found = innermost_open d.at (flat_map spans_of run) begun b (span_of w p.0) (in_run ss run a w wc d dc p.0 p.2) in
+      ap (option_map entry) found ∙ ap (λ (n : ℕ). Some n) (entry_is w p.0) ∙ ap (option_map (λ e. e.at)) (sym p.1))
       (zero_or_more d.depth)
 
   pub parent_found : (d : Located) → Contains (flat_map located run) d → AreBegun d.item.at (flat_map spans_of run) begun → option_map entry (last_or None (filter (is_open d.item.at) begun)) ≡ parent_offset d
@@ -257,7 +257,7 @@ module _ (ss : List Section) (run : List Walked) (a : AreApart ss run) (begun : 
       let w = of_flat_map located run d c in
       let x = of_map (λ e. let l : Located = record { home = w.0; item = e } in l) (items_of w.0) d w.2 in
       subst (λ (y : Located). AreBegun y.item.at (flat_map spans_of run) begun → option_map entry (last_or None (filter (is_open y.item.at) begun)) ≡ parent_offset y) x.2
-        (λ h. parent_in w.0 w.1 x.0 x.1 h ∙ mapped w.0 (parent_of (items_of w.0) x.0)) b
+      (λ h. parent_in w.0 w.1 x.0 x.1 h ∙ mapped w.0 (parent_of (items_of w.0) x.0)) b
 
 -- ---- the last of a list that grows
 
@@ -304,7 +304,7 @@ parent_right s place spans n is within point f p run file part stands d c at =
     let rise : Pairs Later spans = subst (Pairs Later) (sym whole) (run_rises p.sections run a) in
     let parts = point (parted spans place rise) in
     let begun : AreBegun place spans (take n spans) = begun_first place spans rise n within
-        (λ k e lt. leb-true _ place (parts.0 k e (omega arith) lt))
-        (λ k e le lt. leb-false _ place (parts.1 k e le lt)) in
+    (λ k e lt. leb-true _ place (parts.0 k e (omega arith) lt))
+    (λ k e le lt. leb-false _ place (parts.1 k e le lt)) in
     let here : AreBegun d.item.at (flat_map spans_of run) (take n spans) = subst (λ (m : ℕ). AreBegun m (flat_map spans_of run) (take n spans)) (sym at) (subst (λ (xs : List Span). AreBegun place xs (take n spans)) whole begun) in
     subst (λ (m : ℕ). option_map entry (last_or None (filter (is_open m) (take n spans))) ≡ parent_offset d) at (parent_found p.sections run a (take n spans) d c here)

@@ -35,13 +35,13 @@ module _ {A : Type 0} (R : A → A → Type 0) where
   pairs_cases [] h x y xc yc = absurd (omega (arith, xc.1))
   pairs_cases (z ∷ zs) h x y xc yc = ⊎_elim
       (λ (zx : z ≡ x). ⊎_elim
-        (λ (zy : z ≡ y). inl (subst (λ (w : A). w ≡ y) zx zy))
-        (λ (yl : Contains zs y). inr (inl (subst (λ (w : A). R w y) zx (h.0 y yl))))
-        (contains_cases z zs y yc))
+      (λ (zy : z ≡ y). inl (subst (λ (w : A). w ≡ y) zx zy))
+      (λ (yl : Contains zs y). inr (inl (subst (λ (w : A). R w y) zx (h.0 y yl))))
+      (contains_cases z zs y yc))
       (λ (xl : Contains zs x). ⊎_elim
-        (λ (zy : z ≡ y). inr (inr (subst (λ (w : A). R w x) zy (h.0 x xl))))
-        (λ (yl : Contains zs y). pairs_cases zs h.1 x y xl yl)
-        (contains_cases z zs y yc))
+      (λ (zy : z ≡ y). inr (inr (subst (λ (w : A). R w x) zy (h.0 x xl))))
+      (λ (yl : Contains zs y). pairs_cases zs h.1 x y xl yl)
+      (contains_cases z zs y yc))
       (contains_cases z zs x xc)
 
 -- ---- units
@@ -63,13 +63,12 @@ tiles_apart section base k i (u ∷ us) t =
     let rest : length (drop u.length i.rest) ≡ length t.1.rest = ap (λ (x : Input). length x.rest) h.passes.on in
     let cut = length-drop u.length i.rest in
     let there : u.length ≤ length i.rest = h.passes.there in
-    let start : u.start ≡ base + i.at = h.start in
-    (
+    let start : u.start ≡ base + i.at = h.start in (
       (λ v c. let l = r.1 v c in omega (arith, l.0, at, start), r.0),
       λ v c. ⊎_elim
-        (λ (same : u ≡ v). subst (Lies base i) same (omega (arith, start), omega (arith, start, there)))
-        (λ (later : Contains us v). let l = r.1 v later in (omega (arith, l.0, at), omega (arith, l.1, at, rest, cut, there)))
-        (contains_cases u us v c),
+          (λ (same : u ≡ v). subst (Lies base i) same (omega (arith, start), omega (arith, start, there)))
+          (λ (later : Contains us v). let l = r.1 v later in (omega (arith, l.0, at), omega (arith, l.1, at, rest, cut, there)))
+          (contains_cases u us v c),
     )
 
 units_apart : (ss : List Section) (us : List UnitHeader) → units_of ss ≡ Ok us → Pairs ApartUnits us
@@ -109,13 +108,12 @@ scans_apart ss n (u ∷ us) (w ∷ ws) s p =
     let parts = walk_parts ss (n, u) w own in
     let number : w.number ≡ n = parts.0 in
     let unit : w.unit ≡ u = parts.1 in
-    let r = scans_apart ss (n + 1) us ws s.1 p.1 in
-    (
+    let r = scans_apart ss (n + 1) us ws s.1 p.1 in (
       (λ v c. let o = r.1 v c in (omega (arith, number, o.number), subst (λ (x : UnitHeader). x.start + x.length ≤ v.unit.start) (sym unit) (p.0 v.unit o.unit)), r.0),
       λ v c. ⊎_elim
-        (λ (same : w ≡ v). subst (IsOne ss n (u ∷ us)) same (record { walk = ((n, u), own); unit = subst (Contains (u ∷ us)) (sym unit) (contains_here u us); number = omega (arith, number) }))
-        (λ (later : Contains ws v). let o = r.1 v later in record { walk = o.walk; unit = contains_later u us v.unit o.unit; number = omega (arith, o.number) })
-        (contains_cases w ws v c),
+          (λ (same : w ≡ v). subst (IsOne ss n (u ∷ us)) same (record { walk = ((n, u), own); unit = subst (Contains (u ∷ us)) (sym unit) (contains_here u us); number = omega (arith, number) }))
+          (λ (later : Contains ws v). let o = r.1 v later in record { walk = o.walk; unit = contains_later u us v.unit o.unit; number = omega (arith, o.number) })
+          (contains_cases w ws v c),
     )
 
 -- what holds of the walks of consecutive units

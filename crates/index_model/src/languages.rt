@@ -109,3 +109,91 @@ fn imported_from(shard: &Shard<'_>, offset: u64, import: &Import) -> Option<u16>
     }
     root_in(shard, import.unit)?.language
 }
+
+#[cfg(test)]
+mod tests {
+    use super::*;
+    use crate::list::List;
+    use std::alloc::{AllocError, Global};
+
+    fn root(language: Option<u16>, partial: bool) -> Root {
+        Root {
+            language,
+            addr_base: None,
+            rnglists_base: None,
+            partial,
+        }
+    }
+
+    // The node of a unit's root.
+    fn node(unit: u32, offset: u64) -> Node<'static> {
+        Node {
+            unit,
+            offset,
+            parent: None,
+            tag: 0x3c,
+            declaration: false,
+            external: false,
+            enum_class: false,
+            main: false,
+            address: false,
+            value: false,
+            name: None,
+            linkage: None,
+            next: None,
+            signature: None,
+            low: None,
+            high: None,
+            ranges: None,
+        }
+    }
+
+    fn shard<'f>(
+        alloc: Global,
+        first: u32,
+        roots: &[Root],
+        nodes: &[Node<'f>],
+        imports: &[Import],
+    ) -> Result<Arc<Shard<'f>>, AllocError> {
+        let shard = Shard {
+            first,
+            roots: List::of(Vec::from_slice(alloc, roots)?),
+            nodes: List::of(Vec::from_slice(alloc, nodes)?),
+            spans: List::of(Vec::new(alloc)),
+            imports: List::of(Vec::from_slice(alloc, imports)?),
+        };
+        Ok(Arc::new(alloc, shard)?)
+    }
+
+    // The first unit is partial, the second imports it and has no language, and the third imports it and is in Ada.
+    #[test]
+    fn a_partial_unit_has_an_importers_language(rt: HostRuntime) -> Result<(), AllocError> {
+        let alloc = rt.alloc();
+        let front = shard(
+            alloc,
+            0,
+            &[root(None, true), root(None, false)],
+            &[node(0, 0xc), node(1, 0x2c)],
+            &[Import {
+                unit: 1,
+                target: 0xc,
+            }],
+        )?;
+        let none = shard(alloc, 0, &[], &[], &[])?;
+        let back = shard(
+            alloc,
+            2,
+            &[root(Some(0xd), false)],
+            &[node(2, 0x43)],
+            &[Import {
+                unit: 2,
+                target: 0xc,
+            }],
+        )?;
+        let shards = [none, front, back];
+        assert_eq!(rt; language(&shards, 0), 0xd);
+        assert_eq!(rt; language(&shards, 1), 0);
+        assert_eq!(rt; language(&shards, 2), 0xd);
+        Ok(())
+    }
+}
