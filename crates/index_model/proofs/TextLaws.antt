@@ -2,7 +2,7 @@
 use Rattle.std.proofs.Common.{◌≡◌, ℕ, ◌+◌, ◌-◌, ◌<◌, ◌≤◌, Bool, true, false, cond, eqb, List, [], ◌∷◌, length, take, drop, Option, Some, None, refl, sym, ap, subst, ◌∙◌, arith, length-take, length-drop, ⊎_elim}
 use Rattle.std.specs.Prelude.{Contains, find}
 use Rattle.std.specs.Option.{option_map}
-use Rattle.std.proofs.lemmas.List.{drop-drop, drop-take}
+use Rattle.std.proofs.lemmas.List.{drop-drop, drop-take, take-append-drop, take-append-le}
 use Rattle.ix_base.specs.Reading.{Input}
 use Rattle.index_model.specs.declared.unit.Unit.{Unit as UnitHeader}
 use Rattle.index_model.specs.Sections.{Section}
@@ -10,7 +10,7 @@ use Rattle.index_model.specs.Forms.{Value, Inline}
 use Rattle.index_model.specs.Walk.{Item, Token, Null, Entry, Levels, walk_of}
 use Rattle.index_model.specs.WalkLeft.{levels_after}
 use Rattle.index_model.specs.Program.{Walked, items_of, joint, body}
-use Rattle.index_model.specs.LawsTexts.{StandsInEntry, InlineTextsStandInTheirEntries, AttributeTextsStandInTheirEntries}
+use Rattle.index_model.specs.LawsTexts.{StandsIn, StandsInEntry, InlineTextsStandInTheirEntries, AttributeTextsStandInTheirEntries}
 use Rattle.index_model.proofs.Meanings.{contains_here, contains_later, contains_cases, same_some}
 use Rattle.index_model.proofs.TokenReads.{Follow, start, walk_follows}
 use Rattle.index_model.proofs.OrderLaws.{entries, bounded}
@@ -101,3 +101,28 @@ attribute_texts_in ss u w is d c n text v =
     let m = found (λ x. eqb x.0 n) d.values f.0 f.1 in
     let same : f.0 ≡ (f.0.0, Inline text) = ap (λ (y : Value). let x : ℕ × Value = (f.0.0, y) in x) f.2 in
     texts_in ss u w is d c f.0.0 text (subst (Contains d.values) same m.0)
+
+-- a text that stands between two places stands in the bytes between them
+module _ (bytes text : List ℕ) (from to : ℕ) (s : StandsIn bytes text from to) where
+  abbrev part : List ℕ
+  part = take (to - from) (drop from bytes)
+
+  pub in_part : StandsIn part text 0 (to - from)
+  in_part =
+      let k = s.place - from in
+      let r = to - s.place in
+      let size : to - from ≡ k + r = omega (arith, s.begins, s.ends) in
+      let at : from + k ≡ s.place = omega (arith, s.begins) in
+      let rest = drop s.place bytes in
+      let cut = length-take r rest in
+      let left = length-drop s.place bytes in
+      let fits : length text ≤ length (take r rest) = omega (arith, s.ends, s.inside, cut, left) in
+      let moved : drop k part ≡ take r rest = ap (λ (n : ℕ). drop k (take n (drop from bytes))) size ∙ drop-take k r (drop from bytes) ∙ ap (take r) (drop-drop k from bytes ∙ ap (λ (n : ℕ). drop n bytes) at) in
+      let same : take (length text) (take r rest) ≡ take (length text) rest = sym (take-append-le (length text) (take r rest) (drop r rest) fits) ∙ ap (take (length text)) (take-append-drop r rest) in
+      record {
+        place = k;
+        begins = omega arith;
+        ends = omega (arith, s.begins, s.ends);
+        inside = omega (arith, s.begins, s.ends, s.inside, length-take (to - from) (drop from bytes), length-drop from bytes);
+        is = ap (take (length text)) moved ∙ same ∙ s.is;
+      }

@@ -104,7 +104,7 @@ pub struct Import {
 /// What stands for the walks of a run of consecutive units. All lists are in section order.
 #[derive(Drop)]
 pub struct Shard<'f> {
-    /// The number of the run's first unit.
+    /// The number of the run's first unit. Of a run without units it says nothing.
     pub first: u32,
     /// One of each unit.
     pub roots: List<Root>,
