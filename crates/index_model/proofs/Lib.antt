@@ -20,6 +20,7 @@ pub mod UnitsApart
 pub mod SpanOrder
 pub mod ShardRoots
 pub mod ShardNodes
+pub mod ShardRuns
 pub mod UnitLanguages
 pub mod ResumeLaws
 pub mod SimpleNames

@@ -27,7 +27,7 @@ first_some f (x ∷ xs) = option_or (f x) (first_some f xs)
 abbrev pub root_in : ℕ → Shard → Option Root
 root_in unit s = if nat_le s.first unit then slice_get s.roots (unit - s.first) else None
 
--- the offset of the first node of the unit, which is that of its root
+-- the offset of the first node that isn't before the unit; where the unit has a root this is the root's
 abbrev pub first_node : ℕ → List Node → Option ℕ
 first_node unit nodes = option_map (λ n. n.offset) (find (λ n. nat_le unit n.unit) nodes)
 
