@@ -1,0 +1,2 @@
+pub mod UnitAt
+pub mod Adding

@@ -1,0 +1,126 @@
+//! The pieces of ranges, by halves: the pieces of the ranges in front are laid over those of the ranges behind them.
+//!
+//! Each merge is one pass, so n ranges cost n log n whatever their overlaps.
+
+ghost use Rattle.std.specs.Prelude.{◌≡◌, ◌≤◌, [], ◌∷◌, ◌++◌, length, drop, IfOk, OnOk};
+ghost use Rattle.index_model.specs.Pieces.{AreApart, IsPieces};
+ghost use Rattle.address_map.specs.Overlay.{EndsBy, IsFilled, IsLeft, part_of};
+
+use index_model::{Range, UnitRange};
+use ix_base::NoMemory;
+use std::alloc::Global;
+
+// The pieces of ranges that stand in section order.
+pub(crate) fn overlay(alloc: Global, ranges: &[UnitRange]) -> Result<Vec<UnitRange>, NoMemory>
+    ensures { IfOk result (λ ps. IsPieces ranges.now ps.items) }
+{
+    match ranges {
+        [] => Ok(Vec::new(alloc)),
+        [range] => alone(alloc, *range),
+        _ => {
+            let (front, behind) = ranges.split_at(ranges.len() / 2);
+            let first = overlay(alloc, front)?;
+            let second = overlay(alloc, behind)?;
+            over(alloc, &first, &second)
+        }
+    }
+}
+
+// The piece of one range, if it has an address.
+fn alone(alloc: Global, range: UnitRange) -> Result<Vec<UnitRange>, NoMemory>
+    ensures { IfOk result (λ ps. IsPieces (range ∷ []) ps.items) }
+{
+    let mut pieces = Vec::new(alloc);
+    add(&mut pieces, range)?;
+    Ok(pieces)
+}
+
+// The pieces of two lists of pieces, of which the first wins where both have a unit.
+fn over(
+    alloc: Global,
+    first: &[UnitRange],
+    second: &[UnitRange],
+) -> Result<Vec<UnitRange>, NoMemory>
+    requires first { AreApart first.now }
+    requires second { AreApart second.now }
+    ensures { IfOk result (λ ps. IsPieces (first.now ++ second.now) ps.items) }
+{
+    let mut pieces = Vec::with_capacity(alloc, room(first.len(), second.len()))?;
+    let mut rest = second;
+    let mut from = 0;
+    'first: for piece in first {
+        let gap = Range {
+            low: from,
+            end: piece.range.low,
+        };
+        let done = fill(&mut pieces, rest, gap)?;
+        rest = &rest[done..];
+        add(&mut pieces, *piece)?;
+        from = piece.range.end;
+    }
+    let gap = Range {
+        low: from,
+        end: u64::MAX,
+    };
+    fill(&mut pieces, rest, gap)?;
+    Ok(pieces)
+}
+
+// How many pieces two lists of so many can make: each piece of the first can cut one of the second in two.
+fn room(first: usize, second: usize) -> usize {
+    first.saturating_mul(2).saturating_add(second)
+}
+
+// Adds what others have in a gap behind the pieces, and says how many of the others end there or before.
+fn fill(pieces: &mut Vec<UnitRange>, others: &[UnitRange], gap: Range) -> Result<usize, NoMemory>
+    requires apart { AreApart pieces.old.items }
+    requires others { AreApart others.now }
+    requires gap { gap.low ≤ gap.end }
+    requires behind { EndsBy gap.low pieces.old.items }
+    ensures filled { OnOk result (IsFilled gap pieces.old.items others.now pieces.new.items) }
+    ensures within { IfOk result (λ n. n ≤ length others.now) }
+    ensures left { IfOk result (λ n. IsLeft gap.end others.now (drop n others.now)) }
+{
+    'others: for (count, other) in others.iter().enumerate() {
+        if gap.end <= other.range.low {
+            return Ok(count);
+        }
+        add(pieces, part(other, gap))?;
+        if gap.end < other.range.end {
+            return Ok(count);
+        }
+    }
+    Ok(others.len())
+}
+
+// The part of a piece that lies in the gap.
+fn part(piece: &UnitRange, gap: Range) -> UnitRange
+    ensures { result ≡ part_of piece.now gap }
+{
+    UnitRange {
+        unit: piece.unit,
+        range: Range {
+            low: piece.range.low.max(gap.low),
+            end: piece.range.end.min(gap.end),
+        },
+    }
+}
+
+// Adds a piece behind the others, unless it has no address. If the last touches it and has its unit, the two are one.
+fn add(pieces: &mut Vec<UnitRange>, piece: UnitRange) -> Result<(), NoMemory>
+    requires apart { AreApart pieces.old.items }
+    requires behind { EndsBy piece.range.low pieces.old.items }
+    ensures { OnOk result (IsPieces (piece ∷ pieces.old.items) pieces.new.items) }
+{
+    if piece.range.end <= piece.range.low {
+        return Ok(());
+    }
+    if let Some(last) = pieces.last_mut() {
+        if last.unit == piece.unit && last.range.end == piece.range.low {
+            last.range.end = piece.range.end;
+            return Ok(());
+        }
+    }
+    pieces.push(piece)?;
+    Ok(())
+}
