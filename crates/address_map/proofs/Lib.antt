@@ -1,2 +1,4 @@
 pub mod UnitAt
 pub mod Adding
+pub mod Fronts
+pub mod Filling

@@ -1,5 +1,5 @@
 -- The unit at an address in a list of ranges, and in a list of pieces.
-use Rattle.std.proofs.Common.{◌≡◌, ℕ, ◌+◌, ◌-◌, suc, zero, ◌<◌, ◌≤◌, Bool, true, false, ◌&&◌, cond, ltb, leb, List, [], ◌∷◌, ◌++◌, length, get_or, take, drop, Option, Some, None, refl, arith, ap, sym, ◌∙◌, inl, inr}
+use Rattle.std.proofs.Common.{◌≡◌, ℕ, ◌+◌, ◌-◌, suc, zero, ◌<◌, ◌≤◌, Bool, true, false, ◌&&◌, cond, ltb, leb, List, [], ◌∷◌, ◌++◌, length, get_or, take, drop, Option, Some, None, refl, arith, ap, sym, ◌∙◌, inl, inr, add-one}
 use Rattle.std.proofs.lemmas.Bool.{cases_lt}
 use Rattle.std.proofs.lemmas.Bool.Decides.{nat_tests}
 use Rattle.index_model.specs.declared.range.UnitRange.{UnitRange}
@@ -85,3 +85,12 @@ drop_apart [] k apart = apart_empty k
     apart_empty (suc k) = tt
 drop_apart (p ∷ ps) zero apart = apart
 drop_apart (p ∷ ps) (suc k) apart = drop_apart ps k (behind_first p ps apart).2
+
+-- a piece begins where the one before it ends, or behind it
+pub next_low : (ps : List UnitRange) (k : ℕ) (d : UnitRange) → AreApart ps → k + 1 < length ps → (get_or ps k d).range.end ≤ (get_or ps (k + 1) d).range.low
+next_low ps k d apart lt = rw (add-one k) (go ps k apart (omega (arith, lt)))
+  where
+    go : (ps : List UnitRange) (k : ℕ) → AreApart ps → suc k < length ps → (get_or ps k d).range.end ≤ (get_or ps (suc k) d).range.low
+    go [] k apart lt = absurd (omega (arith, lt))
+    go (p ∷ ps) zero apart lt = later_low p ps 0 d apart (omega (arith, lt))
+    go (p ∷ ps) (suc k) apart lt = go ps k (behind_first p ps apart).2 (omega (arith, lt))
