@@ -1,12 +1,12 @@
 -- A gap is filled with what others have in it.
-use Rattle.std.proofs.Common.{◌≡◌, ℕ, ◌+◌, suc, zero, ◌<◌, ◌≤◌, max, min, List, [], ◌∷◌, length, get_or, take, drop, Option, Some, None, refl, arith, sym, ◌∙◌, inl, inr}
+use Rattle.std.proofs.Common.{◌≡◌, ℕ, ◌+◌, suc, zero, ◌<◌, ◌≤◌, max, min, List, [], ◌∷◌, length, get_or, take, drop, Option, Some, None, refl, arith, ap, sym, ◌∙◌, inl, inr}
 use Rattle.std.proofs.lemmas.Bool.{cases_lt}
 use Rattle.index_model.specs.declared.range.Range.{Range}
 use Rattle.index_model.specs.declared.range.UnitRange.{UnitRange}
 use Rattle.index_model.specs.Ranges.{unit_at}
 use Rattle.index_model.specs.Pieces.{AreApart, IsPieces}
 use Rattle.index_model.proofs.PieceLaws.{within, behind_end, nothing}
-use Rattle.address_map.specs.Overlay.{EndsBy, IsFilled, IsLeft, part_of}
+use Rattle.address_map.specs.Overlay.{EndsBy, IsFilled, IsFollowed, IsLeft, part_of}
 use Rattle.address_map.proofs.UnitAt.{cons_same, before_low, drop_apart, next_low}
 use Rattle.address_map.proofs.Fronts.{take_ends, take_same, drop_same, take_next}
 
@@ -92,4 +92,39 @@ module _ (gap : Range) (old others new : List UnitRange) (k : ℕ) (d : UnitRang
       before = before_next;
       inside = λ a low less. inside_next a low less ∙ take_same others (k + 1) d a apart (λ there. let h = next_low others k d apart there in omega (arith, h, less, end));
       behind = behind_next;
+    }
+
+-- ---- no end to the gap
+
+-- the greatest end
+abbrev pub top : List UnitRange → ℕ
+top [] = 0
+top (p ∷ ps) = max p.range.end (top ps)
+
+pub below_top : (ps : List UnitRange) (k : ℕ) (d : UnitRange) → k < length ps → (get_or ps k d).range.end ≤ top ps
+below_top [] k d lt = absurd (omega (arith, lt))
+below_top (p ∷ ps) zero d lt = omega arith
+below_top (p ∷ ps) (suc k) d lt = let h = below_top ps k d (omega (arith, lt)) in omega (arith, h)
+
+above_top : (ps : List UnitRange) → EndsBy (top ps) ps
+above_top [] a le = nothing a
+above_top (p ∷ ps) a le = behind_end p ps a (omega (arith, le)) ∙ above_top ps a (omega (arith, le))
+
+-- the part up to an own end is that up to any later one
+pub own_end : (p : UnitRange) (from end : ℕ) → p.range.end ≤ end → part_of p (record { low = from; end = p.range.end }) ≡ part_of p (record { low = from; end = end })
+own_end p from end le = let e : min p.range.end p.range.end ≡ min p.range.end end = omega arith in ap (λ (n : ℕ). record { unit = p.unit; range = record { low = max p.range.low from; end = n } }) e
+
+-- from an address on, up to all ends
+abbrev pub gap_of : ℕ → List UnitRange → Range
+gap_of from others = record { low = from; end = max from (top others) }
+
+pub followed : (from : ℕ) (old others new : List UnitRange) (k : ℕ) → length others ≤ k → AreApart others → IsFilledBy (gap_of from others) old others k new → IsFollowed from old others new
+followed from old others new k all apart by =
+    let d : UnitRange = record { unit = 0; range = record { low = 0; end = 0 } } in record {
+      apart = by.apart;
+      before = by.before;
+      behind = λ a le. elim (cases_lt a (max from (top others))) as (λ _. unit_at new a ≡ unit_at others a) [
+        | inl lt ↦ by.inside a le lt ∙ take_same others k d a apart (λ less. absurd (omega (arith, less, all)))
+        | inr past ↦ by.behind a past ∙ sym (above_top others a (omega (arith, past)))
+      ];
     }

@@ -2,3 +2,4 @@ pub mod UnitAt
 pub mod Adding
 pub mod Fronts
 pub mod Filling
+pub mod Laying

@@ -20,6 +20,12 @@ pub record IsFilled (gap : Range) (old others new : List UnitRange) : Type 0 whe
   pub inside : (a : ℕ) → gap.low ≤ a → a < gap.end → unit_at new a ≡ unit_at others a
   pub behind : EndsBy gap.end new
 
+-- the old pieces, and behind them what others have from an address on
+pub record IsFollowed (from : ℕ) (old others new : List UnitRange) : Type 0 where
+  pub apart : AreApart new
+  pub before : (a : ℕ) → a < from → unit_at new a ≡ unit_at old a
+  pub behind : (a : ℕ) → from ≤ a → unit_at new a ≡ unit_at others a
+
 -- the pieces that are left have the same units from an address on
 pub record IsLeft (from : ℕ) (pieces left : List UnitRange) : Type 0 where
   pub apart : AreApart left

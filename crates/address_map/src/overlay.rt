@@ -4,7 +4,7 @@
 
 ghost use Rattle.std.specs.Prelude.{◌≡◌, ◌≤◌, [], ◌∷◌, ◌++◌, length, drop, IfOk, OnOk};
 ghost use Rattle.index_model.specs.Pieces.{AreApart, IsPieces};
-ghost use Rattle.address_map.specs.Overlay.{EndsBy, IsFilled, IsLeft, part_of};
+ghost use Rattle.address_map.specs.Overlay.{EndsBy, IsFilled, IsFollowed, IsLeft, part_of};
 
 use index_model::{Range, UnitRange};
 use ix_base::NoMemory;
@@ -53,16 +53,11 @@ fn over(
             low: from,
             end: piece.range.low,
         };
-        let done = fill(&mut pieces, rest, gap)?;
-        rest = &rest[done..];
+        rest = fill(&mut pieces, rest, gap)?;
         add(&mut pieces, *piece)?;
         from = piece.range.end;
     }
-    let gap = Range {
-        low: from,
-        end: u64::MAX,
-    };
-    fill(&mut pieces, rest, gap)?;
+    follow(&mut pieces, rest, from)?;
     Ok(pieces)
 }
 
@@ -71,26 +66,46 @@ fn room(first: usize, second: usize) -> usize {
     first.saturating_mul(2).saturating_add(second)
 }
 
-// Adds what others have in a gap behind the pieces, and says how many of the others end there or before.
-fn fill(pieces: &mut Vec<UnitRange>, others: &[UnitRange], gap: Range) -> Result<usize, NoMemory>
+// Adds what others have in a gap behind the pieces. Those of the others that go on behind the gap are left.
+fn fill<'p>(
+    pieces: &mut Vec<UnitRange>,
+    others: &'p [UnitRange],
+    gap: Range,
+) -> Result<&'p [UnitRange], NoMemory>
     requires apart { AreApart pieces.old.items }
     requires others { AreApart others.now }
     requires gap { gap.low ≤ gap.end }
     requires behind { EndsBy gap.low pieces.old.items }
     ensures filled { OnOk result (IsFilled gap pieces.old.items others.now pieces.new.items) }
-    ensures within { IfOk result (λ n. n ≤ length others.now) }
-    ensures left { IfOk result (λ n. IsLeft gap.end others.now (drop n others.now)) }
+    ensures left { IfOk result (λ left. IsLeft gap.end others.now left.now) }
 {
     'others: for (count, other) in others.iter().enumerate() {
         if gap.end <= other.range.low {
-            return Ok(count);
+            return Ok(&others[count..]);
         }
         add(pieces, part(other, gap))?;
         if gap.end < other.range.end {
-            return Ok(count);
+            return Ok(&others[count..]);
         }
     }
-    Ok(others.len())
+    Ok(&[])
+}
+
+// Adds what others have from an address on, behind the pieces.
+fn follow(pieces: &mut Vec<UnitRange>, others: &[UnitRange], from: u64) -> Result<(), NoMemory>
+    requires apart { AreApart pieces.old.items }
+    requires others { AreApart others.now }
+    requires behind { EndsBy from pieces.old.items }
+    ensures { OnOk result (IsFollowed from pieces.old.items others.now pieces.new.items) }
+{
+    'others: for other in others {
+        let gap = Range {
+            low: from,
+            end: other.range.end,
+        };
+        add(pieces, part(other, gap))?;
+    }
+    Ok(())
 }
 
 // The part of a piece that lies in the gap.

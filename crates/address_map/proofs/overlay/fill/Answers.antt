@@ -1,7 +1,9 @@
-use Rattle.std.proofs.Common.{◌≡◌, ◌≤◌, ◌<◌, ◌∷◌, ℕ, length, get_or, drop, refl, sym, subst, arith, List}
+use Rattle.std.proofs.Common.{◌≡◌, ◌≤◌, ◌<◌, ◌∷◌, ℕ, length, get_or, drop, ap, ◌∙◌, sym, subst, arith, List}
+use Rattle.std.proofs.Math.Seq.{drop-length}
 use Rattle.index_model.specs.declared.range.UnitRange.{UnitRange}
 use Rattle.index_model.specs.Pieces.{IsPieces}
 use Rattle.address_map.specs.Overlay.{EndsBy, IsLeft, part_of}
+use Rattle.address_map.proofs.Fronts.{drop_slice}
 use Rattle.address_map.proofs.Filling.{at_first, part_behind, more, left, filled, filled_up}
 use Rattle.address_map.proofs.overlay.fill.Goals as goal
 
@@ -12,15 +14,15 @@ pub others-init : goal.others-init
 others-init c = at_first c.args.gap c.args.pieces.now.items c.args.others.now c.requires.gap c.requires.apart c.requires.behind
 
 pub returns-then-gap-other-clause-left : goal.returns-then-gap-other-clause-left
-returns-then-gap-other-clause-left c = left _ _ _ _ _ no_range c.requires.others c.others.invariant
+returns-then-gap-other-clause-left c = subst (IsLeft c.args.gap.end c.args.others.now) (sym (drop_slice c.args.others.now c.others.count)) (left _ _ _ _ _ no_range c.requires.others c.others.invariant)
 
 pub returns-then-gap-other-2-clause-left : goal.returns-then-gap-other-2-clause-left
-returns-then-gap-other-2-clause-left c = left _ _ _ _ _ no_range c.requires.others c.others.invariant
+returns-then-gap-other-2-clause-left c = subst (IsLeft c.args.gap.end c.args.others.now) (sym (drop_slice c.args.others.now c.others.count)) (left _ _ _ _ _ no_range c.requires.others c.others.invariant)
 
 pub returns-clause-left : goal.returns-clause-left
 returns-clause-left c =
     let all : c.others.count ≡ length c.args.others.now = omega arith in
-    subst (λ (k : ℕ). IsLeft c.args.gap.end c.args.others.now (drop k c.args.others.now)) all (left _ _ _ _ _ no_range c.requires.others c.others.invariant)
+    subst (IsLeft c.args.gap.end c.args.others.now) (ap (λ (k : ℕ). drop k c.args.others.now) all ∙ drop-length c.args.others.now) (left _ _ _ _ _ no_range c.requires.others c.others.invariant)
 
 pub returns-then-gap-other-clause-filled : goal.returns-then-gap-other-clause-filled
 returns-then-gap-other-clause-filled c = filled _ _ _ _ _ no_range c.requires.others c.others.invariant (λ _. c.if-gap-other.true)
