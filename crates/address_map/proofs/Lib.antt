@@ -5,3 +5,5 @@ pub mod Filling
 pub mod Laying
 pub mod Halves
 pub mod Searching
+pub mod Order
+pub mod FirstUnit

@@ -4,8 +4,10 @@
 //! maximal ranges in which one unit is the unit at the address. They ascend, so a binary search finds the unit.
 #![tactic(auto)]
 
+mod laws;
 mod map;
 mod overlay;
 
 pub use index_model::{Range, UnitRange};
+pub use laws::pieces_are_exact;
 pub use map::AddressMap;

@@ -3,6 +3,7 @@
 ghost use Rattle.std.specs.Prelude.{◌≡◌, ℕ, IfOk};
 ghost use Rattle.index_model.specs.Pieces.{AreApart, IsPieces, pieces};
 ghost use Rattle.index_model.specs.Ranges.{unit_at};
+ghost use Rattle.address_map.specs.Laws.{IsFirstUnit};
 
 use crate::overlay::overlay;
 use index_model::UnitRange;
@@ -34,7 +35,7 @@ impl AddressMap {
     pub fn build(alloc: Global, ranges: &[UnitRange]) -> Result<AddressMap, NoMemory>
         ensures map { IfOk result (λ m. m ≡ pieces ranges.now) }
         ensures pieces { IfOk result (λ m. IsPieces ranges.now m) }
-        ensures units { IfOk result (λ m. (a : ℕ) → unit_at m a ≡ unit_at ranges.now a) }
+        ensures first { IfOk result (λ m. (a : ℕ) → IsFirstUnit ranges.now a (unit_at m a)) }
     {
         let pieces = overlay(alloc, ranges)?;
         Ok(AddressMap { pieces })
