@@ -3,6 +3,7 @@ pub mod Adding
 pub mod Fronts
 pub mod Filling
 pub mod Laying
+pub mod Ascending
 pub mod Halves
 pub mod Searching
 pub mod Order

@@ -1,5 +1,5 @@
 -- What is made while one list of pieces is laid over another.
-use Rattle.std.specs.Prelude.{◌≡◌, ◌≤◌, ◌<◌, ℕ, max, min, List, None}
+use Rattle.std.specs.Prelude.{◌≡◌, ◌≤◌, ◌<◌, ℕ, max, min, List, [], ◌∷◌, None, ⊤}
 use Rattle.index_model.specs.declared.range.Range.{Range}
 use Rattle.index_model.specs.declared.range.UnitRange.{UnitRange}
 use Rattle.index_model.specs.Ranges.{unit_at}
@@ -8,6 +8,11 @@ use Rattle.index_model.specs.Pieces.{AreApart}
 -- no address from the end on has a unit
 abbrev pub EndsBy : ℕ → List UnitRange → Type 0
 EndsBy end ps = (a : ℕ) → end ≤ a → unit_at ps a ≡ None
+
+-- each range begins where those before it have ended, or behind it, and none begins below from
+abbrev pub IsAscending : ℕ → List UnitRange → Type 0
+IsAscending from [] = ⊤
+IsAscending from (r ∷ rs) = (from ≤ r.range.low) × IsAscending (max r.range.low r.range.end) rs
 
 -- the part of a piece that lies in a gap
 abbrev pub part_of : UnitRange → Range → UnitRange

@@ -1,10 +1,11 @@
 //! The pieces of ranges, by halves: the pieces of the ranges in front are laid over those of the ranges behind them.
 //!
-//! Each merge is one pass, so n ranges cost n log n whatever their overlaps.
+//! Each merge is one pass, so n ranges cost n log n whatever their overlaps. Ranges that ascend cost one pass.
 
-ghost use Rattle.std.specs.Prelude.{◌≡◌, ◌≤◌, [], ◌∷◌, ◌++◌, length, drop, IfOk, OnOk};
+ghost use Rattle.std.specs.Prelude.{◌≡◌, ◌<◌, ◌≤◌, ◌∷◌, ◌++◌, length, IfOk, OnOk};
+ghost use Rattle.std.specs.Bool.{OnTrue, OnFalse};
 ghost use Rattle.index_model.specs.Pieces.{AreApart, IsPieces};
-ghost use Rattle.address_map.specs.Overlay.{EndsBy, IsFilled, IsFollowed, IsLeft, part_of};
+ghost use Rattle.address_map.specs.Overlay.{EndsBy, IsAscending, IsFilled, IsFollowed, IsLeft, part_of};
 
 use index_model::{Range, UnitRange};
 use ix_base::NoMemory;
@@ -14,24 +15,39 @@ use std::alloc::Global;
 pub(crate) fn overlay(alloc: Global, ranges: &[UnitRange]) -> Result<Vec<UnitRange>, NoMemory>
     ensures { IfOk result (λ ps. IsPieces ranges.now ps.items) }
 {
-    match ranges {
-        [] => Ok(Vec::new(alloc)),
-        [range] => alone(alloc, *range),
-        _ => {
-            let (front, behind) = ranges.split_at(ranges.len() / 2);
-            let first = overlay(alloc, front)?;
-            let second = overlay(alloc, behind)?;
-            over(alloc, &first, &second)
-        }
+    if is_ascending(ranges) {
+        return join(alloc, ranges);
     }
+    let (front, behind) = ranges.split_at(ranges.len() / 2);
+    let first = overlay(alloc, front)?;
+    let second = overlay(alloc, behind)?;
+    over(alloc, &first, &second)
 }
 
-// The piece of one range, if it has an address.
-fn alone(alloc: Global, range: UnitRange) -> Result<Vec<UnitRange>, NoMemory>
-    ensures { IfOk result (λ ps. IsPieces (range ∷ []) ps.items) }
+// Whether each range begins where those before it have ended. Most programs have their units in the order of their addresses.
+fn is_ascending(ranges: &[UnitRange]) -> bool
+    ensures yes { OnTrue result (IsAscending 0 ranges.now) }
+    ensures no { OnFalse result (1 < length ranges.now) }
 {
-    let mut pieces = Vec::new(alloc);
-    add(&mut pieces, range)?;
+    let mut from = 0;
+    'pass: for range in ranges {
+        if range.range.low < from {
+            return false;
+        }
+        from = range.range.low.max(range.range.end);
+    }
+    true
+}
+
+// The pieces of ascending ranges.
+fn join(alloc: Global, ranges: &[UnitRange]) -> Result<Vec<UnitRange>, NoMemory>
+    requires { IsAscending 0 ranges.now }
+    ensures { IfOk result (λ ps. IsPieces ranges.now ps.items) }
+{
+    let mut pieces = Vec::with_capacity(alloc, ranges.len())?;
+    'pass: for range in ranges {
+        add(&mut pieces, *range)?;
+    }
     Ok(pieces)
 }
 

@@ -9,9 +9,10 @@ if_ok : (r : Result (Vec UnitRange Global) NoMemory) (xs ys : List UnitRange) �
 if_ok (Ok v) xs ys f h = f v.items h
 if_ok (Err e) xs ys f h = h
 
-pub returns-in_ok-second-in_default : goal.returns-in_ok-second-in_default
-returns-in_ok-second-in_default t c =
-    let first = subst (λ (xs : List UnitRange). IsPieces xs c.in_ok-first-in_default.first.items) c.split_at.ensures.front c.in_ok-first-in_default.ensures in
-    let second = subst (λ (xs : List UnitRange). IsPieces xs c.in_ok-second-in_default.second.items) c.split_at.ensures.back c.in_ok-second-in_default.ensures in
-    if_ok c.over.result (c.deref.result.now ++ c.deref-in_default.result.now) c.args.ranges.now
-    (λ ps laid. of_halves c.args.ranges.now (length c.args.ranges.now / 2) _ _ ps first second (subst (λ (xs : List UnitRange). IsPieces xs ps) (ap (λ (xs : List UnitRange). xs ++ c.deref-in_default.result.now) c.deref.ensures.value ∙ ap (λ (ys : List UnitRange). c.in_ok-first-in_default.first.items ++ ys) c.deref-in_default.ensures.value) laid)) c.over.ensures
+pub returns : goal.returns
+returns t c =
+    let first = subst (λ (xs : List UnitRange). IsPieces xs c.in_ok-first.first.items) c.split_at.ensures.front c.in_ok-first.ensures in
+    let second = subst (λ (xs : List UnitRange). IsPieces xs c.in_ok-second.second.items) c.split_at.ensures.back c.in_ok-second.ensures in
+    let lists = ap (λ (xs : List UnitRange). xs ++ c.deref-2.result.now) c.deref.ensures.value ∙ ap (λ (ys : List UnitRange). c.in_ok-first.first.items ++ ys) c.deref-2.ensures.value in
+    if_ok c.over.result (c.deref.result.now ++ c.deref-2.result.now) c.args.ranges.now
+    (λ ps laid. of_halves c.args.ranges.now (length c.args.ranges.now / 2) _ _ ps first second (subst (λ (xs : List UnitRange). IsPieces xs ps) lists laid)) c.over.ensures
