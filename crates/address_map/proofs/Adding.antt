@@ -1,5 +1,5 @@
 -- A piece is added behind others.
-use Rattle.std.proofs.Common.{◌≡◌, ◌≢◌, ℕ, ◌+◌, ◌-◌, suc, zero, ◌<◌, ◌≤◌, true, false, List, [], ◌∷◌, ◌++◌, length, get_or, Option, Some, None, refl, arith, ap, sym, subst, ◌∙◌, inl, inr}
+use Rattle.std.proofs.Common.{◌≡◌, ◌≢◌, ℕ, ◌-◌, suc, zero, ◌<◌, ◌≤◌, true, false, List, [], ◌∷◌, ◌++◌, length, get_or, Some, refl, arith, ap, sym, subst, ◌∙◌, inl, inr}
 use Rattle.std.proofs.Math.ListN.{set}
 use Rattle.std.proofs.lemmas.Bool.{cases_lt, false≢true}
 use Rattle.index_model.specs.declared.range.UnitRange.{UnitRange}
@@ -66,12 +66,12 @@ module _ (last p : UnitRange) (touch : last.range.end ≡ p.range.low) (one : la
   one_piece a own = elim (cases_lt a last.range.low) as (λ _. unit_at (longer last p ∷ []) a ≡ unit_at (p ∷ last ∷ []) a) [
     | inl lt ↦ before_low (longer last p) [] a lt ∙ sym (before_low p (last ∷ []) a (omega arith) ∙ before_low last [] a lt)
     | inr ge ↦ elim (cases_lt a p.range.low) as (λ _. unit_at (longer last p ∷ []) a ≡ unit_at (p ∷ last ∷ []) a) [
-        | inl lt ↦ within (longer last p) [] a ge (omega arith) ∙ sym (before_low p (last ∷ []) a lt ∙ within last [] a ge (omega arith))
-        | inr from ↦ elim (cases_lt a p.range.end) as (λ _. unit_at (longer last p ∷ []) a ≡ unit_at (p ∷ last ∷ []) a) [
-            | inl lt ↦ within (longer last p) [] a ge lt ∙ ap (λ (u : ℕ). Some u) one ∙ sym (within p (last ∷ []) a from lt)
-            | inr past ↦ behind_end (longer last p) [] a past ∙ sym (behind_end p (last ∷ []) a past ∙ behind_end last [] a (omega arith))
-          ]
+      | inl lt ↦ within (longer last p) [] a ge (omega arith) ∙ sym (before_low p (last ∷ []) a lt ∙ within last [] a ge (omega arith))
+      | inr from ↦ elim (cases_lt a p.range.end) as (λ _. unit_at (longer last p ∷ []) a ≡ unit_at (p ∷ last ∷ []) a) [
+        | inl lt ↦ within (longer last p) [] a ge lt ∙ ap (λ (u : ℕ). Some u) one ∙ sym (within p (last ∷ []) a from lt)
+        | inr past ↦ behind_end (longer last p) [] a past ∙ sym (behind_end p (last ∷ []) a past ∙ behind_end last [] a (omega arith))
       ]
+    ]
   ]
 
   joined_same : (ps : List UnitRange) (k : ℕ) (a : ℕ) → suc k ≡ length ps → last ≡ get_or ps k last → AreApart ps → EndsBy p.range.low ps → unit_at (set ps k (longer last p)) a ≡ unit_at (p ∷ ps) a

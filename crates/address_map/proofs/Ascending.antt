@@ -5,7 +5,7 @@ use Rattle.std.proofs.lemmas.List.{take_more}
 use Rattle.std.proofs.lemmas.Bool.{cases_lt}
 use Rattle.index_model.specs.declared.range.UnitRange.{UnitRange}
 use Rattle.index_model.specs.Ranges.{unit_at}
-use Rattle.index_model.specs.Pieces.{AreApart, IsPieces}
+use Rattle.index_model.specs.Pieces.{IsPieces}
 use Rattle.index_model.proofs.PieceLaws.{behind_end, nothing}
 use Rattle.address_map.specs.Overlay.{EndsBy, IsAscending}
 use Rattle.address_map.proofs.UnitAt.{or_else, unit_at-append, cons_same, before_low}

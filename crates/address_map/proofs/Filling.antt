@@ -1,5 +1,5 @@
 -- A gap is filled with what others have in it.
-use Rattle.std.proofs.Common.{◌≡◌, ℕ, ◌+◌, suc, zero, ◌<◌, ◌≤◌, max, min, List, [], ◌∷◌, length, get_or, take, drop, Option, Some, None, refl, arith, ap, sym, ◌∙◌, inl, inr}
+use Rattle.std.proofs.Common.{◌≡◌, ℕ, ◌+◌, suc, zero, ◌<◌, ◌≤◌, max, min, List, [], ◌∷◌, length, get_or, take, drop, None, refl, arith, ap, sym, ◌∙◌, inl, inr}
 use Rattle.std.proofs.lemmas.Bool.{cases_lt}
 use Rattle.index_model.specs.declared.range.Range.{Range}
 use Rattle.index_model.specs.declared.range.UnitRange.{UnitRange}
@@ -7,7 +7,7 @@ use Rattle.index_model.specs.Ranges.{unit_at}
 use Rattle.index_model.specs.Pieces.{AreApart, IsPieces}
 use Rattle.index_model.proofs.PieceLaws.{within, behind_end, nothing}
 use Rattle.address_map.specs.Overlay.{EndsBy, IsFilled, IsFollowed, IsLeft, part_of}
-use Rattle.address_map.proofs.UnitAt.{cons_same, before_low, drop_apart, next_low}
+use Rattle.address_map.proofs.UnitAt.{no_range, cons_same, before_low, drop_apart, next_low}
 use Rattle.address_map.proofs.Fronts.{take_ends, take_same, drop_same, take_next}
 
 -- the gap is filled with what the first k others have in it
@@ -35,9 +35,9 @@ in_part : (gap : Range) (other : UnitRange) (xs : List UnitRange) (a : ℕ) → 
 in_part gap other xs a low lt = elim (cases_lt a other.range.low) as (λ _. unit_at (part_of other gap ∷ xs) a ≡ unit_at (other ∷ xs) a) [
   | inl less ↦ before_low (part_of other gap) xs a (omega (arith, less)) ∙ sym (before_low other xs a less)
   | inr from ↦ elim (cases_lt a other.range.end) as (λ _. unit_at (part_of other gap ∷ xs) a ≡ unit_at (other ∷ xs) a) [
-      | inl less ↦ within (part_of other gap) xs a (omega (arith, from, low)) (omega (arith, less, lt)) ∙ sym (within other xs a from less)
-      | inr past ↦ behind_end (part_of other gap) xs a (omega (arith, past)) ∙ sym (behind_end other xs a past)
-    ]
+    | inl less ↦ within (part_of other gap) xs a (omega (arith, from, low)) (omega (arith, less, lt)) ∙ sym (within other xs a from less)
+    | inr past ↦ behind_end (part_of other gap) xs a (omega (arith, past)) ∙ sym (behind_end other xs a past)
+  ]
 ]
 
 -- the others at k, and the pieces before it is added and after
@@ -120,11 +120,11 @@ gap_of from others = record { low = from; end = max from (top others) }
 
 pub followed : (from : ℕ) (old others new : List UnitRange) (k : ℕ) → length others ≤ k → AreApart others → IsFilledBy (gap_of from others) old others k new → IsFollowed from old others new
 followed from old others new k all apart by =
-    let d : UnitRange = record { unit = 0; range = record { low = 0; end = 0 } } in record {
+    record {
       apart = by.apart;
       before = by.before;
       behind = λ a le. elim (cases_lt a (max from (top others))) as (λ _. unit_at new a ≡ unit_at others a) [
-        | inl lt ↦ by.inside a le lt ∙ take_same others k d a apart (λ less. absurd (omega (arith, less, all)))
+        | inl lt ↦ by.inside a le lt ∙ take_same others k no_range a apart (λ less. absurd (omega (arith, less, all)))
         | inr past ↦ by.behind a past ∙ sym (above_top others a (omega (arith, past)))
       ];
     }

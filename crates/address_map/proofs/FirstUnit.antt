@@ -1,13 +1,13 @@
 -- The unit at an address is that of the first range that contains it.
-use Rattle.std.proofs.Common.{◌≡◌, ℕ, Bool, true, false, cond, List, [], ◌∷◌, ◌++◌, Option, Some, None, refl, sym, ap, subst, arith, ⊎_elim, ◌∙◌}
-use Rattle.std.specs.Prelude.{Contains, IsTrue}
+use Rattle.std.proofs.Common.{◌≡◌, ℕ, Bool, true, false, cond, List, [], ◌∷◌, Option, Some, None, refl, sym, ap, subst, arith, ⊎_elim, ◌∙◌}
+use Rattle.std.specs.Prelude.{Contains}
 use Rattle.std.proofs.lemmas.Bool.{false≢true}
 use Rattle.index_model.specs.declared.range.UnitRange.{UnitRange}
 use Rattle.index_model.specs.Ranges.{contains, unit_at}
 use Rattle.index_model.specs.Pieces.{IsPieces, pieces}
 use Rattle.index_model.proofs.Meanings.{contains_cases}
 use Rattle.index_model.proofs.PieceLaws.{nothing, pieces_are}
-use Rattle.address_map.specs.Laws.{NoneContains, IsFirstRange, IsFirstUnit, PiecesHaveTheFirstUnits}
+use Rattle.address_map.specs.Laws.{NoneContains, IsFirstUnit, PiecesHaveTheFirstUnits}
 use Rattle.address_map.proofs.UnitAt.{unit_at-cons}
 
 no_range : (a : ℕ) → NoneContains [] a
@@ -19,14 +19,17 @@ none_more p ps a not none r c held =
 
 later : (p : UnitRange) (ps : List UnitRange) (a : ℕ) (o : Option ℕ) → contains a p.range ≡ false → IsFirstUnit ps a o → IsFirstUnit (p ∷ ps) a o
 later p ps a None not h = none_more p ps a not h
-later p ps a (Some u) not (r, first, unit) =
-    (r, record {
-      front = p ∷ first.front;
-      rest = first.rest;
-      stands = ap (λ (xs : List UnitRange). p ∷ xs) first.stands;
-      contained = first.contained;
-      none_in_front = none_more p first.front a not first.none_in_front;
-    }, unit)
+later p ps a (Some u) not (r, first, unit) = (
+  r,
+  record {
+    front = p ∷ first.front;
+    rest = first.rest;
+    stands = ap (λ (xs : List UnitRange). p ∷ xs) first.stands;
+    contained = first.contained;
+    none_in_front = none_more p first.front a not first.none_in_front;
+  },
+  unit,
+)
 
 here : (p : UnitRange) (ps : List UnitRange) (a : ℕ) → contains a p.range ≡ true → IsFirstUnit (p ∷ ps) a (Some p.unit)
 here p ps a held = (p, record { front = []; rest = ps; stands = refl; contained = held; none_in_front = no_range a }, refl)

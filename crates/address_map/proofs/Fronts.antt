@@ -1,11 +1,11 @@
 -- Pieces up to one of them, and from it on.
-use Rattle.std.proofs.Common.{◌≡◌, ℕ, ◌+◌, ◌-◌, suc, zero, ◌<◌, ◌≤◌, List, [], ◌∷◌, ◌++◌, length, get_or, take, drop, None, refl, arith, ap, sym, ◌∙◌, length-drop}
+use Rattle.std.proofs.Common.{◌≡◌, ℕ, ◌+◌, ◌-◌, suc, zero, ◌<◌, ◌≤◌, List, [], ◌∷◌, length, get_or, take, drop, refl, arith, ap, sym, ◌∙◌, length-drop}
 use Rattle.std.proofs.Math.Seq.{take-length}
 use Rattle.std.proofs.lemmas.List.{take_more}
 use Rattle.index_model.specs.declared.range.UnitRange.{UnitRange}
 use Rattle.index_model.specs.Ranges.{unit_at}
 use Rattle.index_model.specs.Pieces.{AreApart}
-use Rattle.index_model.proofs.PieceLaws.{behind_end, nothing, behind_first, none_below, First}
+use Rattle.index_model.proofs.PieceLaws.{behind_end, nothing, behind_first, none_below}
 use Rattle.address_map.specs.Overlay.{EndsBy}
 use Rattle.address_map.proofs.UnitAt.{cons_same, ends, ends_tail, later_low}
 use Rattle.address_map.proofs.Adding.{pushed_same}

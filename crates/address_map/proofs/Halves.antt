@@ -1,9 +1,9 @@
 -- Pieces of halves, and of the whole.
-use Rattle.std.proofs.Common.{◌≡◌, ℕ, List, [], ◌∷◌, ◌++◌, take, drop, Option, refl, ap, sym, subst, ◌∙◌}
+use Rattle.std.proofs.Common.{◌≡◌, ℕ, List, [], ◌++◌, take, drop, Option, refl, ap, sym, subst, ◌∙◌}
 use Rattle.std.proofs.lemmas.List.{take-append-drop}
 use Rattle.index_model.specs.declared.range.UnitRange.{UnitRange}
 use Rattle.index_model.specs.Ranges.{unit_at}
-use Rattle.index_model.specs.Pieces.{AreApart, IsPieces, pieces}
+use Rattle.index_model.specs.Pieces.{IsPieces, pieces}
 use Rattle.index_model.proofs.PieceLaws.{pieces_are, pieces_unique}
 use Rattle.address_map.proofs.UnitAt.{or_else, unit_at-append}
 

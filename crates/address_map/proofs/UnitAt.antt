@@ -1,12 +1,16 @@
 -- The unit at an address in a list of ranges, and in a list of pieces.
-use Rattle.std.proofs.Common.{◌≡◌, ℕ, ◌+◌, ◌-◌, suc, zero, ◌<◌, ◌≤◌, Bool, true, false, ◌&&◌, cond, ltb, leb, List, [], ◌∷◌, ◌++◌, length, get_or, take, drop, Option, Some, None, refl, arith, ap, sym, ◌∙◌, inl, inr, add-one}
+use Rattle.std.proofs.Common.{◌≡◌, ℕ, ◌+◌, ◌-◌, suc, zero, ◌<◌, ◌≤◌, Bool, true, false, ◌&&◌, cond, ltb, leb, List, [], ◌∷◌, ◌++◌, length, get_or, drop, Option, Some, None, refl, arith, ap, sym, ◌∙◌, inl, inr, add-one}
 use Rattle.std.proofs.lemmas.Bool.{cases_lt}
 use Rattle.std.proofs.lemmas.Bool.Decides.{nat_tests}
 use Rattle.index_model.specs.declared.range.UnitRange.{UnitRange}
 use Rattle.index_model.specs.Ranges.{contains, unit_at}
 use Rattle.index_model.specs.Pieces.{AreApart}
-use Rattle.index_model.proofs.PieceLaws.{as_find, within, behind_end, nothing, behind_first, none_below, First}
+use Rattle.index_model.proofs.PieceLaws.{as_find, within, behind_end, nothing, behind_first}
 use Rattle.address_map.specs.Overlay.{EndsBy}
+
+-- what the elements behind the end of a list are taken for
+abbrev pub no_range : UnitRange
+no_range = record { unit = 0; range = record { low = 0; end = 0 } }
 
 -- ---- any ranges
 

@@ -1,11 +1,9 @@
-use Rattle.std.proofs.Common.{◌≡◌, ◌∙◌, leb, rules}
+use Rattle.std.proofs.Common.{◌∙◌, leb, rules}
 use Rattle.std.proofs.lemmas.List.Sorted.{IsPartitionPoint-from_clause}
 use Rattle.index_model.specs.declared.range.UnitRange.{UnitRange}
 use Rattle.address_map.proofs.Searching.{parted, none_begins, in_last, past_last}
+use Rattle.address_map.proofs.UnitAt.{no_range}
 use Rattle.address_map.proofs.map.unit_among.Goals as goal
-
-abbrev no_range : UnitRange
-no_range = record { unit = 0; range = record { low = 0; end = 0 } }
 
 pub returns-in_err-piece : goal.returns-in_err-piece
 returns-in_err-piece c =

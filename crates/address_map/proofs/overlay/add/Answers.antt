@@ -1,4 +1,4 @@
-use Rattle.std.proofs.Common.{◌≡◌, ℕ, suc, ◌-◌, ◌∷◌, ◌++◌, [], length, List, arith, ap, sym, ◌∙◌, subst, refl, Some, None}
+use Rattle.std.proofs.Common.{◌≡◌, suc, ◌-◌, ◌∷◌, ◌++◌, [], length, List, ap, sym, ◌∙◌, subst, refl}
 use Rattle.std.specs.Vec.{vec_len, vec_items}
 use Rattle.index_model.specs.declared.range.UnitRange.{UnitRange}
 use Rattle.index_model.specs.Pieces.{IsPieces}
@@ -17,18 +17,18 @@ pub returns : goal.returns
 returns c =
     let same : c.match-last_mut.pieces.items ≡ c.args.pieces.now.items = elim c.match-last_mut.branch [
       | in-Some+else-last-piece w ↦ (elim w.else-last-piece.branch [
-          | else-last-piece-via-then-last-piece+else-last-piece-2 v ↦ (ap vec_items (w.pieces-is ∙ v.pieces-is) ∙ set_same c.args.pieces.now.items (vec_len c.args.pieces.now - 1) w.in-Some.last.now w.in-Some.ensures.value)
-          | else-last-piece-via-else-last-piece v ↦ (ap vec_items (w.pieces-is ∙ v.pieces-is) ∙ set_same c.args.pieces.now.items (vec_len c.args.pieces.now - 1) w.in-Some.last.now w.in-Some.ensures.value)
-        ])
+        | else-last-piece-via-then-last-piece+else-last-piece-2 v ↦ (ap vec_items (w.pieces-is ∙ v.pieces-is) ∙ set_same c.args.pieces.now.items (vec_len c.args.pieces.now - 1) w.in-Some.last.now w.in-Some.ensures.value)
+        | else-last-piece-via-else-last-piece v ↦ (ap vec_items (w.pieces-is ∙ v.pieces-is) ∙ set_same c.args.pieces.now.items (vec_len c.args.pieces.now - 1) w.in-Some.last.now w.in-Some.ensures.value)
+      ])
       | in_default w ↦ (ap vec_items w.pieces-is)
     ] in
     let other : IsOther c.args.pieces.now.items c.args.piece = elim c.match-last_mut.branch [
       | in-Some+else-last-piece w ↦ (
           let len : suc (vec_len c.args.pieces.now - 1) ≡ length c.args.pieces.now.items = last_index _ _ c.args.pieces.now.ok.0 (w.in-Some.ensures.variant.0 refl) in
           elim w.else-last-piece.branch [
-          | else-last-piece-via-then-last-piece+else-last-piece-2 v ↦ is_other c.args.pieces.now.items (vec_len c.args.pieces.now - 1) w.in-Some.last.now c.args.piece len w.in-Some.ensures.value (λ touch one. v.if-last-piece-2.false touch)
-          | else-last-piece-via-else-last-piece v ↦ is_other c.args.pieces.now.items (vec_len c.args.pieces.now - 1) w.in-Some.last.now c.args.piece len w.in-Some.ensures.value (λ touch one. v.if-last-piece.false one)
-        ])
+            | else-last-piece-via-then-last-piece+else-last-piece-2 v ↦ is_other c.args.pieces.now.items (vec_len c.args.pieces.now - 1) w.in-Some.last.now c.args.piece len w.in-Some.ensures.value (λ touch one. v.if-last-piece-2.false touch)
+            | else-last-piece-via-else-last-piece v ↦ is_other c.args.pieces.now.items (vec_len c.args.pieces.now - 1) w.in-Some.last.now c.args.piece len w.in-Some.ensures.value (λ touch one. v.if-last-piece.false one)
+          ])
       | in_default w ↦ none_other c.args.pieces.now.items c.args.piece (no_item _ _ c.args.pieces.now.ok.0 w.in_default.ensures.variant.1)
     ] in
     subst (IsPieces (c.args.piece ∷ c.args.pieces.now.items)) (ap (λ (xs : List UnitRange). xs ++ c.args.piece ∷ []) (sym same) ∙ sym c.in_ok-push.ensures.items) (pushed c.args.pieces.now.items c.args.piece c.requires.apart c.requires.behind c.if-piece.false other)

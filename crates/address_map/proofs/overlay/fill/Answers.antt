@@ -1,14 +1,12 @@
-use Rattle.std.proofs.Common.{◌≡◌, ◌≤◌, ◌<◌, ◌∷◌, ℕ, length, get_or, drop, ap, ◌∙◌, sym, subst, arith, List}
+use Rattle.std.proofs.Common.{◌≡◌, ◌∷◌, ℕ, length, drop, ap, ◌∙◌, sym, subst, arith}
 use Rattle.std.proofs.Math.Seq.{drop-length}
 use Rattle.index_model.specs.declared.range.UnitRange.{UnitRange}
 use Rattle.index_model.specs.Pieces.{IsPieces}
-use Rattle.address_map.specs.Overlay.{EndsBy, IsLeft, part_of}
+use Rattle.address_map.specs.Overlay.{EndsBy, IsLeft}
 use Rattle.address_map.proofs.Fronts.{drop_slice}
 use Rattle.address_map.proofs.Filling.{at_first, part_behind, more, left, filled, filled_up}
+use Rattle.address_map.proofs.UnitAt.{no_range}
 use Rattle.address_map.proofs.overlay.fill.Goals as goal
-
-abbrev no_range : UnitRange
-no_range = record { unit = 0; range = record { low = 0; end = 0 } }
 
 pub others-init : goal.others-init
 others-init c = at_first c.args.gap c.args.pieces.now.items c.args.others.now c.requires.gap c.requires.apart c.requires.behind

@@ -1,12 +1,10 @@
-use Rattle.std.proofs.Common.{◌≡◌, ◌≤◌, ◌<◌, ◌∷◌, ◌∙◌, ℕ, length, get_or, max, sym, subst, arith, List}
+use Rattle.std.proofs.Common.{◌≡◌, ◌<◌, ◌∷◌, ◌∙◌, ℕ, length, get_or, max, sym, subst, arith, List}
 use Rattle.index_model.specs.declared.range.UnitRange.{UnitRange}
 use Rattle.index_model.specs.Pieces.{IsPieces}
 use Rattle.address_map.specs.Overlay.{EndsBy, part_of}
 use Rattle.address_map.proofs.Filling.{at_first, part_behind, more, own_end, below_top, gap_of, followed, top}
+use Rattle.address_map.proofs.UnitAt.{no_range}
 use Rattle.address_map.proofs.overlay.follow.Goals as goal
-
-abbrev no_range : UnitRange
-no_range = record { unit = 0; range = record { low = 0; end = 0 } }
 
 -- the part of another from the address on, up to all ends
 part_is : (others : List UnitRange) (k from : ℕ) → k < length others → part_of (get_or others k no_range) (record { low = from; end = (get_or others k no_range).range.end }) ≡ part_of (get_or others k no_range) (gap_of from others)

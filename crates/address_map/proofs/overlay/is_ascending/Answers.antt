@@ -1,10 +1,7 @@
 use Rattle.std.proofs.Common.{◌+◌, subst, sym}
-use Rattle.index_model.specs.declared.range.UnitRange.{UnitRange}
 use Rattle.address_map.proofs.Ascending.{IsTested, untested, one_more, all_tested, two_at_least}
+use Rattle.address_map.proofs.UnitAt.{no_range}
 use Rattle.address_map.proofs.overlay.is_ascending.Goals as goal
-
-abbrev no_range : UnitRange
-no_range = record { unit = 0; range = record { low = 0; end = 0 } }
 
 pub pass-init : goal.pass-init
 pass-init c = untested c.args.ranges.now

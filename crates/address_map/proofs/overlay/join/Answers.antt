@@ -1,10 +1,7 @@
 use Rattle.std.proofs.Common.{subst, sym}
-use Rattle.index_model.specs.declared.range.UnitRange.{UnitRange}
 use Rattle.address_map.proofs.Ascending.{IsJoined, at_first, next_behind, joined_next, all_joined}
+use Rattle.address_map.proofs.UnitAt.{no_range}
 use Rattle.address_map.proofs.overlay.join.Goals as goal
-
-abbrev no_range : UnitRange
-no_range = record { unit = 0; range = record { low = 0; end = 0 } }
 
 pub pass-init : goal.pass-init
 pass-init c = subst (IsJoined c.args.ranges.now 0) (sym c.in_ok-pieces.ensures.items) (at_first c.args.ranges.now c.requires)

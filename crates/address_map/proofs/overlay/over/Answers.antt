@@ -1,10 +1,7 @@
-use Rattle.std.proofs.Common.{◌≤◌, ◌<◌, length, subst, sym, List}
-use Rattle.index_model.specs.declared.range.UnitRange.{UnitRange}
-use Rattle.address_map.proofs.Laying.{IsLaid, at_first, gap_some, more, whole}
+use Rattle.std.proofs.Common.{subst, sym}
+use Rattle.address_map.proofs.Laying.{IsLaid, at_first, more, whole}
+use Rattle.address_map.proofs.UnitAt.{no_range}
 use Rattle.address_map.proofs.overlay.over.Goals as goal
-
-abbrev no_range : UnitRange
-no_range = record { unit = 0; range = record { low = 0; end = 0 } }
 
 pub first-init : goal.first-init
 first-init c = subst (IsLaid c.args.first.now c.args.second.now 0 0 c.args.second.now) (sym c.in_ok-pieces.ensures.items) (at_first c.args.first.now c.args.second.now c.requires.second)
