@@ -30,8 +30,11 @@ impl Model for AddressMap {
 }
 
 impl AddressMap {
-    /// The map of ranges of units. They stand in section order of their units, may overlap, and may have no address
-    /// (`low` at or above `end`).
+    /// The map of ranges of units, which stand in section order of their units. They may overlap, and a range may have no
+    /// address (`low` at or above `end`). n ranges cost n log n, and one pass where they ascend.
+    ///
+    /// The map is the pieces of the definition: each address has the first unit in section order with a range that
+    /// contains it (DWARF 5, section 2.17).
     pub fn build(alloc: Global, ranges: &[UnitRange]) -> Result<AddressMap, NoMemory>
         ensures map { IfOk result (λ m. m ≡ pieces ranges.now) }
         ensures pieces { IfOk result (λ m. IsPieces ranges.now m) }
@@ -41,7 +44,8 @@ impl AddressMap {
         Ok(AddressMap { pieces })
     }
 
-    /// The number of the unit at an address, or None where no unit has a range that contains it.
+    /// The number of the unit at an address, or None where no unit has a range that contains it. A range doesn't contain its
+    /// end. It is found by binary search.
     pub fn unit_at(&self, address: u64) -> Option<u32>
         ensures { result ≡ unit_at self.now address }
     {

@@ -24,7 +24,7 @@ pub(crate) fn overlay(alloc: Global, ranges: &[UnitRange]) -> Result<Vec<UnitRan
     over(alloc, &first, &second)
 }
 
-// Whether each range begins where those before it have ended. Most programs have their units in the order of their addresses.
+// Whether each range begins where those before it have ended, or behind it, as where a linker has put the units in order.
 fn is_ascending(ranges: &[UnitRange]) -> bool
     ensures yes { OnTrue result (IsAscending 0 ranges.now) }
     ensures no { OnFalse result (1 < length ranges.now) }
