@@ -12,9 +12,10 @@ use Rattle.address_map.proofs.UnitAt.{or_else, unit_at-append, cons_same, before
 
 -- ---- the test
 
--- The ranges ascend, if those from k on do so from an address on. Before the first the address is 0.
+-- The ranges ascend exactly if those from k on do so from an address on. Before the first the address is 0.
 pub record IsTested (ranges : List UnitRange) (k from : ℕ) : Type 0 where
   pub rest : IsAscending from (drop k ranges) → IsAscending 0 ranges
+  pub all : IsAscending 0 ranges → IsAscending from (drop k ranges)
   pub first : k ≡ 0 → from ≡ 0
 
 drop_0 : (ps : List UnitRange) → drop 0 ps ≡ ps
@@ -28,7 +29,7 @@ drop_past (p ∷ ps) zero le = absurd (omega (arith, le))
 drop_past (p ∷ ps) (suc k) le = drop_past ps k (omega (arith, le))
 
 pub untested : (ranges : List UnitRange) → IsTested ranges 0 0
-untested ranges = record { rest = subst (IsAscending 0) (drop_0 ranges); first = λ _. refl }
+untested ranges = record { rest = subst (IsAscending 0) (drop_0 ranges); all = subst (IsAscending 0) (sym (drop_0 ranges)); first = λ _. refl }
 
 drop_next : (ranges : List UnitRange) (k : ℕ) (d : UnitRange) → k < length ranges → drop k ranges ≡ get_or ranges k d ∷ drop (k + 1) ranges
 drop_next ranges k d lt = rw (add-one k) (drop-cons ranges k d lt)
@@ -36,13 +37,20 @@ drop_next ranges k d lt = rw (add-one k) (drop-cons ranges k d lt)
 pub one_more : (ranges : List UnitRange) (k from : ℕ) (d : UnitRange) → k < length ranges → from ≤ (get_or ranges k d).range.low → IsTested ranges k from → IsTested ranges (k + 1) (max (get_or ranges k d).range.low (get_or ranges k d).range.end)
 one_more ranges k from d lt le is = record {
   rest = λ more. is.rest (subst (IsAscending from) (sym (drop_next ranges k d lt)) (le, more));
+  all = λ ascends. (subst (IsAscending from) (drop_next ranges k d lt) (is.all ascends)).1;
   first = λ none. absurd (omega (arith, none));
 }
 
 pub all_tested : (ranges : List UnitRange) (k from : ℕ) → length ranges ≤ k → IsTested ranges k from → IsAscending 0 ranges
 all_tested ranges k from past is = is.rest (subst (IsAscending from) (sym (drop_past ranges k past)) tt)
 
--- a range that begins below the address isn't the first
+-- a range that begins below the address doesn't ascend
+pub not_ascending : (ranges : List UnitRange) (k from : ℕ) (d : UnitRange) → k < length ranges → (get_or ranges k d).range.low < from → IsTested ranges k from → IsAscending 0 ranges → ⊥
+not_ascending ranges k from d lt less is ascends =
+    let le = (subst (IsAscending from) (drop_next ranges k d lt) (is.all ascends)).0 in
+    omega (arith, le, less)
+
+-- nor is it the first
 pub two_at_least : (ranges : List UnitRange) (k from low : ℕ) → k < length ranges → low < from → IsTested ranges k from → 1 < length ranges
 two_at_least ranges zero from low lt less is = absurd (let none = is.first refl in omega (arith, less, none))
 two_at_least ranges (suc k) from low lt less is = omega (arith, lt)

@@ -2,8 +2,8 @@
 //!
 //! Each merge is one pass, so n ranges cost n log n whatever their overlaps. Ranges that ascend cost one pass.
 
-ghost use Rattle.std.specs.Prelude.{◌≡◌, ◌<◌, ◌≤◌, ◌∷◌, ◌++◌, length, IfOk, OnOk};
-ghost use Rattle.std.specs.Bool.{OnTrue, OnFalse};
+ghost use Rattle.std.specs.Prelude.{◌≡◌, ◌<◌, ◌≤◌, ◌↔◌, ◌∷◌, ◌++◌, length, IsTrue, IfOk, OnOk};
+ghost use Rattle.std.specs.Bool.{OnFalse};
 ghost use Rattle.index_model.specs.Pieces.{AreApart, IsPieces};
 ghost use Rattle.address_map.specs.Overlay.{EndsBy, IsAscending, IsFilled, IsFollowed, IsLeft, part_of};
 
@@ -26,8 +26,8 @@ pub(crate) fn overlay(alloc: Global, ranges: &[UnitRange]) -> Result<Vec<UnitRan
 
 // Whether each range begins where those before it have ended, or behind it, as where a linker has put the units in order.
 fn is_ascending(ranges: &[UnitRange]) -> bool
-    ensures yes { OnTrue result (IsAscending 0 ranges.now) }
-    ensures no { OnFalse result (1 < length ranges.now) }
+    ensures ascending { IsTrue result ↔ IsAscending 0 ranges.now }
+    ensures two { OnFalse result (1 < length ranges.now) }
 {
     let mut from = 0;
     'pass: for range in ranges {
@@ -61,7 +61,9 @@ fn over(
     requires second { AreApart second.now }
     ensures { IfOk result (λ ps. IsPieces (first.now ++ second.now) ps.items) }
 {
-    let mut pieces = Vec::with_capacity(alloc, room(first.len(), second.len()))?;
+    // Each piece of the first can cut one of the second in two.
+    let room = first.len().saturating_mul(2).saturating_add(second.len());
+    let mut pieces = Vec::with_capacity(alloc, room)?;
     let mut rest = second;
     let mut from = 0;
     'first: for piece in first {
@@ -75,11 +77,6 @@ fn over(
     }
     follow(&mut pieces, rest, from)?;
     Ok(pieces)
-}
-
-// How many pieces two lists of so many can make: each piece of the first can cut one of the second in two.
-fn room(first: usize, second: usize) -> usize {
-    first.saturating_mul(2).saturating_add(second)
 }
 
 // Adds what others have in a gap behind the pieces. Those of the others that go on behind the gap are left.

@@ -1,4 +1,4 @@
-use Rattle.std.proofs.Common.{◌≡◌, suc, ◌-◌, ◌∷◌, ◌++◌, [], length, List, ap, sym, ◌∙◌, subst, refl}
+use Rattle.std.proofs.Common.{◌≡◌, suc, ◌-◌, ◌∷◌, ◌++◌, [], length, List, ap, sym, ◌∙◌, subst, refl, arith}
 use Rattle.std.specs.Vec.{vec_len, vec_items}
 use Rattle.index_model.specs.declared.range.UnitRange.{UnitRange}
 use Rattle.index_model.specs.Pieces.{IsPieces}
@@ -7,11 +7,11 @@ use Rattle.address_map.proofs.overlay.add.Goals as goal
 use Rattle.address_map.proofs.overlay.add.Goals.{in-Some+else-last-piece, else-last-piece-via-then-last-piece+else-last-piece-2, else-last-piece-via-else-last-piece, in_default}
 
 pub returns-then-piece : goal.returns-then-piece
-returns-then-piece c = kept c.args.piece c.args.pieces.now.items c.if-piece.true c.requires.apart
+returns-then-piece c = kept c.args.piece c.args.pieces.now.items (omega arith) c.requires.apart
 
 pub returns-then-last-piece-2 : goal.returns-then-last-piece-2
 returns-then-last-piece-2 c =
-    joined c.in-Some.last.now c.args.piece c.if-last-piece-2.true c.if-last-piece.true c.if-piece.false c.args.pieces.now.items (vec_len c.args.pieces.now - 1) (last_index _ _ c.args.pieces.now.ok.0 (c.in-Some.ensures.variant.0 refl)) c.in-Some.ensures.value c.requires.apart c.requires.behind
+    joined c.in-Some.last.now c.args.piece c.if-last-piece-2.true c.if-last-piece.true (omega arith) c.args.pieces.now.items (vec_len c.args.pieces.now - 1) (last_index _ _ c.args.pieces.now.ok.0 (c.in-Some.ensures.variant.0 refl)) c.in-Some.ensures.value c.requires.apart c.requires.behind
 
 pub returns : goal.returns
 returns c =
