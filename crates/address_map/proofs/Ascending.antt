@@ -1,6 +1,5 @@
 -- Ranges that ascend are joined in one pass.
-use Rattle.std.proofs.Common.{◌≡◌, ℕ, ◌+◌, suc, zero, ◌<◌, ◌≤◌, max, List, [], ◌∷◌, ◌++◌, length, get_or, take, drop, Option, Some, None, refl, arith, ap, sym, subst, ◌∙◌, inl, inr, add-one}
-use Rattle.std.proofs.Math.Seq.{drop-cons}
+use Rattle.std.proofs.Common.{◌≡◌, ℕ, ◌+◌, suc, zero, ◌<◌, ◌≤◌, max, List, [], ◌∷◌, ◌++◌, length, get_or, take, drop, Option, Some, None, refl, arith, ap, sym, subst, ◌∙◌, inl, inr}
 use Rattle.std.proofs.lemmas.List.{take_more}
 use Rattle.std.proofs.lemmas.Bool.{cases_lt}
 use Rattle.index_model.specs.declared.range.UnitRange.{UnitRange}
@@ -8,6 +7,7 @@ use Rattle.index_model.specs.Ranges.{unit_at}
 use Rattle.index_model.specs.Pieces.{IsPieces}
 use Rattle.index_model.proofs.PieceLaws.{behind_end, nothing}
 use Rattle.address_map.specs.Overlay.{EndsBy, IsAscending}
+use Rattle.address_map.proofs.Lists.{drop_0, drop_past, drop_next, none_taken, take_past}
 use Rattle.address_map.proofs.UnitAt.{or_else, unit_at-append, cons_same, before_low}
 
 -- ---- the test
@@ -18,21 +18,8 @@ pub record IsTested (ranges : List UnitRange) (k from : ℕ) : Type 0 where
   pub all : IsAscending 0 ranges → IsAscending from (drop k ranges)
   pub first : k ≡ 0 → from ≡ 0
 
-drop_0 : (ps : List UnitRange) → drop 0 ps ≡ ps
-drop_0 [] = refl
-drop_0 (p ∷ ps) = refl
-
-drop_past : (ps : List UnitRange) (k : ℕ) → length ps ≤ k → drop k ps ≡ []
-drop_past [] zero le = refl
-drop_past [] (suc k) le = refl
-drop_past (p ∷ ps) zero le = absurd (omega (arith, le))
-drop_past (p ∷ ps) (suc k) le = drop_past ps k (omega (arith, le))
-
 pub untested : (ranges : List UnitRange) → IsTested ranges 0 0
 untested ranges = record { rest = subst (IsAscending 0) (drop_0 ranges); all = subst (IsAscending 0) (sym (drop_0 ranges)); first = λ _. refl }
-
-drop_next : (ranges : List UnitRange) (k : ℕ) (d : UnitRange) → k < length ranges → drop k ranges ≡ get_or ranges k d ∷ drop (k + 1) ranges
-drop_next ranges k d lt = rw (add-one k) (drop-cons ranges k d lt)
 
 pub one_more : (ranges : List UnitRange) (k from : ℕ) (d : UnitRange) → k < length ranges → from ≤ (get_or ranges k d).range.low → IsTested ranges k from → IsTested ranges (k + 1) (max (get_or ranges k d).range.low (get_or ranges k d).range.end)
 one_more ranges k from d lt le is = record {
@@ -63,10 +50,6 @@ pub record IsJoined (ranges : List UnitRange) (k : ℕ) (pieces : List UnitRange
   pub from : ℕ
   pub behind : EndsBy from pieces
   pub rest : IsAscending from (drop k ranges)
-
-none_taken : (ps : List UnitRange) → take 0 ps ≡ []
-none_taken [] = refl
-none_taken (p ∷ ps) = refl
 
 pub at_first : (ranges : List UnitRange) → IsAscending 0 ranges → IsJoined ranges 0 []
 at_first ranges ascends = record {
@@ -108,12 +91,6 @@ module _ (ranges : List UnitRange) (k : ℕ) (d : UnitRange) (pieces : List Unit
     behind = λ a le. added.same a ∙ behind_end next pieces a (omega (arith, le)) ∙ next_behind a (omega (arith, le));
     rest = ascends.1;
   }
-
-take_past : (ps : List UnitRange) (k : ℕ) → length ps ≤ k → take k ps ≡ ps
-take_past [] zero le = refl
-take_past [] (suc k) le = refl
-take_past (p ∷ ps) zero le = absurd (omega (arith, le))
-take_past (p ∷ ps) (suc k) le = ap (λ (xs : List UnitRange). p ∷ xs) (take_past ps k (omega (arith, le)))
 
 pub all_joined : (ranges : List UnitRange) (k : ℕ) (pieces : List UnitRange) → length ranges ≤ k → IsJoined ranges k pieces → IsPieces ranges pieces
 all_joined ranges k pieces past is = subst (λ (xs : List UnitRange). IsPieces xs pieces) (take_past ranges k past) is.front

@@ -1,6 +1,5 @@
 -- Pieces up to one of them, and from it on.
-use Rattle.std.proofs.Common.{◌≡◌, ℕ, ◌+◌, ◌-◌, suc, zero, ◌<◌, ◌≤◌, List, [], ◌∷◌, length, get_or, take, drop, refl, arith, ap, sym, ◌∙◌, length-drop}
-use Rattle.std.proofs.Math.Seq.{take-length}
+use Rattle.std.proofs.Common.{◌≡◌, ℕ, ◌+◌, suc, zero, ◌<◌, ◌≤◌, List, [], ◌∷◌, length, get_or, take, drop, refl, arith, ap, sym, ◌∙◌}
 use Rattle.std.proofs.lemmas.List.{take_more}
 use Rattle.index_model.specs.declared.range.UnitRange.{UnitRange}
 use Rattle.index_model.specs.Ranges.{unit_at}
@@ -49,7 +48,3 @@ drop_same (p ∷ ps) (suc k) end a apart e le =
 pub take_next : (ps : List UnitRange) (k : ℕ) (d : UnitRange) (a : ℕ) → AreApart ps → k < length ps → unit_at (take (k + 1) ps) a ≡ unit_at (get_or ps k d ∷ take k ps) a
 take_next ps k d a apart lt =
     ap (λ (xs : List UnitRange). unit_at xs a) (take_more ps k d lt) ∙ pushed_same (take k ps) (get_or ps k d) a (take_apart ps k apart) (take_ends ps k d apart lt)
-
--- what a slice up to the end has
-pub drop_slice : (ps : List UnitRange) (k : ℕ) → take (length ps - k) (drop k ps) ≡ drop k ps
-drop_slice ps k = ap (λ (n : ℕ). take n (drop k ps)) (sym (length-drop k ps)) ∙ take-length (drop k ps)

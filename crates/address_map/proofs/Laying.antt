@@ -1,12 +1,12 @@
 -- One list of pieces is laid over another.
-use Rattle.std.proofs.Common.{◌≡◌, ℕ, ◌+◌, suc, zero, ◌<◌, ◌≤◌, List, [], ◌∷◌, ◌++◌, length, get_or, drop, Option, Some, None, refl, arith, ap, sym, ◌∙◌, inl, inr, add-one, subst}
-use Rattle.std.proofs.Math.Seq.{drop-cons}
+use Rattle.std.proofs.Common.{◌≡◌, ℕ, ◌+◌, suc, ◌<◌, ◌≤◌, List, [], ◌∷◌, ◌++◌, length, get_or, drop, Option, Some, None, refl, arith, ap, sym, ◌∙◌, inl, inr, subst}
 use Rattle.std.proofs.lemmas.Bool.{cases_lt}
 use Rattle.index_model.specs.declared.range.UnitRange.{UnitRange}
 use Rattle.index_model.specs.Ranges.{unit_at}
 use Rattle.index_model.specs.Pieces.{AreApart, IsPieces}
 use Rattle.index_model.proofs.PieceLaws.{within, behind_end, nothing, behind_first, none_below, First}
 use Rattle.address_map.specs.Overlay.{EndsBy, IsFilled, IsFollowed, IsLeft}
+use Rattle.address_map.proofs.Lists.{drop_0, drop_past, drop_next}
 use Rattle.address_map.proofs.UnitAt.{or_else, unit_at-append, before_low, drop_apart}
 
 -- Below `from` the pieces are done. From there on, the first k of the first list and the others that were dropped have ended.
@@ -27,10 +27,6 @@ unit_wins xs ys a u e = unit_at-append xs ys a ∙ ap (λ (o : Option ℕ). or_e
 first_from_0 : (ps : List UnitRange) → First 0 ps
 first_from_0 [] = tt
 first_from_0 (p ∷ ps) = omega arith
-
-drop_0 : (ps : List UnitRange) → drop 0 ps ≡ ps
-drop_0 [] = refl
-drop_0 (p ∷ ps) = refl
 
 pub at_first : (first second : List UnitRange) → AreApart second → IsLaid first second 0 0 second []
 at_first first second apart = record {
@@ -62,18 +58,18 @@ module _ (first second : List UnitRange) (k from : ℕ) (rest pieces : List Unit
     abbrev piece : UnitRange
     piece = get_or first k d
 
-    drop_next : drop k first ≡ piece ∷ drop (k + 1) first
-    drop_next = rw (add-one k) (drop-cons first k d lt)
+    next_is : drop k first ≡ piece ∷ drop (k + 1) first
+    next_is = drop_next first k d lt
 
     next_apart : AreApart (piece ∷ drop (k + 1) first)
-    next_apart = subst AreApart drop_next (drop_apart first k apart)
+    next_apart = subst AreApart next_is (drop_apart first k apart)
 
     -- the gap before the next piece isn't negative
     pub gap_some : from ≤ piece.range.low
-    gap_some = subst (First from) drop_next laid.next
+    gap_some = subst (First from) next_is laid.next
 
     first_here : First piece.range.low (drop k first)
-    first_here = let P : List UnitRange → Type 0 = First piece.range.low in subst P (sym drop_next) (omega arith)
+    first_here = let P : List UnitRange → Type 0 = First piece.range.low in subst P (sym next_is) (omega arith)
 
     pub more : (left filled newer : List UnitRange) → IsFilled (record { low = from; end = piece.range.low }) pieces rest filled → IsLeft piece.range.low rest left → IsPieces (piece ∷ filled) newer → IsLaid first second (k + 1) piece.range.end left newer
     more left filled newer by others added =
@@ -82,22 +78,13 @@ module _ (first second : List UnitRange) (k from : ℕ) (rest pieces : List Unit
           apart = added.apart;
           before = λ a less. added.same a ∙ elim (cases_lt a piece.range.low) as (λ _. unit_at (piece ∷ filled) a ≡ unit_at (first ++ second) a) [
             | inl below ↦ before_low piece filled a below ∙ before_gap piece.range.low filled first_here by a below
-            | inr le ↦ within piece filled a le less ∙ sym (unit_wins first second a piece.unit (sym (laid.first_left a (omega (arith, le, gap))) ∙ ap (λ (ps : List UnitRange). unit_at ps a) drop_next ∙ within piece (drop (k + 1) first) a le less))
+            | inr le ↦ within piece filled a le less ∙ sym (unit_wins first second a piece.unit (sym (laid.first_left a (omega (arith, le, gap))) ∙ ap (λ (ps : List UnitRange). unit_at ps a) next_is ∙ within piece (drop (k + 1) first) a le less))
           ];
           behind = λ a le. added.same a ∙ behind_end piece filled a le ∙ by.behind a (omega (arith, le, some));
           next = first_behind piece (drop (k + 1) first) next_apart;
-          first_left = λ a le. sym (behind_end piece (drop (k + 1) first) a le) ∙ sym (ap (λ (ps : List UnitRange). unit_at ps a) drop_next) ∙ laid.first_left a (omega (arith, le, gap, some));
+          first_left = λ a le. sym (behind_end piece (drop (k + 1) first) a le) ∙ sym (ap (λ (ps : List UnitRange). unit_at ps a) next_is) ∙ laid.first_left a (omega (arith, le, gap, some));
           second_left = record { apart = others.apart; same = λ a le. others.same a (omega (arith, le, some)) ∙ laid.second_left.same a (omega (arith, le, gap, some)) };
         }
-
-  none_left : length first ≤ k → drop k first ≡ []
-  none_left le = drop_past first k le
-    where
-      drop_past : (ps : List UnitRange) (k : ℕ) → length ps ≤ k → drop k ps ≡ []
-      drop_past [] zero le = refl
-      drop_past [] (suc k) le = refl
-      drop_past (p ∷ ps) zero le = absurd (omega (arith, le))
-      drop_past (p ∷ ps) (suc k) le = drop_past ps k (omega (arith, le))
 
   -- behind the last piece come the others that are left
   pub whole : (followed : List UnitRange) → length first ≤ k → IsFollowed from pieces rest followed → IsPieces (first ++ second) followed
@@ -105,6 +92,6 @@ module _ (first second : List UnitRange) (k from : ℕ) (rest pieces : List Unit
     apart = by.apart;
     same = λ a. elim (cases_lt a from) as (λ _. unit_at followed a ≡ unit_at (first ++ second) a) [
       | inl less ↦ by.before a less ∙ laid.before a less
-      | inr le ↦ by.behind a le ∙ sym (in_gap (suc a) (subst (First (suc a)) (sym (none_left past)) tt) a le (omega arith))
+      | inr le ↦ by.behind a le ∙ sym (in_gap (suc a) (subst (First (suc a)) (sym (drop_past first k past)) tt) a le (omega arith))
     ];
   }

@@ -1,3 +1,4 @@
+pub mod Lists
 pub mod UnitAt
 pub mod Adding
 pub mod Fronts

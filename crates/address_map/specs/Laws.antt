@@ -6,7 +6,7 @@ use Rattle.index_model.specs.Pieces.{pieces}
 
 -- ---- the order of pieces
 
--- Each piece has an address. None ends behind the begin of a later one. Where one ends at the begin of the next the units differ.
+-- Each piece has an address, and ends where a later one begins or before. Where two touch the units differ.
 pub record AreInOrder (ps : List UnitRange) : Type 0 where
   pub some : (i : ℕ) (d : UnitRange) → i < length ps → (slice_index_or ps i d).range.low < (slice_index_or ps i d).range.end
   pub ascending : (i j : ℕ) (d : UnitRange) → i < j → j < length ps → (slice_index_or ps i d).range.end ≤ (slice_index_or ps j d).range.low

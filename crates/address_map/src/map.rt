@@ -60,13 +60,13 @@ impl AddressMap {
     }
 }
 
-// The unit of the piece that contains the address.
+// The unit of the piece that contains the address. Only the last piece that begins there or before can do so.
 fn unit_among(pieces: &[UnitRange], address: u64) -> Option<u32>
     requires { AreApart pieces.now }
     ensures { result ≡ unit_at pieces.now address }
 {
-    let behind = pieces.partition_point(|piece| piece.range.low <= address);
-    let piece = pieces[behind.checked_sub(1)?];
+    let begun = pieces.partition_point(|piece| piece.range.low <= address);
+    let piece = pieces[begun.checked_sub(1)?];
     if address < piece.range.end {
         Some(piece.unit)
     } else {

@@ -79,7 +79,7 @@ fn over(
     Ok(pieces)
 }
 
-// Adds what others have in a gap behind the pieces. Those of the others that go on behind the gap are left.
+// Adds what others have in a gap behind the pieces, and answers those of the others that go on behind the gap.
 fn fill<'p>(
     pieces: &mut Vec<UnitRange>,
     others: &'p [UnitRange],

@@ -7,15 +7,15 @@ use Rattle.address_map.proofs.map.unit_among.Goals as goal
 
 pub returns-in_err-piece : goal.returns-in_err-piece
 returns-in_err-piece c =
-    let point = IsPartitionPoint-from_clause (λ (p : UnitRange). leb p.range.low c.args.address) c.args.pieces.now _ c.partition_point-behind.ensures.partitioned (parted _ c.args.address c.requires) (λ a r q k. search rules) in
-    c.from_residual.ensures ∙ none_begins c.args.pieces.now c.args.address _ no_range c.requires c.partition_point-behind.ensures.bound point c.in_err-piece.ensures
+    let point = IsPartitionPoint-from_clause (λ (p : UnitRange). leb p.range.low c.args.address) c.args.pieces.now _ c.partition_point-begun.ensures.partitioned (parted _ c.args.address c.requires) (λ a r q k. search rules) in
+    c.from_residual.ensures ∙ none_begins c.args.pieces.now c.args.address _ no_range c.requires c.partition_point-begun.ensures.bound point c.in_err-piece.ensures
 
 pub returns-then-address-piece : goal.returns-then-address-piece
 returns-then-address-piece c =
-    let point = IsPartitionPoint-from_clause (λ (p : UnitRange). leb p.range.low c.args.address) c.args.pieces.now _ c.partition_point-behind.ensures.partitioned (parted _ c.args.address c.requires) (λ a r q k. search rules) in
-    in_last c.args.pieces.now c.args.address _ no_range c.requires c.partition_point-behind.ensures.bound point _ c.in_ok-piece.ensures.0 c.in_ok-piece.ensures.1 c.if-address-piece.true
+    let point = IsPartitionPoint-from_clause (λ (p : UnitRange). leb p.range.low c.args.address) c.args.pieces.now _ c.partition_point-begun.ensures.partitioned (parted _ c.args.address c.requires) (λ a r q k. search rules) in
+    in_last c.args.pieces.now c.args.address _ no_range c.requires c.partition_point-begun.ensures.bound point _ c.in_ok-piece.ensures.0 c.in_ok-piece.ensures.1 c.if-address-piece.true
 
 pub returns-else-address-piece : goal.returns-else-address-piece
 returns-else-address-piece c =
-    let point = IsPartitionPoint-from_clause (λ (p : UnitRange). leb p.range.low c.args.address) c.args.pieces.now _ c.partition_point-behind.ensures.partitioned (parted _ c.args.address c.requires) (λ a r q k. search rules) in
-    past_last c.args.pieces.now c.args.address _ no_range c.requires c.partition_point-behind.ensures.bound point _ c.in_ok-piece.ensures.0 c.in_ok-piece.ensures.1 c.if-address-piece.false
+    let point = IsPartitionPoint-from_clause (λ (p : UnitRange). leb p.range.low c.args.address) c.args.pieces.now _ c.partition_point-begun.ensures.partitioned (parted _ c.args.address c.requires) (λ a r q k. search rules) in
+    past_last c.args.pieces.now c.args.address _ no_range c.requires c.partition_point-begun.ensures.bound point _ c.in_ok-piece.ensures.0 c.in_ok-piece.ensures.1 c.if-address-piece.false

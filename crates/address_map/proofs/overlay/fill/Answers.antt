@@ -3,7 +3,7 @@ use Rattle.std.proofs.Math.Seq.{drop-length}
 use Rattle.index_model.specs.declared.range.UnitRange.{UnitRange}
 use Rattle.index_model.specs.Pieces.{IsPieces}
 use Rattle.address_map.specs.Overlay.{EndsBy, IsLeft}
-use Rattle.address_map.proofs.Fronts.{drop_slice}
+use Rattle.address_map.proofs.Lists.{drop_slice}
 use Rattle.address_map.proofs.Filling.{at_first, part_behind, more, left, filled, filled_up}
 use Rattle.address_map.proofs.UnitAt.{no_range}
 use Rattle.address_map.proofs.overlay.fill.Goals as goal
