@@ -1,0 +1,9 @@
+pub mod Asked
+pub mod Counts
+pub mod Front
+pub mod Groups
+pub mod Halving
+pub mod Pairs
+pub mod Seen
+pub mod Sorted
+pub mod Tables

@@ -1,0 +1,134 @@
+//! Sorted texts, each once, with the places of their entries.
+
+ghost use Rattle.std.specs.Prelude.{◌≡◌, ◌<◌, ◌≤◌, ◌^◌, ◌+◌, length, not, IfOk, vec_len, slice_range, IfSome, All};
+ghost use Rattle.std.specs.List.{list_any};
+ghost use Rattle.std.specs.Ordering.{nat_cmp};
+ghost use Rattle.std.specs.Cmp.Lexicographic.{slice_cmp};
+ghost use Rattle.index_model.specs.Answers.{places as places_with};
+ghost use Rattle.query_engine.specs.Asked.{TailsFit, is_asked};
+ghost use Rattle.query_engine.specs.Counts.{name_count, without_linkage, is_plain};
+ghost use Rattle.query_engine.specs.declared.way.Way.TheVariants.{ByName};
+ghost use Rattle.query_engine.specs.Sorted.{AreNamesOf, IsGroup, name_at, group_text};
+
+use crate::key::{keys_of, sort_keys};
+use crate::runs::{Group, groups_of};
+use crate::spelling::Spelling;
+use crate::way::Way;
+use index_model::{Entry, Steps};
+use std::alloc::{AllocError, Global};
+use std::cmp::Ordering;
+use std::sync::ledger::Ledger;
+use std::thread::Threads;
+
+/// The distinct texts by which entries are asked for one way, ascending. A text is that of its first entry: only `compare`
+/// reads it, and counts itself.
+#[derive(Drop)]
+pub(crate) struct Names {
+    way: Way,
+    groups: Vec<Group>,
+    // The places of the entries, by text and then ascending.
+    places: Vec<u32>,
+}
+
+impl Names {
+    /// The texts of these entries.
+    pub fn sorted<R: Threads + Sync>(
+        rt: &R,
+        alloc: Global,
+        way: Way,
+        entries: &[Entry<'_>],
+    ) -> Result<Names, AllocError>
+        requires few { length entries.now < 2 ^ 32 }
+        requires tails { TailsFit entries.now }
+        ensures way { IfOk result (λ n. n.way ≡ way) }
+        ensures names { IfOk result (AreNamesOf entries.now) }
+    {
+        let mut keys = keys_of(alloc, way, entries)?;
+        sort_keys(rt, alloc, keys.as_mut_slice())?;
+        let groups = groups_of(alloc, keys.as_slice())?;
+        let places = keys.iter().map(|key| key.place).collect(alloc)?;
+        Ok(Names {
+            way,
+            groups,
+            places,
+        })
+    }
+
+    /// How many texts there are.
+    pub fn len(&self) -> usize
+        ensures { result ≡ vec_len self.now.groups }
+    {
+        self.groups.len()
+    }
+
+    /// Compares the text at an index with the asked one. This is the one step that is counted.
+    pub fn compare<L: Ledger>(
+        &self,
+        entries: &[Entry<'_>],
+        index: usize,
+        asked: &Spelling<'_>,
+        steps: &mut Steps<L>,
+    ) -> Ordering
+        requires index { index < vec_len self.now.groups }
+        requires tails { TailsFit entries.now }
+        requires names { AreNamesOf entries.now self.now }
+        ensures order { result ≡ slice_cmp nat_cmp (name_at entries.now self.now index) asked.now.bytes.now }
+        ensures counted { steps.new ≡ steps.old + 1 }
+    {
+        steps.tick();
+        let group = self.groups[index];
+        match group.front.cmp(&asked.front) {
+            Ordering::Equal => self.text_of(entries, group).cmp(&asked.bytes),
+            unequal => unequal,
+        }
+    }
+
+    /// The ascending places of the entries with the text at an index.
+    pub fn places_at(&self, entries: &[Entry<'_>], index: usize) -> &[u32]
+        requires index { index < vec_len self.now.groups }
+        requires names { AreNamesOf entries.now self.now }
+        ensures { result.now ≡ places_with (is_asked self.now.way (name_at entries.now self.now index)) entries.now }
+    {
+        let group = self.groups[index];
+        &self.places[group.start as usize..group.end as usize]
+    }
+
+    /// How many texts have an entry that isn't a linkage entry.
+    pub fn count_plain(&self, entries: &[Entry<'_>]) -> u64
+        requires way { self.now.way ≡ ByName }
+        requires names { AreNamesOf entries.now self.now }
+        ensures { result ≡ name_count (without_linkage entries.now) }
+    {
+        let mut count = 0;
+        for index in 0..self.groups.len() {
+            if has_plain(entries, self.places_at(entries, index)) {
+                count += 1;
+            }
+        }
+        count
+    }
+
+    // The text of a group: that of its first entry.
+    fn text_of<'r>(&self, entries: &'r [Entry<'_>], group: Group) -> &'r [u8]
+        requires tails { TailsFit entries.now }
+        requires places { All (λ p. p < length entries.now) self.now.places.items }
+        requires group { group.start < vec_len self.now.places }
+        ensures { result.now ≡ group_text entries.now self.now group }
+    {
+        let place = self.places[group.start as usize];
+        self.way.text(&entries[place as usize])
+    }
+}
+
+// Whether one of these entries isn't a linkage entry.
+fn has_plain(entries: &[Entry<'_>], places: &[u32]) -> bool
+    requires { All (λ p. p < length entries.now) places.now }
+    ensures { result ≡ list_any (is_plain entries.now) places.now }
+{
+    for place in places {
+        if !entries[*place as usize].linkage {
+            return true;
+        }
+    }
+    false
+}

@@ -1,0 +1,40 @@
+//! The search for a name by halving.
+
+ghost use Rattle.std.specs.Prelude.{◌≡◌, ◌≢◌, ◌<◌, ℕ, vec_len, MatchOption};
+ghost use Rattle.query_engine.specs.Asked.{TailsFit};
+ghost use Rattle.query_engine.specs.Halving.{AddsHalvings};
+ghost use Rattle.query_engine.specs.Sorted.{AreNamesOf, name_at};
+
+use crate::names::Names;
+use crate::spelling::Spelling;
+use index_model::{Entry, Steps};
+use std::cmp::Ordering;
+use std::sync::ledger::Ledger;
+
+/// The index of a text among the sorted ones.
+pub(crate) fn find<L: Ledger>(
+    names: &Names,
+    entries: &[Entry<'_>],
+    asked: &[u8],
+    steps: &mut Steps<L>,
+) -> Option<usize>
+    requires tails { TailsFit entries.now }
+    requires names { AreNamesOf entries.now names.now }
+    ensures found { MatchOption result
+        ((k : ℕ) → k < vec_len names.now.groups → name_at entries.now names.now k ≢ asked.now)
+        (λ k. (k < vec_len names.now.groups) × (name_at entries.now names.now k ≡ asked.now)) }
+    ensures steps { AddsHalvings (vec_len names.now.groups) steps.old steps.new }
+{
+    let asked = Spelling::new(asked);
+    let mut low = 0;
+    let mut high = names.len();
+    while low < high {
+        let middle = low + (high - low) / 2;
+        match names.compare(entries, middle, &asked, steps) {
+            Ordering::Less => low = middle + 1,
+            Ordering::Equal => return Some(middle),
+            Ordering::Greater => high = middle,
+        }
+    }
+    None
+}

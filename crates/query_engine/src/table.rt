@@ -1,0 +1,185 @@
+//! The table of entries and its look-ups.
+
+ghost use Rattle.std.specs.Prelude.{◌≡◌, ◌<◌, ◌^◌, length, IfOk, flat_map, sum_by, map, filter};
+ghost use Rattle.index_model.specs.Answers.{places, is_named, is_simply_named};
+ghost use Rattle.query_engine.specs.Asked.{TailsFit, is_asked};
+ghost use Rattle.query_engine.specs.Counts.{name_count, simple_count, without_linkage, text_count};
+ghost use Rattle.query_engine.specs.Halving.{AddsHalvings};
+ghost use Rattle.query_engine.specs.Sorted.{AreNamesOf};
+
+use crate::names::Names;
+use crate::search::find;
+use crate::way::Way;
+use index_model::{Entry, Run, Steps};
+use ix_base::NoMemory;
+use std::alloc::{AllocError, Global};
+use std::marker::Model;
+use std::sync::ledger::Ledger;
+use std::thread::Threads;
+
+/// The entries of a program in section order, found by name. Contracts see the list of entries.
+#[derive(Drop)]
+pub struct Table<'f> {
+    entries: Vec<Entry<'f>>,
+    by_name: Names,
+    by_simple: Names,
+    distinct: u64,
+}
+
+impl<'f> Model for Table<'f> {
+    ghost use Rattle.std.specs.Prelude.{List};
+    ghost use Rattle.index_model.specs.declared.entry.Entry.{Entry};
+
+    ghost Value = { List Entry };
+
+    ghost use Rattle.query_engine.specs.Tables.{AreTableOf};
+
+    ghost view = { λ t. t.entries.items };
+
+    ghost invariant = { λ t. AreTableOf t.entries.items t.by_name t.by_simple t.distinct };
+}
+
+impl<'f> Table<'f> {
+    /// The table of the entries of the runs, one run after the other.
+    pub fn merge<R: Threads + Sync>(
+        rt: &R,
+        alloc: Global,
+        runs: Vec<Run<'f>>,
+    ) -> Result<Table<'f>, NoMemory>
+        requires few { length (flat_map (λ run. run) runs.items) < 2 ^ 32 }
+        requires tails { TailsFit (flat_map (λ run. run) runs.items) }
+        ensures { IfOk result (λ t. t ≡ flat_map (λ run. run) runs.entry.items) }
+    {
+        let entries = joined(alloc, runs)?;
+        let by_name = Names::sorted(rt, alloc, Way::ByName, &entries)?;
+        let by_simple = Names::sorted(rt, alloc, Way::BySimple, &entries)?;
+        let distinct = by_name.count_plain(&entries);
+        Ok(Table {
+            entries,
+            by_name,
+            by_simple,
+            distinct,
+        })
+    }
+
+    /// The entries, in section order.
+    pub fn entries(&self) -> &[Entry<'f>]
+        ensures all { result.now ≡ self.now }
+        ensures tails { TailsFit self.now }
+    {
+        &self.entries
+    }
+
+    /// The ascending places of all entries with this name. A step is one comparison of it with a name of the table.
+    pub fn by_name<L: Ledger>(&self, name: &[u8], steps: &mut Steps<L>) -> &[u32]
+        ensures places { result.now ≡ places (is_named name.now) self.now }
+        ensures steps { AddsHalvings (name_count self.now) steps.old steps.new }
+    {
+        places_of(&self.by_name, &self.entries, name, steps)
+    }
+
+    /// The ascending places of all entries that aren't linkage entries and have this simple name. A step is one comparison of
+    /// it with a simple name of the table.
+    pub fn by_simple<L: Ledger>(&self, name: &[u8], steps: &mut Steps<L>) -> &[u32]
+        ensures places { result.now ≡ places (is_simply_named name.now) self.now }
+        ensures steps { AddsHalvings (simple_count (without_linkage self.now)) steps.old steps.new }
+    {
+        places_of(&self.by_simple, &self.entries, name, steps)
+    }
+
+    /// How many distinct names the entries have that aren't linkage entries.
+    pub fn distinct(&self) -> u64
+        ensures { result ≡ name_count (without_linkage self.now) }
+    {
+        self.distinct
+    }
+}
+
+fn places_of<'r, L: Ledger>(
+    names: &'r Names,
+    entries: &[Entry<'_>],
+    asked: &[u8],
+    steps: &mut Steps<L>,
+) -> &'r [u32]
+    requires tails { TailsFit entries.now }
+    requires names { AreNamesOf entries.now names.now }
+    ensures places { result.now ≡ places (is_asked names.now.way asked.now) entries.now }
+    ensures steps { AddsHalvings (text_count names.now.way entries.now) steps.old steps.new }
+{
+    match find(names, entries, asked, steps) {
+        Some(index) => names.places_at(entries, index),
+        None => &[],
+    }
+}
+
+// The entries of the runs, one run after the other.
+fn joined<'f>(alloc: Global, runs: Vec<Run<'f>>) -> Result<Vec<Entry<'f>>, AllocError>
+    requires { length (flat_map (λ run. run) runs.items) < 2 ^ 32 }
+    ensures { IfOk result (λ v. v.items ≡ flat_map (λ run. run) runs.entry.items) }
+{
+    let mut entries = Vec::with_capacity(alloc, total_len(&runs))?;
+    for run in runs {
+        entries.append(&mut run.into_vec())?;
+    }
+    Ok(entries)
+}
+
+// How many entries the runs have.
+fn total_len(runs: &[Run<'_>]) -> usize
+    requires { length (flat_map (λ run. run) runs.now) < 2 ^ 32 }
+    ensures { result ≡ length (flat_map (λ run. run) runs.now) }
+{
+    let mut total = 0;
+    for run in runs {
+        total += run.as_slice().len();
+    }
+    total
+}
+
+#[cfg(test)]
+mod tests {
+    use super::*;
+    use index_model::{Kind, List, Text};
+    use std::marker::Brand;
+    use std::sync::ledger::Blank;
+    use std::test::Fail;
+
+    fn entry<'f>(name: &'f [u8], linkage: bool, tail: u32) -> Entry<'f> {
+        Entry {
+            unit: 0,
+            offset: 0,
+            tag: 0x2e,
+            kind: Kind::Function,
+            local: false,
+            linkage,
+            name: Text::lent(name),
+            tail,
+        }
+    }
+
+    fn places_by<L: Ledger>(
+        alloc: Global,
+        table: &Table<'_>,
+        name: &[u8],
+        blank: Blank,
+    ) -> Result<Vec<u32>, AllocError> {
+        let mut steps: Steps<L> = Steps::new(blank);
+        Vec::from_slice(alloc, table.by_name(name, &mut steps))
+    }
+
+    #[test]
+    fn finds(rt: HostRuntime) -> Result<(), Fail> {
+        let alloc = rt.alloc();
+        let mut entries = Vec::new(alloc);
+        for name in [b"main".as_slice(), b"f00000000", b"helper", b"v00000000", b"word", b"helper"] {
+            entries.push(entry(name, false, name.len() as u32))?;
+        }
+        let mut runs = Vec::new(alloc);
+        runs.push(List::of(entries))?;
+        let table = Table::merge(&rt, alloc, runs).map_err(|_| "memory")?;
+        assert_eq!(rt; table.distinct(), 5);
+        let found = places_by::<Brand>(alloc, &table, b"helper", Blank::new(1))?;
+        assert_eq!(rt; found.as_slice(), [2u32, 5].as_slice());
+        Ok(())
+    }
+}
