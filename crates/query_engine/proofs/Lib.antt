@@ -1,1 +1,5 @@
 pub mod FrontLaws
+pub mod ResultLaws
+pub mod TextOrder
+pub mod SortLaws
+pub mod GroupLaws

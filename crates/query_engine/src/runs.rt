@@ -1,7 +1,7 @@
 //! Runs of keys with one text among sorted keys.
 
-ghost use Rattle.std.specs.Prelude.{◌≡◌, ◌<◌, ◌≤◌, ◌^◌, length, IfOk};
-ghost use Rattle.query_engine.specs.Groups.{AreGroupsOf};
+ghost use Rattle.std.specs.Prelude.{◌≡◌, ◌<◌, ◌≤◌, ◌^◌, length, IfOk, MatchBool};
+ghost use Rattle.query_engine.specs.Groups.{AreGroupsOf, GoesOnAt};
 ghost use Rattle.query_engine.specs.Pairs.{IsAscending};
 ghost use Rattle.query_engine.specs.Seen.{pairs_seen};
 
@@ -26,7 +26,7 @@ pub(crate) fn groups_of(alloc: Global, keys: &[Key<'_>]) -> Result<Vec<Group>, A
     let mut start = 0;
     for i in 0..keys.len() {
         let next = i + 1;
-        if ends_at(keys, next) {
+        if !goes_on_at(keys, next) {
             groups.push(Group {
                 front: keys[i].text.front,
                 start: start as u32,
@@ -39,10 +39,10 @@ pub(crate) fn groups_of(alloc: Global, keys: &[Key<'_>]) -> Result<Vec<Group>, A
     Ok(groups)
 }
 
-// Whether a group ends before the index: no key stands there, or one with another text.
-fn ends_at(keys: &[Key<'_>], index: usize) -> bool
-    requires some { 0 < index }
-    requires within { index ≤ length keys.now }
+// Whether the key at the index has the text of the one before it.
+fn goes_on_at(keys: &[Key<'_>], index: usize) -> bool
+    requires { 0 < index }
+    ensures { MatchBool result (GoesOnAt (pairs_seen keys.now) index) (GoesOnAt (pairs_seen keys.now) index → ⊥) }
 {
-    index == keys.len() || keys[index] != keys[index - 1]
+    index < keys.len() && keys[index] == keys[index - 1]
 }

@@ -1,0 +1,10 @@
+use Rattle.std.proofs.Common.{◌≡◌, ◌≤◌, map, take}
+use Rattle.std.specs.Prelude.{filter}
+use Rattle.std.specs.List.{enumerate_from}
+use Rattle.query_engine.specs.Asked.{is_counted, text_of}
+use Rattle.query_engine.specs.Pairs.{pairs_in}
+use Rattle.query_engine.specs.Seen.{pairs_seen}
+use Rattle.query_engine.proofs.key.keys_of.Given as goal
+
+abbrev pub invariant-loop-place : goal.invariant-loop-place
+invariant-loop-place l = pairs_seen l.keys.items ≡ pairs_in l.way (take l.place l.entries)
