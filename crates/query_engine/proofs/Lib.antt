@@ -3,3 +3,5 @@ pub mod ResultLaws
 pub mod TextOrder
 pub mod SortLaws
 pub mod GroupLaws
+pub mod PairLaws
+pub mod NamesLaws

@@ -1,11 +1,11 @@
 //! What is sorted: the texts of entries, each with the place of its entry.
 
-ghost use Rattle.std.specs.Prelude.{◌≡◌, ◌<◌, ◌^◌, length, nat_eq, Some, refl, IfOk, OnOk, All};
+ghost use Rattle.std.specs.Prelude.{◌≡◌, ◌<◌, ◌^◌, length, nat_eq, Some, refl, IfOk, OnOk, map};
 ghost use Rattle.std.specs.Ordering.{nat_cmp};
 ghost use Rattle.std.specs.Cmp.{partial_equiv_from_equiv, on_per, on_equiv, on_po, on_total};
 ghost use Rattle.std.specs.Cmp.Lexicographic.{pointwise, slice_cmp, nat_list_eq_equiv, nat_list_cmp_total, texts_ties, texts_po};
 ghost use Rattle.query_engine.specs.Asked.{TailsFit};
-ghost use Rattle.query_engine.specs.Pairs.{pairs_in, IsAscending, SameByText};
+ghost use Rattle.query_engine.specs.Pairs.{pairs_in, IsSortOf};
 ghost use Rattle.query_engine.specs.Seen.{pairs_seen};
 
 use crate::spelling::Spelling;
@@ -61,8 +61,8 @@ impl Ord for Key<'_> {
     }
 }
 
-/// The keys of all entries that can be found this way, in the order of the entries.
-pub(crate) fn keys_of<'r>(
+// The keys of all entries that can be found this way, in the order of the entries.
+fn keys_of<'r>(
     alloc: Global,
     way: Way,
     entries: &'r [Entry<'_>],
@@ -84,15 +84,36 @@ pub(crate) fn keys_of<'r>(
     Ok(keys)
 }
 
-/// Sorts keys by text. Those with one text stay in their order.
-pub(crate) fn sort_keys<R: Threads + Sync>(
+/// The keys of all entries that can be found this way, sorted by text.
+pub(crate) fn sorted_keys<'r, R: Threads + Sync>(
+    rt: &R,
+    alloc: Global,
+    way: Way,
+    entries: &'r [Entry<'_>],
+) -> Result<Vec<Key<'r>>, AllocError>
+    requires few { length entries.now < 2 ^ 32 }
+    requires tails { TailsFit entries.now }
+    ensures { IfOk result (λ v. IsSortOf (pairs_in way entries.now) (pairs_seen v.items)) }
+{
+    let mut keys = keys_of(alloc, way, entries)?;
+    sort_keys(rt, alloc, keys.as_mut_slice())?;
+    Ok(keys)
+}
+
+// Sorts keys by text. Those with one text stay in their order.
+fn sort_keys<R: Threads + Sync>(
     rt: &R,
     alloc: Global,
     keys: &mut [Key<'_>],
 ) -> Result<(), AllocError>
-    ensures length { length keys.new ≡ length keys.old }
-    ensures sorted { OnOk result (IsAscending (pairs_seen keys.new)) }
-    ensures same { SameByText (pairs_seen keys.old) (pairs_seen keys.new) }
+    ensures { OnOk result (IsSortOf (pairs_seen keys.old) (pairs_seen keys.new)) }
 {
     par_sort(rt, alloc, keys)
+}
+
+/// The places of keys, in the order of the keys.
+pub(crate) fn places_of(alloc: Global, keys: &[Key<'_>]) -> Result<Vec<u32>, AllocError>
+    ensures { IfOk result (λ v. v.items ≡ map (λ k. k.place) keys.now) }
+{
+    keys.iter().map(|key| key.place).collect(alloc)
 }

@@ -10,7 +10,7 @@ ghost use Rattle.query_engine.specs.Counts.{name_count, without_linkage, is_plai
 ghost use Rattle.query_engine.specs.declared.way.Way.TheVariants.{ByName};
 ghost use Rattle.query_engine.specs.Sorted.{AreNamesOf, IsGroup, name_at, group_text};
 
-use crate::key::{keys_of, sort_keys};
+use crate::key::{places_of, sorted_keys};
 use crate::runs::{Group, groups_of};
 use crate::spelling::Spelling;
 use crate::way::Way;
@@ -43,10 +43,9 @@ impl Names {
         ensures way { IfOk result (λ n. n.way ≡ way) }
         ensures names { IfOk result (AreNamesOf entries.now) }
     {
-        let mut keys = keys_of(alloc, way, entries)?;
-        sort_keys(rt, alloc, keys.as_mut_slice())?;
-        let groups = groups_of(alloc, keys.as_slice())?;
-        let places = keys.iter().map(|key| key.place).collect(alloc)?;
+        let keys = sorted_keys(rt, alloc, way, entries)?;
+        let groups = groups_of(alloc, &keys)?;
+        let places = places_of(alloc, &keys)?;
         Ok(Names {
             way,
             groups,
