@@ -5,3 +5,4 @@ pub mod SortLaws
 pub mod GroupLaws
 pub mod PairLaws
 pub mod NamesLaws
+pub mod PlainLaws

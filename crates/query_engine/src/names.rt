@@ -1,6 +1,6 @@
 //! Sorted texts, each once, with the places of their entries.
 
-ghost use Rattle.std.specs.Prelude.{◌≡◌, ◌<◌, ◌≤◌, ◌^◌, ◌+◌, length, not, IfOk, vec_len, slice_range, IfSome, All};
+ghost use Rattle.std.specs.Prelude.{◌≡◌, ◌<◌, ◌≤◌, ◌^◌, ◌+◌, length, not, IfOk, All};
 ghost use Rattle.std.specs.List.{list_any};
 ghost use Rattle.std.specs.Ordering.{nat_cmp};
 ghost use Rattle.std.specs.Cmp.Lexicographic.{slice_cmp};
@@ -55,7 +55,7 @@ impl Names {
 
     /// How many texts there are.
     pub fn len(&self) -> usize
-        ensures { result ≡ vec_len self.now.groups }
+        ensures { result ≡ length self.now.groups.items }
     {
         self.groups.len()
     }
@@ -68,7 +68,7 @@ impl Names {
         asked: &Spelling<'_>,
         steps: &mut Steps<L>,
     ) -> Ordering
-        requires index { index < vec_len self.now.groups }
+        requires index { index < length self.now.groups.items }
         requires tails { TailsFit entries.now }
         requires names { AreNamesOf entries.now self.now }
         ensures order { result ≡ slice_cmp nat_cmp (name_at entries.now self.now index) asked.now.bytes.now }
@@ -84,7 +84,7 @@ impl Names {
 
     /// The ascending places of the entries with the text at an index.
     pub fn places_at(&self, entries: &[Entry<'_>], index: usize) -> &[u32]
-        requires index { index < vec_len self.now.groups }
+        requires index { index < length self.now.groups.items }
         requires names { AreNamesOf entries.now self.now }
         ensures { result.now ≡ places_with (is_asked self.now.way (name_at entries.now self.now index)) entries.now }
     {
@@ -111,7 +111,7 @@ impl Names {
     fn text_of<'r>(&self, entries: &'r [Entry<'_>], group: Group) -> &'r [u8]
         requires tails { TailsFit entries.now }
         requires places { All (λ p. p < length entries.now) self.now.places.items }
-        requires group { group.start < vec_len self.now.places }
+        requires group { group.start < length self.now.places.items }
         ensures { result.now ≡ group_text entries.now self.now group }
     {
         let place = self.places[group.start as usize];

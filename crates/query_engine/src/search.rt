@@ -1,6 +1,6 @@
 //! The search for a name by halving.
 
-ghost use Rattle.std.specs.Prelude.{◌≡◌, ◌≢◌, ◌<◌, ℕ, vec_len, MatchOption};
+ghost use Rattle.std.specs.Prelude.{◌≡◌, ◌≢◌, ◌<◌, ℕ, length, MatchOption};
 ghost use Rattle.query_engine.specs.Asked.{TailsFit};
 ghost use Rattle.query_engine.specs.Halving.{AddsHalvings};
 ghost use Rattle.query_engine.specs.Sorted.{AreNamesOf, name_at};
@@ -21,9 +21,9 @@ pub(crate) fn find<L: Ledger>(
     requires tails { TailsFit entries.now }
     requires names { AreNamesOf entries.now names.now }
     ensures found { MatchOption result
-        ((k : ℕ) → k < vec_len names.now.groups → name_at entries.now names.now k ≢ asked.now)
-        (λ k. (k < vec_len names.now.groups) × (name_at entries.now names.now k ≡ asked.now)) }
-    ensures steps { AddsHalvings (vec_len names.now.groups) steps.old steps.new }
+        ((k : ℕ) → k < length names.now.groups.items → name_at entries.now names.now k ≢ asked.now)
+        (λ k. (k < length names.now.groups.items) × (name_at entries.now names.now k ≡ asked.now)) }
+    ensures steps { AddsHalvings (length names.now.groups.items) steps.old steps.new }
 {
     let asked = Spelling::new(asked);
     let mut low = 0;
