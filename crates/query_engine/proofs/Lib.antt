@@ -6,3 +6,5 @@ pub mod GroupLaws
 pub mod PairLaws
 pub mod NamesLaws
 pub mod PlainLaws
+pub mod SearchLaws
+pub mod CountLaws
