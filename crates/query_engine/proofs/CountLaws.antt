@@ -30,11 +30,11 @@ same_tests false true f g = g refl
 same_tests false false f g = refl
 
 module _ {X : Type 0} where
-  any_same : (p q : X → Bool) (xs : List X) → ((x : X) → p x ≡ q x) → list_any p xs ≡ list_any q xs
+  pub any_same : (p q : X → Bool) (xs : List X) → ((x : X) → p x ≡ q x) → list_any p xs ≡ list_any q xs
   any_same p q [] e = refl
   any_same p q (x ∷ xs) e = λ i. e x i || any_same p q xs e i
 
-  any_filter : (p q : X → Bool) (xs : List X) → list_any p (filter q xs) ≡ list_any (λ x. q x && p x) xs
+  pub any_filter : (p q : X → Bool) (xs : List X) → list_any p (filter q xs) ≡ list_any (λ x. q x && p x) xs
   any_filter p q [] = refl
   any_filter p q (x ∷ xs) = elim (q x) as (λ b. list_any p (cond b (x ∷ filter q xs) (filter q xs)) ≡ ((b && p x) || list_any (λ y. q y && p y) xs)) [
     | true ↦ ap (λ b. p x || b) (any_filter p q xs)
@@ -43,11 +43,11 @@ module _ {X : Type 0} where
 
   none_passes : (p : X → Bool) (xs : List X) → filter p xs ≡ [] → list_any p xs ≡ false
   none_passes p [] e = refl
-  none_passes p (x ∷ xs) e = by (p x) refl
+  none_passes p (x ∷ xs) e = by (p x) refl (none_passes p xs)
     where
-      by : (b : Bool) → p x ≡ b → list_any p (x ∷ xs) ≡ false
-      by true h = let g : x ∷ filter p xs ≡ [] = rw h at e in cc
-      by false h = let g : filter p xs ≡ [] = rw h at e in rw h (none_passes p xs g)
+      by : (b : Bool) → p x ≡ b → (filter p xs ≡ [] → list_any p xs ≡ false) → list_any p (x ∷ xs) ≡ false
+      by true h rest = let g : x ∷ filter p xs ≡ [] = rw h at e in cc
+      by false h rest = let g : filter p xs ≡ [] = rw h at e in rw h (rest g)
 
   all_filter : (P : X → Type 0) (p : X → Bool) (xs : List X) → AllByRecursion P xs → AllByRecursion P (filter p xs)
   all_filter P p [] all = all
@@ -63,13 +63,13 @@ module _ {X : Type 0} where
     | false ↦ distinct_filter e p xs (IsDistinct-tail e x xs d)
   ]
 
-any_map : {X Y : Type 0} (p : Y → Bool) (f : X → Y) (xs : List X) → list_any p (map f xs) ≡ list_any (λ x. p (f x)) xs
+pub any_map : {X Y : Type 0} (p : Y → Bool) (f : X → Y) (xs : List X) → list_any p (map f xs) ≡ list_any (λ x. p (f x)) xs
 any_map p f [] = refl
 any_map p f (x ∷ xs) = ap (λ b. p (f x) || b) (any_map p f xs)
 
 -- ---- whether there is a place
 
-any_listed : (t : Entry → Bool) (k : ℕ) (es : List Entry) → list_any (λ (e : ℕ × Entry). t e.1) (enumerate_from k es) ≡ list_any t es
+pub any_listed : (t : Entry → Bool) (k : ℕ) (es : List Entry) → list_any (λ (e : ℕ × Entry). t e.1) (enumerate_from k es) ≡ list_any t es
 any_listed t k [] = refl
 any_listed t k (e ∷ es) = ap (λ b. t e || b) (any_listed t (k + 1) es)
 
@@ -86,7 +86,7 @@ no_entry t es none = sym (any_listed t 0 es) ∙ none_passes (λ (e : ℕ × Ent
 -- ---- the texts
 
 -- the texts of the groups
-pub group_texts : List Entry → Names → List (List ℕ)
+unfoldable pub group_texts : List Entry → Names → List (List ℕ)
 group_texts es n = map (name_at es n) (range_with_len 0 (length n.groups.items))
 
 module _ (es : List Entry) (n : Names) (names : AreNamesOf es n) where

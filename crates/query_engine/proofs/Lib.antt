@@ -5,6 +5,6 @@ pub mod SortLaws
 pub mod GroupLaws
 pub mod PairLaws
 pub mod NamesLaws
-pub mod PlainLaws
 pub mod SearchLaws
 pub mod CountLaws
+pub mod PlainLaws

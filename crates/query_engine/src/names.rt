@@ -99,7 +99,7 @@ impl Names {
         ensures { result ≡ name_count (without_linkage entries.now) }
     {
         let mut count = 0;
-        for index in 0..self.groups.len() {
+        for index in 0..self.len() {
             if has_plain(entries, self.places_at(entries, index)) {
                 count += 1;
             }
