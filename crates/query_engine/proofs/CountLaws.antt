@@ -17,7 +17,8 @@ use Rattle.index_model.specs.Answers.{places}
 use Rattle.query_engine.specs.declared.way.Way.{Way}
 use Rattle.query_engine.specs.declared.names.Names.{Names}
 use Rattle.query_engine.specs.Asked.{is_counted, text_of, is_asked}
-use Rattle.query_engine.specs.Counts.{text_count}
+use Rattle.query_engine.specs.declared.way.Way.TheVariants.{ByName}
+use Rattle.query_engine.specs.Counts.{text_count, name_count}
 use Rattle.query_engine.specs.Groups.{group_at}
 use Rattle.query_engine.specs.Sorted.{name_at, AreNamesOf}
 use Rattle.query_engine.proofs.TextOrder.{same_from_eq, eq_from_same, eq_from_other, before_itself, filter_none, some_passes}
@@ -161,3 +162,11 @@ any_text way p q es =
 
 pub group_count : (es : List Entry) (n : Names) → AreNamesOf es n → length n.groups.items ≡ text_count n.way es
 group_count es n names = sym (texts_length es n names) ∙ length-from_keys nat_list_eq_equiv (group_texts es n) (map (text_of n.way) (filter (is_counted n.way) es)) (texts_apart es n names) (λ q. same_texts es n names q ∙ sym (any_text n.way (is_counted n.way) q es))
+
+filter_all : {X : Type 0} (xs : List X) → filter (λ _. true) xs ≡ xs
+filter_all [] = refl
+filter_all (x ∷ xs) = ap (λ w. x ∷ w) (filter_all xs)
+
+-- by name all entries count
+pub all_counted : (es : List Entry) → text_count ByName es ≡ name_count es
+all_counted es = ap (λ (w : List Entry). distinct_count bytes_eq (map (λ (e : Entry). e.name) w)) (filter_all es)
