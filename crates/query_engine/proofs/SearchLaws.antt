@@ -1,6 +1,7 @@
 -- A search by halving among ascending texts, and its steps.
 use Rattle.std.proofs.Common.{◌≡◌, ◌≢◌, ℕ, zero, suc, ◌+◌, ◌-◌, ◌*◌, ◌/◌, ◌^◌, ◌<◌, ◌≤◌, List, length, refl, sym, ap, ◌∙◌, subst, ◌⊎◌, inl, inr, arith, add-one}
 use Rattle.std.proofs.Math.Nat.{mul-le-mul_left, one-le-pow}
+use Rattle.std.proofs.Math.Pow.{pow_mono}
 use native.Mathlib.Numerals.{unary_clauses}
 use Rattle.std.proofs.lemmas.Bool.{cases_lt}
 use Rattle.std.specs.declared.cmp.Ordering.TheVariants.{Less, Equal, Greater}
@@ -100,3 +101,13 @@ halved_more n old new left rest some half h =
 
 pub adds_halvings : (n old new left : ℕ) → IsHalved n old new left → AddsHalvings n old new
 adds_halvings n old new left h = record { halvings = new - old; few = h.few; added = omega (arith, h.rise) }
+
+-- at most k steps were added, where one more power of two is too large
+pub adds_at_most : (n old new k : ℕ) → 2 * n + 2 < 2 ^ (k + 1) → AddsHalvings n old new → new ≤ old + k
+adds_at_most n old new k large h = elim (cases_lt k h.halvings) [
+  | inl more ↦
+      let low : k + 1 ≤ h.halvings = omega arith in
+      let power : 2 ^ (k + 1) ≤ 2 ^ h.halvings = pow_mono {i = k + 1} {j = h.halvings} low in
+      absurd (omega (arith, power, h.few))
+  | inr few ↦ omega (arith, h.added)
+]
