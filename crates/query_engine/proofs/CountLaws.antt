@@ -143,6 +143,7 @@ module _ (es : List Entry) (n : Names) (names : AreNamesOf es n) where
           by : (b : Bool) → list_any (is_asked n.way q) es ≡ b → (places (is_asked n.way q) es ≡ [] → ⊥) → list_any (is_asked n.way q) es ≡ true
           by true e f = e
           by false e f = absurd (f (no_place (is_asked n.way q) es e))
+
       back : list_any (is_asked n.way q) es ≡ true → list_any (bytes_eq q) (group_texts es n) ≡ true
       back some = by (list_any (bytes_eq q) (group_texts es n)) refl
         where

@@ -61,8 +61,8 @@ front_less (suc n) (x ∷ xs) (y ∷ ys) a b h = elim (cases_lt x y) [
         let same : x ≡ y = omega arith in
         let rest : front n xs < front n ys = let g = rw same at h in omega arith in
         same_first x y (slice_cmp nat_cmp xs ys) same ∙ front_less n xs ys (λ k. a (suc k)) (λ k. b (suc k)) rest
-    ]
   ]
+]
 
 -- ---- at an answer of a comparison of fronts
 
@@ -78,7 +78,7 @@ module _ (xs ys : List ℕ) (m n : ℕ) (a : IsFrontOf m xs) (b : IsFrontOf n ys
           let less : slice_cmp nat_cmp ys xs ≡ Less = front_less 8 ys xs b.small a.small (rw (← b.is, ← a.is) gt) in
           is ∙ nat_greater m n gt ∙ sym (nat_list_cmp_total.antisymm xs ys ∙ ap ordering_reverse less)
       | inr ge ↦ absurd (other (is ∙ nat_equal m n (omega arith)))
-      ]
+    ]
   ]
 
 -- ---- the loop

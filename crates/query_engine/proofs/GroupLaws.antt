@@ -95,9 +95,9 @@ module _ (ps : List Pair) (gs : List Group) (start i : ℕ) (sorted : IsAscendin
         within = omega arith;
         front = rw (← own) is;
         members = filter_piece (has_text (text_at ps start)) ps (0, []) start ((i + 1) - start) (omega (arith, h.upto))
-          (λ k lt. other_text k (λ same. before_itself (text_at ps start) (rw same at (ahead k lt))))
-          (λ k from to. eq_from_same _ _ (h.same k from (omega arith) (omega arith)))
-          (λ k from lt. other_text k (λ same. before_itself (text_at ps start) (rw same at (behind k (omega arith) lt))));
+            (λ k lt. other_text k (λ same. before_itself (text_at ps start) (rw same at (ahead k lt))))
+            (λ k from to. eq_from_same _ _ (h.same k from (omega arith) (omega arith)))
+            (λ k from lt. other_text k (λ same. before_itself (text_at ps start) (rw same at (behind k (omega arith) lt))));
       }
 
   module _ (g : Group) (is : IsGroupOf ps g) (starts : g.start ≡ start) where

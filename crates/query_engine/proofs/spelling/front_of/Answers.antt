@@ -13,10 +13,11 @@ overflow_add-number c =
 pub loop-i-preserved : goal.loop-i-preserved
 loop-i-preserved c =
     let small : c.from.result < 256 = omega (arith, c.from.ensures) in
-    let is : c.from.result ≡ get_or c.args.bytes.now c.loop-i.i 0 = search rules in
-    (front_grows c.loop-i.number c.loop-i.i c.from.result c.loop-i.invariant.0 small,
-     rw (← front_more c.loop-i.number c.loop-i.i c.from.result c.args.bytes.now c.loop-i-test.true is) c.loop-i.invariant.1,
-     omega arith)
+    let is : c.from.result ≡ get_or c.args.bytes.now c.loop-i.i 0 = search rules in (
+      front_grows c.loop-i.number c.loop-i.i c.from.result c.loop-i.invariant.0 small,
+      rw (← front_more c.loop-i.number c.loop-i.i c.from.result c.args.bytes.now c.loop-i-test.true is) c.loop-i.invariant.1,
+      omega arith,
+    )
 
 pub returns : goal.returns
 returns c = front_whole c.loop-i.number c.args.bytes.now c.loop-i.i (omega arith) c.loop-i.invariant.2 c.loop-i.invariant.1
