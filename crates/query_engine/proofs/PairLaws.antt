@@ -1,7 +1,6 @@
 -- The pairs of entries that can be found one way.
-use Rattle.std.proofs.Common.{◌≡◌, ◌≢◌, ℕ, zero, suc, ◌+◌, ◌-◌, ◌<◌, ◌≤◌, Bool, true, false, cond, List, [], ◌∷◌, ◌++◌, length, get_or, take, drop, map, refl, sym, ap, ◌∙◌, subst, arith, Some, append_assoc, add-one}
-use mathlib.Core.Bool.{◌&&◌}
-use Rattle.std.specs.Prelude.{bytes_eq, filter, All, slice_get, option_map, unwrap_or}
+use Rattle.std.proofs.Common.{◌≡◌, ℕ, suc, ◌+◌, ◌<◌, ◌≤◌, Bool, true, false, cond, List, [], ◌∷◌, ◌++◌, length, get_or, take, map, refl, ap, ◌∙◌, arith}
+use Rattle.std.specs.Prelude.{bytes_eq, filter, All, option_map, unwrap_or}
 use Rattle.std.specs.List.{enumerate_from}
 use Rattle.std.proofs.lemmas.List.{map-append, take_more, length-take, length-map, append-nil}
 use Rattle.std.proofs.lemmas.List.Elements.{filter-append, All-nil, All-from_get_or, All-filter, All-map}

@@ -1,5 +1,5 @@
 -- The names of entries that aren't linkage entries.
-use Rattle.std.proofs.Common.{◌≡◌, ℕ, suc, ◌+◌, ◌<◌, ◌≤◌, Bool, true, false, cond, List, [], ◌∷◌, length, get_or, map, refl, sym, ap, ◌∙◌, subst, arith}
+use Rattle.std.proofs.Common.{◌≡◌, ℕ, suc, ◌+◌, ◌<◌, Bool, true, false, cond, List, [], ◌∷◌, length, get_or, map, refl, sym, ap, ◌∙◌, arith}
 use mathlib.Core.Bool.{not, ◌&&◌, ◌||◌, true≢false}
 use Rattle.std.specs.Prelude.{bytes_eq, filter, count_by, option_map, unwrap_or}
 use Rattle.std.specs.List.{list_any, enumerate_from, range_with_len}

@@ -1,6 +1,6 @@
 -- What follows from the clauses of a call that may lack memory.
-use Rattle.std.proofs.Common.{◌≡◌, Result, Ok, Err}
-use Rattle.std.specs.Result.{OnOk, IfOk}
+use Rattle.std.proofs.Common.{Result, Ok, Err}
+use Rattle.std.specs.Result.{OnOk}
 
 pub on_ok : {T E : Type 0} (r : Result T E) (P Q : Type 0) → (P → Q) → OnOk r P → OnOk r Q
 on_ok (Ok x) P Q f h = f h

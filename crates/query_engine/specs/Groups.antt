@@ -1,5 +1,5 @@
 -- Groups of sorted pairs with one text.
-use Rattle.std.specs.Prelude.{◌≡◌, ◌≢◌, ℕ, ◌-◌, ◌<◌, ◌≤◌, List, length, filter, slice_index_or, slice_range}
+use Rattle.std.specs.Prelude.{◌≡◌, ℕ, ◌-◌, ◌<◌, ◌≤◌, List, length, filter, slice_index_or, slice_range}
 use Rattle.query_engine.specs.declared.runs.Group.{Group}
 use Rattle.query_engine.specs.Front.{IsFrontOf}
 use Rattle.query_engine.specs.Pairs.{Pair, text_at, ComesBefore, has_text}

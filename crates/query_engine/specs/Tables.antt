@@ -1,5 +1,5 @@
 -- What the parts of a table are for its entries.
-use Rattle.std.specs.Prelude.{◌≡◌, ℕ, List, length}
+use Rattle.std.specs.Prelude.{◌≡◌, ℕ, List}
 use Rattle.index_model.specs.declared.entry.Entry.{Entry}
 use Rattle.query_engine.specs.declared.way.Way.TheVariants.{ByName, BySimple}
 use Rattle.query_engine.specs.declared.names.Names.{Names}

@@ -1,6 +1,6 @@
 //! Sorted texts, each once, with the places of their entries.
 
-ghost use Rattle.std.specs.Prelude.{◌≡◌, ◌<◌, ◌≤◌, ◌^◌, ◌+◌, length, not, IfOk, All};
+ghost use Rattle.std.specs.Prelude.{◌≡◌, ◌<◌, ◌^◌, ◌+◌, length, IfOk, All};
 ghost use Rattle.std.specs.List.{list_any};
 ghost use Rattle.std.specs.Ordering.{nat_cmp};
 ghost use Rattle.std.specs.Cmp.Lexicographic.{slice_cmp};
@@ -8,7 +8,7 @@ ghost use Rattle.index_model.specs.Answers.{places as places_with};
 ghost use Rattle.query_engine.specs.Asked.{TailsFit, is_asked};
 ghost use Rattle.query_engine.specs.Counts.{name_count, without_linkage, is_plain};
 ghost use Rattle.query_engine.specs.declared.way.Way.TheVariants.{ByName};
-ghost use Rattle.query_engine.specs.Sorted.{AreNamesOf, IsGroup, name_at, group_text};
+ghost use Rattle.query_engine.specs.Sorted.{AreNamesOf, name_at, group_text};
 
 use crate::key::{places_of, sorted_keys};
 use crate::runs::{Group, groups_of};

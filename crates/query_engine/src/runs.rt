@@ -1,6 +1,6 @@
 //! Runs of keys with one text among sorted keys.
 
-ghost use Rattle.std.specs.Prelude.{◌≡◌, ◌<◌, ◌≤◌, ◌^◌, length, IfOk, MatchBool};
+ghost use Rattle.std.specs.Prelude.{◌≡◌, ◌<◌, ◌^◌, length, IfOk, MatchBool};
 ghost use Rattle.query_engine.specs.Groups.{AreGroupsOf, GoesOnAt};
 ghost use Rattle.query_engine.specs.Pairs.{IsAscending};
 ghost use Rattle.query_engine.specs.Seen.{pairs_seen};

@@ -1,6 +1,6 @@
 //! The table of entries and its look-ups.
 
-ghost use Rattle.std.specs.Prelude.{◌≡◌, ◌<◌, ◌^◌, length, IfOk, flat_map, sum_by, map, filter};
+ghost use Rattle.std.specs.Prelude.{◌≡◌, ◌<◌, ◌^◌, length, IfOk, flat_map};
 ghost use Rattle.index_model.specs.Answers.{places, is_named, is_simply_named};
 ghost use Rattle.query_engine.specs.Asked.{TailsFit, is_asked};
 ghost use Rattle.query_engine.specs.Counts.{name_count, simple_count, without_linkage, text_count};
@@ -17,7 +17,8 @@ use std::marker::Model;
 use std::sync::ledger::Ledger;
 use std::thread::Threads;
 
-/// The entries of a program in section order, found by name. Contracts see the list of entries.
+/// The entries of a program in section order, found by name (DWARF 5, section 6.1.1). Contracts see the list of entries. A
+/// place is that of an entry in this list, counted from 0.
 #[derive(Drop)]
 pub struct Table<'f> {
     entries: Vec<Entry<'f>>,
@@ -40,7 +41,13 @@ impl<'f> Model for Table<'f> {
 }
 
 impl<'f> Table<'f> {
-    /// The table of the entries of the runs, one run after the other.
+    /// The table of the entries of the runs, one run after the other. The runs have fewer than 4,294,967,296 entries together,
+    /// and no entry's tail is above the length of its name. Threads share the sort; the table is the same for any number of
+    /// them.
+    ///
+    /// # Errors
+    ///
+    /// `NoMemory` where memory was refused. The runs are gone then.
     pub fn merge<R: Threads + Sync>(
         rt: &R,
         alloc: Global,
@@ -62,7 +69,7 @@ impl<'f> Table<'f> {
         })
     }
 
-    /// The entries, in section order.
+    /// The entries, in section order. No entry's tail is above the length of its name.
     pub fn entries(&self) -> &[Entry<'f>]
         ensures all { result.now ≡ self.now }
         ensures tails { TailsFit self.now }
@@ -70,7 +77,8 @@ impl<'f> Table<'f> {
         &self.entries
     }
 
-    /// The ascending places of all entries with this name. A step is one comparison of it with a name of the table.
+    /// The ascending places of all entries with this name. A step is one comparison of it with a name of the table. There are
+    /// at most s of them, where 2^s is at most 2n + 2 and the entries have n distinct names. Takes no memory.
     pub fn by_name<L: Ledger>(&self, name: &[u8], steps: &mut Steps<L>) -> &[u32]
         ensures places { result.now ≡ places (is_named name.now) self.now }
         ensures steps { AddsHalvings (name_count self.now) steps.old steps.new }
@@ -78,8 +86,8 @@ impl<'f> Table<'f> {
         places_of(&self.by_name, &self.entries, name, steps)
     }
 
-    /// The ascending places of all entries that aren't linkage entries and have this simple name. A step is one comparison of
-    /// it with a simple name of the table.
+    /// The ascending places of all entries that aren't linkage entries and have this simple name. The steps are bounded as in
+    /// `by_name`, by the distinct simple names of these entries. Takes no memory.
     pub fn by_simple<L: Ledger>(&self, name: &[u8], steps: &mut Steps<L>) -> &[u32]
         ensures places { result.now ≡ places (is_simply_named name.now) self.now }
         ensures steps { AddsHalvings (simple_count (without_linkage self.now)) steps.old steps.new }
@@ -87,7 +95,7 @@ impl<'f> Table<'f> {
         places_of(&self.by_simple, &self.entries, name, steps)
     }
 
-    /// How many distinct names the entries have that aren't linkage entries.
+    /// How many distinct names the entries have that aren't linkage entries. Takes no memory.
     pub fn distinct(&self) -> u64
         ensures { result ≡ name_count (without_linkage self.now) }
     {
@@ -95,6 +103,7 @@ impl<'f> Table<'f> {
     }
 }
 
+// The places of the entries with a text. The result borrows from the names alone.
 fn places_of<'r, L: Ledger>(
     names: &'r Names,
     entries: &[Entry<'_>],

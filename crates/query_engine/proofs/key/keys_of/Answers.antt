@@ -1,8 +1,6 @@
-use Rattle.std.proofs.Common.{◌≡◌, ◌∙◌, sym, ap, List, [], ◌∷◌, ◌++◌}
+use Rattle.std.proofs.Common.{◌≡◌, ◌∙◌, sym}
 use Rattle.std.proofs.lemmas.List.{map-append}
 use Rattle.query_engine.specs.Asked.{text_of}
-use Rattle.query_engine.specs.Pairs.{Pair}
-use Rattle.query_engine.specs.Seen.{pairs_seen, pair_seen}
 use Rattle.query_engine.proofs.PairLaws.{pairs_push, pairs_keep}
 use Rattle.query_engine.proofs.key.keys_of.Goals as goal
 use Rattle.query_engine.proofs.key.keys_of.Goals.{then-counts+in_ok-push, else-counts}

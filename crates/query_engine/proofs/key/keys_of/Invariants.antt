@@ -1,7 +1,4 @@
-use Rattle.std.proofs.Common.{◌≡◌, ◌≤◌, map, take}
-use Rattle.std.specs.Prelude.{filter}
-use Rattle.std.specs.List.{enumerate_from}
-use Rattle.query_engine.specs.Asked.{is_counted, text_of}
+use Rattle.std.proofs.Common.{◌≡◌, take}
 use Rattle.query_engine.specs.Pairs.{pairs_in}
 use Rattle.query_engine.specs.Seen.{pairs_seen}
 use Rattle.query_engine.proofs.key.keys_of.Given as goal

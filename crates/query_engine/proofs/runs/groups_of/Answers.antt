@@ -1,10 +1,10 @@
-use Rattle.std.proofs.Common.{◌≡◌, ℕ, ◌<◌, ◌≤◌, List, length, arith, refl, sym, subst}
+use Rattle.std.proofs.Common.{◌≡◌, ◌<◌, ◌≤◌, List, length, refl}
 use Rattle.std.proofs.lemmas.List.{length-map}
 use Rattle.query_engine.specs.Front.{IsFrontOf}
 use Rattle.query_engine.specs.Pairs.{Pair, text_at}
-use Rattle.query_engine.specs.Seen.{pairs_seen, pair_seen}
+use Rattle.query_engine.specs.Seen.{pairs_seen}
 use Rattle.query_engine.proofs.SortLaws.{at_key}
-use Rattle.query_engine.proofs.GroupLaws.{groups_none, groups_more, groups_on, groups_all, new_group}
+use Rattle.query_engine.proofs.GroupLaws.{groups_more, groups_on, groups_all, new_group}
 use Rattle.query_engine.proofs.runs.groups_of.Goals as goal
 use Rattle.query_engine.proofs.runs.groups_of.Goals.{then-not-goes_on_at+in_ok-push, else-not-goes_on_at}
 

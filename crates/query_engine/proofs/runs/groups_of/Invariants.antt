@@ -1,4 +1,3 @@
-use Rattle.std.proofs.Common.{◌≡◌, ◌≤◌, ◌<◌}
 use Rattle.query_engine.specs.Seen.{pairs_seen}
 use Rattle.query_engine.proofs.GroupLaws.{AreGroupsTo}
 use Rattle.query_engine.proofs.runs.groups_of.Given as goal

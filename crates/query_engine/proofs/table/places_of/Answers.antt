@@ -1,5 +1,3 @@
-use Rattle.std.proofs.Common.{ℕ, subst}
-use Rattle.query_engine.specs.Halving.{AddsHalvings}
 use Rattle.query_engine.proofs.CountLaws.{group_count}
 use Rattle.query_engine.proofs.table.places_of.Goals as goal
 

@@ -1,4 +1,4 @@
-use Rattle.std.proofs.Common.{◌≡◌, ◌<◌, length, sym, arith}
+use Rattle.std.proofs.Common.{◌≡◌, ◌<◌, length}
 use Rattle.std.proofs.lemmas.List.{get_or_read}
 use Rattle.query_engine.specs.Front.{IsFrontOf}
 use Rattle.query_engine.specs.Groups.{group_at}

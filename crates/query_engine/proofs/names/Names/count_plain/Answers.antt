@@ -1,4 +1,4 @@
-use Rattle.std.proofs.Common.{◌≡◌, ◌∙◌, ℕ, List, length, ap, sym, arith, cond}
+use Rattle.std.proofs.Common.{◌≡◌, ◌∙◌, ap, arith}
 use Rattle.std.specs.List.{list_any}
 use Rattle.index_model.specs.Answers.{places}
 use Rattle.query_engine.specs.declared.way.Way.{Way}

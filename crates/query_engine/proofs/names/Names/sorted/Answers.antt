@@ -1,4 +1,4 @@
-use Rattle.std.proofs.Common.{◌≡◌, ◌∙◌, ap, arith}
+use Rattle.std.proofs.Common.{◌∙◌, ap, arith}
 use Rattle.std.specs.Prelude.{map}
 use Rattle.query_engine.specs.declared.key.Key.{Key}
 use Rattle.query_engine.specs.Groups.{AreGroupsOf}

@@ -1,5 +1,4 @@
-use Rattle.std.proofs.Common.{◌≡◌, ◌∙◌, List, ap}
-use Rattle.index_model.specs.declared.entry.Entry.{Entry}
+use Rattle.std.proofs.Common.{◌≡◌, ◌∙◌, ap}
 use Rattle.query_engine.specs.declared.way.Way.{Way}
 use Rattle.query_engine.specs.Counts.{text_count, name_count}
 use Rattle.query_engine.proofs.CountLaws.{all_counted}
