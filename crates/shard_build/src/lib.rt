@@ -1,0 +1,5 @@
+//! The shard of a run of units: what is kept of their entries in one pass over their bytes (DWARF 5, sections 2.3, 3.1.1
+//! and 7.5.3).
+#![tactic(auto)]
+
+mod attributes;
