@@ -3,3 +3,6 @@
 #![tactic(auto)]
 
 mod attributes;
+mod facts;
+mod forms;
+mod texts;
