@@ -1,5 +1,6 @@
 -- The texts of an entry, by what its unit's root says (DWARF 5, 7.5.5 on the class string).
-use Rattle.std.specs.Prelude.{◌≡◌, ℕ, ◌-◌, Bool, List, Option, Some, Result, Ok}
+use Rattle.std.specs.Prelude.{◌≡◌, ℕ, ◌-◌, Bool, List, Option, Some, option_map, Result, Ok, Err}
+use Rattle.shard_build.specs.declared.texts.Texts.{Texts as TextsRead}
 use Rattle.index_model.specs.declared.unit.Unit.{Unit as UnitHeader}
 use Rattle.index_model.specs.Meaning.{◌>>=◌, if_some}
 use Rattle.index_model.specs.Sections.{Section}
@@ -24,3 +25,12 @@ module _ (ss : List Section) (base : Option ℕ) (wide : Bool) where
 -- each text that stands in the entry stands in these bytes of its unit
 abbrev pub HoldsTexts : List ℕ → UnitHeader → Item → Type 0
 HoldsTexts bytes u d = (n : ℕ) (text : List ℕ) → attribute n d ≡ Some (Inline text) → StandsIn bytes text (d.at - u.start) (d.after - u.start)
+
+-- the texts with their bytes
+abbrev pub texts_seen : TextsRead → Texts
+texts_seen t = record { name = option_map (λ b. b.now) t.name; linkage = option_map (λ b. b.now) t.linkage }
+
+-- only what is wrong of a meaning
+abbrev pub tested : {A E : Type 0} → Result A E → Result (Unit {0}) E
+tested (Ok x) = Ok tt
+tested (Err e) = Err e

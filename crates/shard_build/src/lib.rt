@@ -5,4 +5,8 @@
 mod attributes;
 mod facts;
 mod forms;
+mod frame;
+mod home;
+mod kept;
+mod open;
 mod texts;

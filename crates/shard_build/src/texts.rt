@@ -1,11 +1,136 @@
 //! The texts of an entry, borrowed from the file (DWARF 5, section 7.5.5 on the class string).
 
-ghost use Rattle.std.specs.Prelude.{◌≡◌, ◌-◌, option_map};
+ghost use Rattle.std.specs.Prelude.{◌≡◌, ◌-◌, ℕ, List, Some, option_map};
 ghost use Rattle.form_reader.specs.Seen.{seen};
+ghost use Rattle.index_model.specs.Forms.{Inline};
 ghost use Rattle.index_model.specs.Gives.{GivesAlways};
 ghost use Rattle.index_model.specs.LawsTexts.{StandsIn};
+ghost use Rattle.index_model.specs.Meaning.{at_place};
+ghost use Rattle.index_model.specs.Strings.{bounded};
+ghost use Rattle.shard_build.specs.Texts.{text_by, texts_by, texts_seen, tested, HoldsTexts};
 
+use crate::attributes::Attributes;
+use crate::home::Home;
+use entry_scan::Item;
+use form_reader::Value;
+use ix_base::code::NAME_TOO_LONG;
+use ix_base::{Fault, MAX_STRING};
 use memchr::memmem;
+use string_tables::text;
+
+/// The texts of an entry, if it has them.
+#[derive(Clone, Copy)]
+pub(crate) struct Texts<'f> {
+    pub name: Option<&'f [u8]>,
+    pub linkage: Option<&'f [u8]>,
+}
+
+impl<'s, 'f> Home<'s, 'f> {
+    /// The texts of an entry, which are borrowed from the file. The fault is the first of them, name before linkage name.
+    pub fn texts(&self, base: Option<u64>, entry: &Attributes<'_>) -> Result<Texts<'f>, Fault>
+        requires { HoldsTexts self.now.bytes.now self.now.unit entry.now }
+        ensures { GivesAlways texts_seen result (at_place entry.now.at (texts_by self.now.sections.now base self.now.unit.wide entry.now)) }
+    {
+        match self.own_texts(base, entry) {
+            Ok(texts) => Ok(texts),
+            Err(code) => Err(Fault {
+                code,
+                at: entry.item().offset(),
+            }),
+        }
+    }
+
+    // The same; the error is the code of the fault.
+    #[tactic(auto, unfolding(crate::specs::Texts::texts_by))]
+    fn own_texts(&self, base: Option<u64>, entry: &Attributes<'_>) -> Result<Texts<'f>, u8>
+        requires { HoldsTexts self.now.bytes.now self.now.unit entry.now }
+        ensures { GivesAlways texts_seen result (texts_by self.now.sections.now base self.now.unit.wide entry.now) }
+    {
+        let name = self.text(base, entry.item(), entry.name())?;
+        let linkage = self.text(base, entry.item(), entry.linkage_name())?;
+        Ok(Texts { name, linkage })
+    }
+
+    // The text of a value of an entry, if there is one.
+    #[tactic(auto, unfolding(index_model::specs::Strings::text_of))]
+    fn text(
+        &self,
+        base: Option<u64>,
+        item: &Item<'_>,
+        value: Option<Value<'_>>,
+    ) -> Result<Option<&'f [u8]>, u8>
+        requires { (t : List ℕ) → option_map seen value ≡ Some (Inline t) → StandsIn self.now.bytes.now t (item.now.at - self.now.unit.start) (item.now.after - self.now.unit.start) }
+        ensures { GivesAlways (λ t. option_map (λ bytes. bytes.now) t) result (text_by self.now.sections.now base self.now.unit.wide (option_map seen value.entry)) }
+    {
+        match value {
+            None => Ok(None),
+            Some(Value::Inline(text)) => self.inline(item, text),
+            Some(Value::Str(at)) => text(self.sections, base, self.unit.wide, &Value::Str(at)),
+            Some(Value::LineStr(at)) => text(self.sections, base, self.unit.wide, &Value::LineStr(at)),
+            Some(Value::StrIndex(index)) => text(self.sections, base, self.unit.wide, &Value::StrIndex(index)),
+            Some(_) => Ok(None),
+        }
+    }
+
+    // A text that stands in an entry, within the limit. An empty one is no text.
+    #[tactic(auto, unfolding(index_model::specs::Strings::bounded))]
+    fn inline(&self, item: &Item<'_>, text: &[u8]) -> Result<Option<&'f [u8]>, u8>
+        requires { StandsIn self.now.bytes.now text.now (item.now.at - self.now.unit.start) (item.now.after - self.now.unit.start) }
+        ensures { GivesAlways (λ t. option_map (λ bytes. bytes.now) t) result (bounded text.now) }
+    {
+        if text.len() as u64 > MAX_STRING {
+            return Err(NAME_TOO_LONG);
+        }
+        if text.is_empty() {
+            return Ok(None);
+        }
+        let from = item.offset().saturating_sub(self.unit.start);
+        let to = item.after().saturating_sub(self.unit.start);
+        Ok(Some(found_in(self.bytes, from as usize, to as usize, text)))
+    }
+
+    /// Whether the texts of an entry are sound: the same as `texts`, where they aren't kept.
+    pub fn test<'a>(&self, base: Option<u64>, entry: &Attributes<'a>) -> Result<(), Fault>
+    where
+        'f: 'a,
+        ensures { GivesAlways (λ done. done) result (tested (at_place entry.now.at (texts_by self.now.sections.now base self.now.unit.wide entry.now))) }
+    {
+        match self.test_own(base, entry) {
+            Ok(()) => Ok(()),
+            Err(code) => Err(Fault {
+                code,
+                at: entry.item().offset(),
+            }),
+        }
+    }
+
+    // The same; the error is the code of the fault.
+    #[tactic(auto, unfolding(crate::specs::Texts::texts_by))]
+    fn test_own<'a>(&self, base: Option<u64>, entry: &Attributes<'a>) -> Result<(), u8>
+    where
+        'f: 'a,
+        ensures { GivesAlways (λ done. done) result (tested (texts_by self.now.sections.now base self.now.unit.wide entry.now)) }
+    {
+        self.test_text(base, entry.name())?;
+        self.test_text(base, entry.linkage_name())?;
+        Ok(())
+    }
+
+    // Whether the text of a value is sound, if there is one.
+    fn test_text<'a>(&self, base: Option<u64>, value: Option<Value<'a>>) -> Result<(), u8>
+    where
+        'f: 'a,
+        ensures { GivesAlways (λ done. done) result (tested (text_by self.now.sections.now base self.now.unit.wide (option_map seen value.entry))) }
+    {
+        let Some(value) = value else {
+            return Ok(());
+        };
+        match text(self.sections, base, self.unit.wide, &value) {
+            Ok(_) => Ok(()),
+            Err(code) => Err(code),
+        }
+    }
+}
 
 // The same text, borrowed from the bytes in which it stands between two places.
 fn found_in<'f>(bytes: &'f [u8], from: usize, to: usize, text: &[u8]) -> &'f [u8]

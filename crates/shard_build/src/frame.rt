@@ -1,0 +1,80 @@
+//! What a unit's root says of the whole unit (DWARF 5, section 3.1.1).
+
+ghost use Rattle.std.specs.Prelude.{◌≡◌};
+ghost use Rattle.index_model.specs.Languages.{class_of};
+ghost use Rattle.index_model.specs.Rules.{is_ada};
+ghost use Rattle.shard_build.specs.Frames.{blank, frame_of, frame_at};
+
+use crate::attributes::Attributes;
+use entry_rules::{Class, class};
+use index_model::Root;
+
+const PARTIAL_UNIT: u64 = 0x3c;
+
+/// What is known of the whole unit.
+#[derive(Clone, Copy)]
+pub(crate) struct Frame {
+    pub root: Root,
+    /// Where the unit's part of `.debug_str_offsets` begins.
+    pub str_offsets_base: Option<u64>,
+    /// Whether the unit is one of Ada, or a partial unit without a language, which may turn out to be one.
+    pub ada: bool,
+}
+
+impl Frame {
+    /// That of a unit without entries.
+    pub fn blank() -> Frame
+        ensures { result ≡ blank }
+    {
+        Frame {
+            root: Root {
+                language: None,
+                addr_base: None,
+                rnglists_base: None,
+                partial: false,
+            },
+            str_offsets_base: None,
+            ada: false,
+        }
+    }
+
+    // What a root says.
+    #[tactic(auto, unfolding(crate::specs::Frames::frame_of))]
+    fn of(entry: &Attributes<'_>) -> Frame
+        ensures { result ≡ frame_of entry.now }
+    {
+        let language = entry.language();
+        let partial = entry.item().tag() == PARTIAL_UNIT;
+        Frame {
+            root: Root {
+                language,
+                addr_base: entry.addr_base(),
+                rnglists_base: entry.rnglists_base(),
+                partial,
+            },
+            str_offsets_base: entry.str_offsets_base(),
+            ada: is_ada(language.unwrap_or(0)) || (partial && language.is_none()),
+        }
+    }
+
+    /// What is known at an entry, the root's own attributes included.
+    pub fn at(self, entry: &Attributes<'_>) -> Frame
+        ensures { result ≡ frame_at self entry.now }
+    {
+        if entry.item().depth() == 0 {
+            Frame::of(entry)
+        } else {
+            self
+        }
+    }
+}
+
+// Whether a language is of class Ada.
+fn is_ada(language: u16) -> bool
+    ensures { result ≡ is_ada (class_of language) }
+{
+    match class(language) {
+        Class::Ada => true,
+        _ => false,
+    }
+}

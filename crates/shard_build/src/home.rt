@@ -1,0 +1,126 @@
+//! The unit of an entry, and what it adds to the entry's own facts.
+
+ghost use Rattle.std.specs.Prelude.{◌≡◌, ◌+◌, ◌<◌, ◌^◌, nat_lt, if◌then◌else◌, length, codes, Some, None, option_to_list};
+ghost use Rattle.index_model.specs.Sections.{section_bytes};
+ghost use Rattle.shard_build.specs.Kept.{node_seen, node_by, target_by, span_from, imports_by};
+ghost use Rattle.shard_build.specs.Texts.{texts_seen};
+
+use crate::attributes::Attributes;
+use crate::open::Open;
+use crate::texts::Texts;
+use elf_sections::Sections;
+use entry_scan::Item;
+use index_model::{Import, Next, Node, Span, Unit};
+
+const IMPORTED_UNIT: u64 = 0x3d;
+
+/// A unit, its number in section order, its bytes, and the sections of its file.
+#[derive(Clone, Copy)]
+pub(crate) struct Home<'s, 'f> {
+    pub sections: &'s Sections<'f>,
+    /// The unit's own bytes, from its first byte to its end.
+    pub bytes: &'f [u8],
+    pub unit: Unit,
+    pub number: u32,
+}
+
+impl<'s, 'f> Home<'s, 'f> {
+    /// The node of an entry in this one, with these texts.
+    #[tactic(auto, unfolding(crate::specs::Kept::node_by))]
+    pub fn node(
+        &self,
+        outer: Option<Open>,
+        entry: &Attributes<'_>,
+        texts: Texts<'f>,
+    ) -> Node<'f>
+        ensures { node_seen result ≡ node_by self.now.sections.now (self.now.number, self.now.unit) outer entry.now (texts_seen texts.entry) }
+    {
+        let version = self.unit.version;
+        Node {
+            unit: self.number,
+            offset: entry.item().offset(),
+            parent: outer.map(|open| open.at),
+            tag: entry.item().tag(),
+            declaration: entry.is_declaration(),
+            external: entry.is_external(),
+            enum_class: entry.is_enum_class(),
+            main: entry.is_main(),
+            address: entry.has_address(version),
+            value: entry.has_value(),
+            name: texts.name,
+            linkage: texts.linkage,
+            next: entry.next(),
+            signature: entry.signature(),
+            low: entry.low(),
+            high: entry.high(),
+            ranges: entry.ranges(version),
+        }
+    }
+
+    /// The span of an entry, as long as no null ended it.
+    pub fn span(&self, item: &Item<'_>) -> Span
+        requires { self.now.unit.start + self.now.unit.length < 2 ^ 63 }
+        ensures { result ≡ span_from self.now.sections.now (self.now.number, self.now.unit) item.now }
+    {
+        Span {
+            unit: self.number,
+            entry: item.offset(),
+            depth: item.depth(),
+            from: item.after(),
+            to: self.unit.start + self.unit.length,
+        }
+    }
+
+    /// The import of an entry, if it is an imported unit that names a place.
+    pub fn import(&self, entry: &Attributes<'_>) -> Option<Import>
+        requires { self.now.unit.start + self.now.unit.length < 2 ^ 63 }
+        ensures { option_to_list result ≡ imports_by self.now.sections.now (self.now.number, self.now.unit) entry.now }
+    {
+        if entry.item().tag() != IMPORTED_UNIT {
+            return None;
+        }
+        match entry.import() {
+            None => None,
+            Some(reference) => match self.target(reference) {
+                None => None,
+                Some(target) => Some(Import {
+                    unit: self.number,
+                    target,
+                }),
+            },
+        }
+    }
+
+    // The joint offset that a reference names, if it lies in the unit or in `.debug_info`, as its form says.
+    fn target(&self, reference: Next) -> Option<u64>
+        requires { self.now.unit.start + self.now.unit.length < 2 ^ 63 }
+        ensures { result ≡ target_by self.now.sections.now (self.now.number, self.now.unit) reference }
+    {
+        if reference.near {
+            self.in_unit(reference.target)
+        } else {
+            self.in_info(reference.target)
+        }
+    }
+
+    fn in_unit(&self, target: u64) -> Option<u64>
+        requires { self.now.unit.start + self.now.unit.length < 2 ^ 63 }
+        ensures { result ≡ (if nat_lt target self.now.unit.length then Some (self.now.unit.start + target) else None) }
+    {
+        if target < self.unit.length {
+            Some(self.unit.start + target)
+        } else {
+            None
+        }
+    }
+
+    fn in_info(&self, target: u64) -> Option<u64>
+        ensures { result ≡ (if nat_lt target (length (section_bytes self.now.sections.now (codes ".debug_info"))) then Some target else None) }
+    {
+        if target < self.sections.get(b".debug_info").len() as u64 {
+            Some(target)
+        } else {
+            None
+        }
+    }
+}
