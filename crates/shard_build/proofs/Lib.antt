@@ -1,2 +1,5 @@
 pub mod KeepLaws
 pub mod FoundLaws
+pub mod SpanSteps
+pub mod TokenSteps
+pub mod SpanEnds

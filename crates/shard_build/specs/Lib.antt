@@ -2,3 +2,4 @@ pub mod Numbers
 pub mod Texts
 pub mod Frames
 pub mod Kept
+pub mod Tokens

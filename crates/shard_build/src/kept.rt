@@ -28,7 +28,7 @@ pub(crate) struct Kept<'f> {
 
 // Adds the node of an entry that has one. The texts of others are tested alone.
 #[tactic(auto, unfolding(crate::specs::Kept::nodes_by))]
-fn add_node<'f>(
+pub(crate) fn add_node<'f>(
     nodes: &mut Vec<Node<'f>>,
     home: &Home<'_, 'f>,
     frame: &Frame,
@@ -49,7 +49,7 @@ fn add_node<'f>(
 }
 
 // Adds the import of an imported unit.
-fn add_import(imports: &mut Vec<Import>, home: &Home<'_, '_>, entry: &Attributes<'_>) -> Result<(), NoMemory>
+pub(crate) fn add_import(imports: &mut Vec<Import>, home: &Home<'_, '_>, entry: &Attributes<'_>) -> Result<(), NoMemory>
     requires { home.now.unit.start + home.now.unit.length < 2 ^ 63 }
     ensures { OnOk result (imports.new.items ≡ imports.old.items ++ imports_by home.now.sections.now (home.now.number, home.now.unit) entry.now) }
 {
@@ -60,7 +60,7 @@ fn add_import(imports: &mut Vec<Import>, home: &Home<'_, '_>, entry: &Attributes
 }
 
 // Adds the span of an entry with children.
-fn add_span(spans: &mut Vec<Span>, home: &Home<'_, '_>, item: &Item<'_>) -> Result<(), NoMemory>
+pub(crate) fn add_span(spans: &mut Vec<Span>, home: &Home<'_, '_>, item: &Item<'_>) -> Result<(), NoMemory>
     requires { home.now.unit.start + home.now.unit.length < 2 ^ 63 }
     ensures { OnOk result (spans.new.items ≡ spans.old.items ++ spans_by home.now.sections.now (home.now.number, home.now.unit) item.now) }
 {
@@ -71,7 +71,7 @@ fn add_span(spans: &mut Vec<Span>, home: &Home<'_, '_>, item: &Item<'_>) -> Resu
 }
 
 // An entry with children becomes the innermost one. Its span has this index.
-fn open(opened: &mut Vec<Open>, item: &Item<'_>, visited: bool, span: usize) -> Result<(), NoMemory>
+pub(crate) fn open(opened: &mut Vec<Open>, item: &Item<'_>, visited: bool, span: usize) -> Result<(), NoMemory>
     ensures { OnOk result (reverse opened.new.items ≡ opened_by item.now visited span (reverse opened.old.items)) }
 {
     if item.children() {
@@ -85,7 +85,7 @@ fn open(opened: &mut Vec<Open>, item: &Item<'_>, visited: bool, span: usize) -> 
 }
 
 // The span at an index ends here.
-fn end_span(spans: &mut Vec<Span>, index: usize, after: u64)
+pub(crate) fn end_span(spans: &mut Vec<Span>, index: usize, after: u64)
     ensures { spans.new.items ≡ ended_at spans.old.items index after }
 {
     if index < spans.len() {

@@ -10,3 +10,4 @@ mod home;
 mod kept;
 mod open;
 mod texts;
+mod unit;

@@ -1,0 +1,83 @@
+//! The tokens of a unit, one after the other.
+
+ghost use Rattle.std.specs.Prelude.{◌≡◌, ◌+◌, ◌<◌, ◌^◌, Contains, reverse};
+ghost use Rattle.ix_base.specs.declared.fault.Fault.{Fault as FaultOf};
+ghost use Rattle.entry_scan.specs.Tokens.{token_seen};
+ghost use Rattle.index_model.specs.Gives.{Gives, GivesAlways};
+ghost use Rattle.index_model.specs.Walk.{Item as EntryOf, items};
+ghost use Rattle.shard_build.specs.Kept.{kept_seen, entered, closed, behind};
+ghost use Rattle.shard_build.specs.Texts.{HoldsTexts};
+ghost use Rattle.shard_build.specs.Tokens.{OnEntry, ended, behind_walk};
+
+use crate::attributes::Attributes;
+use crate::home::Home;
+use crate::kept::{Kept, add_import, add_node, add_span, end_span, open};
+use crate::open::{innermost, is_visited_in};
+use entry_scan::{Token, Walk};
+use ix_base::{Fault, Stop};
+
+impl<'f> Kept<'f> {
+    // Takes in an entry.
+    #[tactic(auto, unfolding(crate::specs::Kept::entered))]
+    fn enter(&mut self, home: &Home<'_, 'f>, entry: &Attributes<'_>) -> Result<(), Stop>
+        requires small { home.now.unit.start + home.now.unit.length < 2 ^ 63 }
+        requires texts { HoldsTexts home.now.bytes.now home.now.unit entry.now }
+        ensures { Gives (λ _. kept_seen self.new) result (entered home.now.sections.now (home.now.number, home.now.unit) (kept_seen self.old) entry.now) }
+    {
+        self.frame = self.frame.at(entry);
+        let outer = innermost(&self.opened);
+        let visited = is_visited_in(outer, self.frame.ada);
+        add_node(&mut self.nodes, home, &self.frame, outer, entry)?;
+        open(&mut self.opened, entry.item(), visited, self.spans.len())?;
+        add_span(&mut self.spans, home, entry.item())?;
+        add_import(&mut self.imports, home, entry)?;
+        Ok(())
+    }
+
+    // Takes in a null, which ends the children of the innermost open entry.
+    fn close(&mut self, after: u64)
+        ensures { kept_seen self.new ≡ closed (kept_seen self.old) (reverse self.old.opened.items) after }
+    {
+        if let Some(open) = self.opened.pop() {
+            end_span(&mut self.spans, open.span, after);
+        }
+    }
+
+    // Takes in a token.
+    fn take(&mut self, home: &Home<'_, 'f>, token: Token<'_>) -> Result<(), Stop>
+        requires small { home.now.unit.start + home.now.unit.length < 2 ^ 63 }
+        requires texts { OnEntry (token_seen token) (HoldsTexts home.now.bytes.now home.now.unit) }
+        ensures { Gives (λ _. kept_seen self.new) result (behind home.now.sections.now (home.now.number, home.now.unit) (kept_seen self.old) (token_seen token.entry)) }
+    {
+        match token {
+            Token::Null { after, .. } => {
+                self.close(after);
+                Ok(())
+            }
+            Token::Entry(item) => self.enter(home, &Attributes::of(item)),
+        }
+    }
+
+    /// Takes in the tokens of a walk. A fault of the walk comes before those of its texts.
+    pub fn walk(&mut self, home: &Home<'_, 'f>, mut walk: Walk<'_>) -> Result<(), Stop>
+        requires small { home.now.unit.start + home.now.unit.length < 2 ^ 63 }
+        requires texts { (d : EntryOf) → Contains (items walk) d → HoldsTexts home.now.bytes.now home.now.unit d }
+        ensures { Gives (λ _. kept_seen self.new) result (behind_walk home.now.sections.now (home.now.number, home.now.unit) (kept_seen self.old) walk.entry) }
+    {
+        while let Some(token) = walk.token()? {
+            if let Err(stop) = self.take(home, token) {
+                finish(&mut walk)?;
+                return Err(stop);
+            }
+        }
+        Ok(())
+    }
+}
+
+// The fault of what is left of a walk, if it has one.
+fn finish(walk: &mut Walk<'_>) -> Result<(), Fault>
+    ensures { GivesAlways (λ done. done) result (ended walk.old.end) }
+{
+    while let Some(_) = walk.next()? {}
+    Ok(())
+}
