@@ -5,3 +5,4 @@ pub mod TokenSteps
 pub mod EntrySteps
 pub mod SpanEnds
 pub mod SpanPlaces
+pub mod OpenLaws
