@@ -6,3 +6,6 @@ pub mod EntrySteps
 pub mod SpanEnds
 pub mod SpanPlaces
 pub mod OpenLaws
+pub mod FrameLaws
+pub mod NodeLaws
+pub mod UnitLaws

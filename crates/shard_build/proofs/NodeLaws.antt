@@ -1,0 +1,78 @@
+-- The node of an entry has its facts and its texts.
+use Rattle.std.proofs.Common.{◌≡◌, ℕ, Bool, true, false, cond, List, [], ◌∷◌, ◌++◌, Option, Some, None, option_map, Result, Ok, refl, sym, ap, ◌∙◌}
+use Rattle.std.specs.Prelude.{map}
+use Rattle.std.specs.List.{AllZip}
+use Rattle.index_model.specs.declared.shard.Node.{Node}
+use Rattle.index_model.specs.Meaning.{◌>>=◌, value_of}
+use Rattle.index_model.specs.Sections.{Section}
+use Rattle.index_model.specs.Attributes.{name_value, linkage_value}
+use Rattle.index_model.specs.Program.{Walked, Located, items_of, scope_around}
+use Rattle.index_model.specs.ShardParts.{node_facts, IsNodeOf}
+use Rattle.index_model.specs.Strings.{Texts, text_in, texts_of, some_text, own_name, own_linkage_name}
+use Rattle.index_model.specs.Walk.{Item, parent_of}
+use Rattle.index_model.proofs.Meanings.{bind_ok, same_ok}
+use Rattle.shard_build.specs.declared.open.Open.{Open}
+use Rattle.shard_build.specs.Kept.{NodeSeen, node_seen, node_by}
+
+-- an entry of a unit
+abbrev pub at_home : Walked → Item → Located
+at_home w d = record { home = w; item = d }
+
+-- the node, with its texts apart, is that of the entry
+pub record IsSeenOf (ss : List Section) (n : NodeSeen) (d : Located) : Type 0 where
+  pub facts : (m : Node) → n.facts ≡ record (node_facts d m) { name = None; linkage = None }
+  pub name : n.name ≡ own_name ss d
+  pub linkage : n.linkage ≡ own_linkage_name ss d
+
+-- so it is the node of the entry
+pub is_node : (ss : List Section) (n : Node) (d : Located) → IsSeenOf ss (node_seen n) d → IsNodeOf ss n d
+unfolding node_facts
+is_node ss n d h = record {
+  facts = ap (λ (m : Node). record m { name = n.name; linkage = n.linkage }) (h.facts n);
+  name = h.name;
+  linkage = h.linkage;
+}
+
+pub are_nodes : (ss : List Section) (ns : List Node) (ds : List Located) → AllZip (IsSeenOf ss) (map node_seen ns) ds → AllZip (IsNodeOf ss) ns ds
+are_nodes ss [] [] h = tt
+are_nodes ss [] (d ∷ ds) h = h
+are_nodes ss (n ∷ ns) [] h = h
+are_nodes ss (n ∷ ns) (d ∷ ds) h = (is_node ss n d h.0, are_nodes ss ns ds h.1)
+
+seen_is : (ss : List Section) (n : Node) (d : Located) → IsNodeOf ss n d → IsSeenOf ss (node_seen n) d
+unfolding node_facts
+seen_is ss n d h = record {
+  facts = λ m. ap (λ (x : Node). record x { name = None; linkage = None }) h.facts;
+  name = h.name;
+  linkage = h.linkage;
+}
+
+pub are_seen : (ss : List Section) (ns : List Node) (ds : List Located) → AllZip (IsNodeOf ss) ns ds → AllZip (IsSeenOf ss) (map node_seen ns) ds
+are_seen ss [] [] h = tt
+are_seen ss [] (d ∷ ds) h = h
+are_seen ss (n ∷ ns) [] h = h
+are_seen ss (n ∷ ns) (d ∷ ds) h = (seen_is ss n d h.0, are_seen ss ns ds h.1)
+
+place_of : (w : Walked) (o : Option Item) → option_map (λ (e : Item). e.at) o ≡ option_map (λ (e : Located). e.item.at) (option_map (at_home w) o)
+place_of w None = refl
+place_of w (Some e) = refl
+
+module _ (ss : List Section) (w : Walked) (d : Item) (t : Texts) (is : texts_of ss (at_home w d) ≡ Ok t) where
+  texts_are : (t.name ≡ own_name ss (at_home w d)) × (t.linkage ≡ own_linkage_name ss (at_home w d))
+  unfolding texts_of own_name own_linkage_name
+  texts_are =
+      let a = bind_ok (text_in ss w (name_value d)) _ t is in
+      let b = bind_ok (text_in ss w (linkage_value d)) _ t a.2 in
+      let made : Texts = record { name = a.0; linkage = b.0 } in
+      let same : made ≡ t = same_ok made t b.2 in
+      let of_name : Result (Option (List ℕ)) ℕ → Option (List ℕ) = λ (r : Result (Option (List ℕ)) ℕ). some_text (value_of r) in
+      (sym (ap of_name a.1 ∙ ap (λ (x : Texts). x.name) same), sym (ap of_name b.1 ∙ ap (λ (x : Texts). x.linkage) same))
+
+  -- the node that is made of an entry is that of the entry
+  pub seen_of : (outer : Option Open) → option_map (λ o. o.at) outer ≡ option_map (λ e. e.at) (parent_of (items_of w) d) → IsSeenOf ss (node_by ss (w.number, w.unit) outer d t) (at_home w d)
+  unfolding node_by node_facts
+  seen_of outer parent = record {
+    facts = λ m. ap (λ (p : Option ℕ). record (node_by ss (w.number, w.unit) outer d t).facts { parent = p }) (parent ∙ place_of w (parent_of (items_of w) d));
+    name = texts_are.0;
+    linkage = texts_are.1;
+  }
