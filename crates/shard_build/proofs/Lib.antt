@@ -9,3 +9,5 @@ pub mod OpenLaws
 pub mod FrameLaws
 pub mod NodeLaws
 pub mod UnitLaws
+pub mod ImportLaws
+pub mod UnitEnd

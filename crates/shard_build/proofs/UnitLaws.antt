@@ -53,7 +53,7 @@ closed_opened ada ds es b (o ∷ os) n after same h = open_closed ada ds es o os
 -- ---- what comes of the tokens
 
 -- what was known before some entries, and is known behind them
-abbrev FrameEnd : Frame → List Item → Frame → Frame → Type 0
+abbrev pub FrameEnd : Frame → List Item → Frame → Frame → Type 0
 FrameEnd known [] old new = old ≡ new
 FrameEnd known (d ∷ ds) old new = new ≡ known
 

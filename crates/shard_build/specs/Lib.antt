@@ -3,3 +3,4 @@ pub mod Texts
 pub mod Frames
 pub mod Kept
 pub mod Tokens
+pub mod Runs

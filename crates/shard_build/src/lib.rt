@@ -9,5 +9,6 @@ mod frame;
 mod home;
 mod kept;
 mod open;
+mod tables;
 mod texts;
 mod unit;
