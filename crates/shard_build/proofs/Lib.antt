@@ -11,3 +11,4 @@ pub mod NodeLaws
 pub mod UnitLaws
 pub mod ImportLaws
 pub mod UnitEnd
+pub mod RunLaws

@@ -3,6 +3,9 @@ use Rattle.std.proofs.Common.{◌≡◌, ℕ, eqb, length, arith, List, [], ◌�
 use Rattle.std.specs.Prelude.{codes, filter, find}
 use Rattle.std.specs.List.{AllZip}
 use Rattle.ix_base.specs.declared.fault.Fault.{Fault}
+use Rattle.ix_base.specs.declared.fault.Stop.{Stop}
+use Rattle.ix_base.specs.declared.fault.Stop.TheVariants as stops
+use Rattle.index_model.specs.Gives.{StopsAs}
 use Rattle.ix_base.specs.declared.code.TheConstants.{BAD_ABBREVIATION}
 use Rattle.index_model.specs.declared.shard.Import.{Import}
 use Rattle.index_model.specs.declared.shard.Span.{Span}
@@ -126,3 +129,8 @@ module _ (ss : List Section) (u : ℕ × UnitHeader) (a : List Abbrev) (found : 
         by_end None end h =
             let first : read_texts ≡ Err f = subst (Out ss w w.walk.tokens b) h out in
             scanned_is ∙ after_texts w.walk.end read_texts w f end first
+
+    -- a stop behind the walk is one of the unit
+    pub unit_stops : (s : Stop) → StopsAs s (behind_walk ss u b w.walk) → StopsAs s (scanned ss u)
+    unit_stops stops.Memory h = tt
+    unit_stops (stops.Fault f) h = unit_fault f h

@@ -5,18 +5,18 @@ use Rattle.index_model.specs.Abbreviations.{table}
 use Rattle.index_model.specs.Program.{Walked}
 use Rattle.index_model.specs.Sections.{Section}
 use Rattle.index_model.specs.ShardParts.{root_facts, kept_in, IsNodeOf, spans_of, imports_in}
-use Rattle.shard_build.specs.declared.kept.Kept.{Kept}
+use Rattle.shard_build.specs.declared.run.Run.{Run}
 use Rattle.shard_build.specs.declared.tables.Table.{Table}
 
 -- what is kept is what a Shard keeps of these walks
-pub record Holds (ss : List Section) (k : Kept) (ws : List Walked) : Type 0 where
-  pub roots : k.roots.items ≡ map root_facts ws
-  pub nodes : AllZip (IsNodeOf ss) k.nodes.items (kept_in ws)
-  pub spans : k.spans.items ≡ flat_map spans_of ws
-  pub imports : k.imports.items ≡ flat_map (imports_in ss) ws
+pub record Holds (ss : List Section) (r : Run) (ws : List Walked) : Type 0 where
+  pub roots : r.roots.items ≡ map root_facts ws
+  pub nodes : AllZip (IsNodeOf ss) r.kept.nodes.items (kept_in ws)
+  pub spans : r.kept.spans.items ≡ flat_map spans_of ws
+  pub imports : r.kept.imports.items ≡ flat_map (imports_in ss) ws
 
 -- behind one more unit
-abbrev pub HoldsOneMore : List Section → Kept → Kept → Walked → Type 0
+abbrev pub HoldsOneMore : List Section → Run → Run → Walked → Type 0
 HoldsOneMore ss old new w = (ws : List Walked) → Holds ss old ws → Holds ss new (ws ++ w ∷ [])
 
 -- the table is the one at its offset

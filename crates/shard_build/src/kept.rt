@@ -10,17 +10,16 @@ use crate::frame::Frame;
 use crate::home::Home;
 use crate::open::{Open, innermost, is_visited_in, role_of};
 use entry_scan::Item;
-use index_model::{Import, Node, Root, Span};
+use index_model::{Import, Node, Span};
 use ix_base::{NoMemory, Stop};
 
-/// What is kept of the units of a run behind some of their tokens.
+/// What is kept of the entries of a run behind some of its tokens.
 #[derive(Drop)]
 pub(crate) struct Kept<'f> {
     // What the root of the unit at hand said.
     pub frame: Frame,
     // Its entries whose children are still to come, the outermost first.
     pub opened: Vec<Open>,
-    pub roots: Vec<Root>,
     pub nodes: Vec<Node<'f>>,
     pub spans: Vec<Span>,
     pub imports: Vec<Import>,

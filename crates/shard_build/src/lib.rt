@@ -9,6 +9,7 @@ mod frame;
 mod home;
 mod kept;
 mod open;
+mod run;
 mod tables;
 mod texts;
 mod unit;

@@ -1,25 +1,18 @@
 //! The tokens of a unit, one after the other.
 
-ghost use Rattle.std.specs.Prelude.{◌≡◌, ◌+◌, ◌<◌, ◌≤◌, ◌^◌, Contains, Some, codes, length, reverse};
+ghost use Rattle.std.specs.Prelude.{◌≡◌, ◌+◌, ◌<◌, ◌^◌, Contains, reverse};
 ghost use Rattle.ix_base.specs.declared.fault.Fault.{Fault as FaultOf};
 ghost use Rattle.entry_scan.specs.Tokens.{token_seen};
-ghost use Rattle.index_model.specs.Abbreviations.{table};
-ghost use Rattle.index_model.specs.Faults.{scanned};
-ghost use Rattle.index_model.specs.Gives.{Gives, GivesAlways, GivesFor};
-ghost use Rattle.index_model.specs.Sections.{section_bytes};
+ghost use Rattle.index_model.specs.Gives.{Gives, GivesAlways};
 ghost use Rattle.index_model.specs.Walk.{Item as EntryOf, items};
 ghost use Rattle.shard_build.specs.Kept.{kept_seen, entered, closed, behind};
-ghost use Rattle.shard_build.specs.Runs.{HoldsOneMore};
 ghost use Rattle.shard_build.specs.Texts.{HoldsTexts};
-ghost use Rattle.unit_headers.specs.Images.{unit_bytes};
 ghost use Rattle.shard_build.specs.Tokens.{OnEntry, ended, behind_walk};
 
 use crate::attributes::Attributes;
-use crate::frame::Frame;
 use crate::home::Home;
 use crate::kept::{Kept, add_import, add_node, add_span, end_span, open};
 use crate::open::{innermost, is_visited_in};
-use abbrev_table::Abbrevs;
 use entry_scan::{Token, Walk};
 use ix_base::{Fault, Stop};
 
@@ -65,24 +58,8 @@ impl<'f> Kept<'f> {
         }
     }
 
-    /// Takes in a unit with its abbreviations.
-    pub fn unit(&mut self, home: &Home<'_, 'f>, abbrevs: &Abbrevs) -> Result<(), Stop>
-        requires table { table (section_bytes home.now.sections.now (codes ".debug_abbrev")) home.now.unit.«abbrev» ≡ Some abbrevs.now }
-        requires own { home.now.bytes.now ≡ unit_bytes home.now.sections.now home.now.unit }
-        requires header { home.now.unit.body ≤ length home.now.bytes.now }
-        requires small { home.now.unit.start + length home.now.bytes.now < 2 ^ 63 }
-        requires ends { home.now.unit.start + home.now.unit.length < 2 ^ 63 }
-        ensures { GivesFor (λ _ w. HoldsOneMore home.now.sections.now self.old self.new w) result (scanned home.now.sections.now (home.now.number, home.now.unit)) }
-    {
-        self.frame = Frame::blank();
-        self.opened.clear();
-        self.walk(home, Walk::new(home.bytes, &home.unit, abbrevs))?;
-        self.roots.push(self.frame.root)?;
-        Ok(())
-    }
-
-    // Takes in the tokens of a walk. A fault of the walk comes before those of its texts.
-    fn walk(&mut self, home: &Home<'_, 'f>, mut walk: Walk<'_>) -> Result<(), Stop>
+    /// Takes in the tokens of a walk. A fault of the walk comes before those of its texts.
+    pub fn walk(&mut self, home: &Home<'_, 'f>, mut walk: Walk<'_>) -> Result<(), Stop>
         requires small { home.now.unit.start + home.now.unit.length < 2 ^ 63 }
         requires texts { (d : EntryOf) → Contains (items walk) d → HoldsTexts home.now.bytes.now home.now.unit d }
         ensures { Gives (λ _. kept_seen self.new) result (behind_walk home.now.sections.now (home.now.number, home.now.unit) (kept_seen self.old) walk.entry) }

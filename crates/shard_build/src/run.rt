@@ -1,0 +1,62 @@
+//! The units of a run, one after the other.
+
+ghost use Rattle.std.specs.Prelude.{◌≡◌, ◌+◌, ◌<◌, ◌≤◌, ◌^◌, [], Some, codes, length};
+ghost use Rattle.index_model.specs.Abbreviations.{table};
+ghost use Rattle.index_model.specs.Faults.{scanned};
+ghost use Rattle.index_model.specs.Gives.{GivesFor};
+ghost use Rattle.index_model.specs.Sections.{section_bytes};
+ghost use Rattle.unit_headers.specs.Images.{unit_bytes};
+ghost use Rattle.shard_build.specs.Runs.{Holds, HoldsOneMore};
+
+use crate::frame::Frame;
+use crate::home::Home;
+use crate::kept::Kept;
+use abbrev_table::Abbrevs;
+use entry_scan::Walk;
+use index_model::Root;
+use ix_base::Stop;
+use std::alloc::Global;
+
+/// What is kept of the units of a run.
+#[derive(Drop)]
+pub(crate) struct Run<'f> {
+    pub roots: Vec<Root>,
+    pub kept: Kept<'f>,
+}
+
+impl<'f> Run<'f> {
+    /// A run of no units.
+    pub fn new(alloc: Global) -> Run<'f>
+        ensures roots { result.roots.items ≡ [] }
+        ensures nodes { result.kept.nodes.items ≡ [] }
+        ensures spans { result.kept.spans.items ≡ [] }
+        ensures imports { result.kept.imports.items ≡ [] }
+    {
+        Run {
+            roots: Vec::new(alloc),
+            kept: Kept {
+                frame: Frame::blank(),
+                opened: Vec::new(alloc),
+                nodes: Vec::new(alloc),
+                spans: Vec::new(alloc),
+                imports: Vec::new(alloc),
+            },
+        }
+    }
+
+    /// Takes in a unit with its abbreviations.
+    pub fn unit(&mut self, home: &Home<'_, 'f>, abbrevs: &Abbrevs) -> Result<(), Stop>
+        requires table { table (section_bytes home.now.sections.now (codes ".debug_abbrev")) home.now.unit.«abbrev» ≡ Some abbrevs.now }
+        requires own { home.now.bytes.now ≡ unit_bytes home.now.sections.now home.now.unit }
+        requires header { home.now.unit.body ≤ length home.now.bytes.now }
+        requires small { home.now.unit.start + length home.now.bytes.now < 2 ^ 63 }
+        requires ends { home.now.unit.start + home.now.unit.length < 2 ^ 63 }
+        ensures { GivesFor (λ _ w. HoldsOneMore home.now.sections.now self.old self.new w) result (scanned home.now.sections.now (home.now.number, home.now.unit)) }
+    {
+        self.kept.frame = Frame::blank();
+        self.kept.opened.clear();
+        self.kept.walk(home, Walk::new(home.bytes, &home.unit, abbrevs))?;
+        self.roots.push(self.kept.frame.root)?;
+        Ok(())
+    }
+}
