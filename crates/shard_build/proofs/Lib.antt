@@ -12,3 +12,5 @@ pub mod UnitLaws
 pub mod ImportLaws
 pub mod UnitEnd
 pub mod RunLaws
+pub mod RunEnds
+pub mod UnitPlaces

@@ -1,7 +1,8 @@
 //! The unit of an entry, and what it adds to the entry's own facts.
 
-ghost use Rattle.std.specs.Prelude.{◌≡◌, ◌+◌, ◌<◌, ◌^◌, nat_lt, if◌then◌else◌, length, codes, Some, None, option_to_list};
+ghost use Rattle.std.specs.Prelude.{◌≡◌, ◌+◌, ◌<◌, ◌≤◌, ◌^◌, nat_lt, slice_get, if◌then◌else◌, length, codes, Some, None, option_to_list};
 ghost use Rattle.index_model.specs.Sections.{section_bytes};
+ghost use Rattle.unit_headers.specs.Images.{unit_bytes};
 ghost use Rattle.shard_build.specs.Kept.{node_seen, node_by, target_by, span_from, imports_by};
 ghost use Rattle.shard_build.specs.Texts.{texts_seen};
 
@@ -11,6 +12,7 @@ use crate::texts::Texts;
 use elf_sections::Sections;
 use entry_scan::Item;
 use index_model::{Import, Next, Node, Span, Unit};
+use unit_headers::Image;
 
 const IMPORTED_UNIT: u64 = 0x3d;
 
@@ -25,6 +27,25 @@ pub(crate) struct Home<'s, 'f> {
 }
 
 impl<'s, 'f> Home<'s, 'f> {
+    /// The unit with this number.
+    pub fn of(image: &'s Image<'f>, number: u32) -> Home<'s, 'f>
+        requires { number < length image.now.units }
+        ensures sections { result.sections.now ≡ image.now.sections }
+        ensures number { result.number ≡ number }
+        ensures unit { slice_get image.now.units number ≡ Some result.unit }
+        ensures own { result.bytes.now ≡ unit_bytes image.now.sections result.unit }
+        ensures header { result.unit.body ≤ length result.bytes.now }
+        ensures small { result.unit.start + length result.bytes.now < 2 ^ 63 }
+        ensures ends { result.unit.start + result.unit.length < 2 ^ 63 }
+    {
+        Home {
+            sections: image.sections(),
+            bytes: image.unit_bytes(number as usize),
+            unit: image.units()[number as usize],
+            number,
+        }
+    }
+
     /// The node of an entry in this one, with these texts.
     #[tactic(auto, unfolding(crate::specs::Kept::node_by))]
     pub fn node(

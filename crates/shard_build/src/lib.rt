@@ -10,6 +10,9 @@ mod home;
 mod kept;
 mod open;
 mod run;
+mod shard;
 mod tables;
 mod texts;
 mod unit;
+
+pub use shard::scan;

@@ -1,10 +1,12 @@
 //! The units of a run, one after the other.
 
-ghost use Rattle.std.specs.Prelude.{◌≡◌, ◌+◌, ◌<◌, ◌≤◌, ◌^◌, [], Some, codes, length};
+ghost use Rattle.std.specs.Prelude.{◌≡◌, ◌+◌, ◌<◌, ◌≤◌, ◌^◌, List as Sequence, [], Some, codes, length};
 ghost use Rattle.index_model.specs.Abbreviations.{table};
 ghost use Rattle.index_model.specs.Faults.{scanned};
 ghost use Rattle.index_model.specs.Gives.{GivesFor};
-ghost use Rattle.index_model.specs.Sections.{section_bytes};
+ghost use Rattle.index_model.specs.Program.{Walked};
+ghost use Rattle.index_model.specs.Sections.{Section, section_bytes};
+ghost use Rattle.index_model.specs.Shards.{StandsFor, first_number};
 ghost use Rattle.unit_headers.specs.Images.{unit_bytes};
 ghost use Rattle.shard_build.specs.Runs.{Holds, HoldsOneMore};
 
@@ -13,7 +15,7 @@ use crate::home::Home;
 use crate::kept::Kept;
 use abbrev_table::Abbrevs;
 use entry_scan::Walk;
-use index_model::Root;
+use index_model::{List, Root, Shard};
 use ix_base::Stop;
 use std::alloc::Global;
 
@@ -58,5 +60,26 @@ impl<'f> Run<'f> {
         self.kept.walk(home, Walk::new(home.bytes, &home.unit, abbrevs))?;
         self.roots.push(self.kept.frame.root)?;
         Ok(())
+    }
+
+    /// The shard of the run whose first unit has this number.
+    pub fn shard(self, first: u32) -> Shard<'f>
+        ensures { (ss : Sequence Section) (ws : Sequence Walked) → Holds ss self.entry ws → first_number ws first → StandsFor ss result ws }
+    {
+        let Run { roots, kept } = self;
+        let Kept {
+            frame: _,
+            opened: _,
+            nodes,
+            spans,
+            imports,
+        } = kept;
+        Shard {
+            first,
+            roots: List::of(roots),
+            nodes: List::of(nodes),
+            spans: List::of(spans),
+            imports: List::of(imports),
+        }
     }
 }

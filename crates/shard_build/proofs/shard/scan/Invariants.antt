@@ -1,0 +1,11 @@
+use Rattle.std.specs.Option.{ForSome}
+use Rattle.shard_build.specs.Runs.{IsAtOffset}
+use Rattle.shard_build.proofs.RunEnds.{SoFar}
+use Rattle.shard_build.proofs.shard.scan.Given as goal
+
+-- the units so far are kept, and the table at hand is that at its offset
+abbrev pub invariant-loop-number : goal.invariant-loop-number
+invariant-loop-number l = record {
+  kept : SoFar l.image.sections l.image.units l.first l.number l.run;
+  hand : ForSome l.at_hand (IsAtOffset l.section.now);
+}

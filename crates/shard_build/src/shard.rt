@@ -1,0 +1,44 @@
+//! The shard of a run of units.
+
+ghost use Rattle.std.specs.Prelude.{◌+◌, ◌≤◌, length, take, drop};
+ghost use Rattle.std.specs.List.{enumerate_from};
+ghost use Rattle.index_model.specs.Faults.{scanned};
+ghost use Rattle.index_model.specs.Gives.{GivesFor};
+ghost use Rattle.index_model.specs.Meaning.{each};
+ghost use Rattle.index_model.specs.Shards.{StandsFor};
+
+use crate::home::Home;
+use crate::run::Run;
+use crate::tables::Table;
+use index_model::Shard;
+use ix_base::Stop;
+use std::alloc::Global;
+use unit_headers::Image;
+
+/// The shard of the `count` units from number `first` on, counted over both sections in section order.
+///
+/// Stops at the first fault of these units: of each unit its abbreviations, at the unit's joint offset, then its entries and
+/// what stands behind them, then the texts of its entries, at the entry's joint offset and name before linkage name. Each
+/// unit's bytes are read once.
+pub fn scan<'f>(
+    alloc: Global,
+    image: &Image<'f>,
+    first: u32,
+    count: u32,
+) -> Result<Shard<'f>, Stop>
+    requires { first + count ≤ length image.now.units }
+    ensures { GivesFor (StandsFor image.now.sections) result (each (scanned image.now.sections) (take count (drop first (enumerate_from 0 image.now.units)))) }
+{
+    let units = image.units();
+    let end = first + count;
+    let section = image.sections().get(b".debug_abbrev");
+    let mut run = Run::new(alloc);
+    let mut at_hand = None;
+    for number in first..end {
+        let home = Home::of(image, number);
+        let table = Table::of(alloc, section, &home.unit, at_hand)?;
+        run.unit(&home, &table.abbrevs)?;
+        at_hand = Some(table);
+    }
+    Ok(run.shard(first))
+}
