@@ -1,20 +1,22 @@
 -- The units of a run, up to its end or to its first fault.
 use Rattle.std.proofs.Common.{◌≡◌, ℕ, zero, suc, ◌+◌, ◌-◌, ◌<◌, ◌≤◌, List, [], ◌∷◌, ◌++◌, length, take, drop, get_or, Option, Some, Result, Ok, Err, refl, sym, ap, subst, ◌∙◌, arith, append_assoc, length-drop, length-take}
-use Rattle.std.specs.Prelude.{slice_get, IsOkAnd}
+use Rattle.std.specs.Prelude.{slice_get, codes, IsOkAnd}
 use Rattle.std.specs.List.{enumerate_from}
 use Rattle.std.proofs.lemmas.List.{get_or-drop, get_or-take, take_more}
 use Rattle.std.proofs.lemmas.List.FromFn.{length-enumerate_from, get_or-enumerate_from}
 use Rattle.std.proofs.lemmas.Option.{get_or_from_slice_get}
 use Rattle.std.proofs.Math.Seq.{take-add}
+use Rattle.ix_base.specs.declared.code.TheConstants.{BAD_ABBREVIATION}
 use Rattle.ix_base.specs.declared.fault.Fault.{Fault}
 use Rattle.ix_base.specs.declared.fault.Stop.{Stop}
 use Rattle.ix_base.specs.declared.fault.Stop.TheVariants as stops
 use Rattle.index_model.specs.declared.unit.Unit.{Unit as UnitHeader}
 use Rattle.index_model.specs.Faults.{scanned}
 use Rattle.index_model.specs.Gives.{StopsAs}
-use Rattle.index_model.specs.Meaning.{◌>>=◌, each}
-use Rattle.index_model.specs.Program.{Walked}
-use Rattle.index_model.specs.Sections.{Section}
+use Rattle.index_model.specs.Abbreviations.{table}
+use Rattle.index_model.specs.Meaning.{◌>>=◌, each, fault, some_or}
+use Rattle.index_model.specs.Program.{Walked, walked}
+use Rattle.index_model.specs.Sections.{Section, section_bytes}
 use Rattle.index_model.specs.Shards.{first_number}
 use Rattle.shard_build.specs.declared.run.Run.{Run}
 use Rattle.shard_build.specs.Runs.{Holds, HoldsOneMore}
@@ -140,3 +142,11 @@ module _ (ss : List Section) (us : List UnitHeader) (first count : ℕ) (fits : 
       by_unit : (r : Result Walked Fault) → scanned ss (n, u) ≡ r → IsOkAnd r (λ w. HoldsOneMore ss old new w) → SoFar ss us first (n + 1) new
       by_unit (Ok w) e k = record { front = h.front ++ w ∷ []; read = read_more n u low high is h.front w h.read e; holds = k h.front h.holds }
       by_unit (Err f) e k = absurd k
+
+-- damaged abbreviations are the first fault of their unit
+pub table_stops : (ss : List Section) (u : Numbered) (bytes : List ℕ) (s : Stop) → bytes ≡ section_bytes ss (codes ".debug_abbrev") → StopsAs s (some_or (table bytes u.1.«abbrev») (fault BAD_ABBREVIATION u.1.start)) → StopsAs s (scanned ss u)
+unfolding walked scanned
+table_stops ss u bytes stops.Memory is h = tt
+table_stops ss u bytes (stops.Fault f) is h =
+    let here : some_or (table (section_bytes ss (codes ".debug_abbrev")) u.1.«abbrev») (fault BAD_ABBREVIATION u.1.start) ≡ Err f = ap (λ (xs : List ℕ). some_or (table xs u.1.«abbrev») (fault BAD_ABBREVIATION u.1.start)) (sym is) ∙ h in
+    rw here refl

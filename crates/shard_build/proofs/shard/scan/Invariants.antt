@@ -7,5 +7,5 @@ use Rattle.shard_build.proofs.shard.scan.Given as goal
 abbrev pub invariant-loop-number : goal.invariant-loop-number
 invariant-loop-number l = record {
   kept : SoFar l.image.sections l.image.units l.first l.number l.run;
-  hand : ForSome l.at_hand (IsAtOffset l.section.now);
+  hand : ForSome l.at_hand (IsAtOffset l.section);
 }
