@@ -1,12 +1,11 @@
 -- What the root of a unit says of it.
-use Rattle.std.proofs.Common.{◌≡◌, ℕ, Bool, false, eqb, ◌&&◌, ◌||◌, List, Option, Some, None, unwrap_or, Result, Ok, refl, sym, ap, ◌∙◌}
+use Rattle.std.proofs.Common.{◌≡◌, ℕ, ◌&&◌, ◌||◌, List, Option, Some, None, unwrap_or, Result, Ok, refl, ap}
 use Rattle.std.specs.Prelude.{option_and_then, is_none}
-use Rattle.index_model.specs.declared.shard.Root.{Root}
 use Rattle.index_model.specs.Meaning.{◌>>=◌}
 use Rattle.index_model.specs.Sections.{Section}
 use Rattle.index_model.specs.Attributes.{read_as, as_offset, language_value, name_value, linkage_value}
 use Rattle.index_model.specs.Languages.{class_of, own_language}
-use Rattle.index_model.specs.Program.{Walked, Located, root_of}
+use Rattle.index_model.specs.Program.{Walked, root_of}
 use Rattle.index_model.specs.Rules.{is_ada}
 use Rattle.index_model.specs.ShardParts.{is_partial, root_facts, may_be_ada}
 use Rattle.index_model.specs.Strings.{Texts, base_of, texts_of}

@@ -1,5 +1,5 @@
 -- The imports of a unit.
-use Rattle.std.proofs.Common.{◌≡◌, ℕ, Bool, true, false, cond, eqb, List, [], ◌∷◌, ◌++◌, Option, Some, None, option_map, refl, sym, ap, ◌∙◌}
+use Rattle.std.proofs.Common.{◌≡◌, ℕ, Bool, true, false, cond, eqb, List, [], ◌∷◌, ◌++◌, Option, Some, None, option_map, refl, ap, ◌∙◌}
 use Rattle.std.specs.Prelude.{filter, filter_map, flat_map, map, option_and_then, option_to_list}
 use Rattle.std.specs.List.{cons_option}
 use Rattle.index_model.specs.declared.shard.Import.{Import}

@@ -1,12 +1,12 @@
 -- The node of an entry has its facts and its texts.
-use Rattle.std.proofs.Common.{◌≡◌, ℕ, Bool, true, false, cond, List, [], ◌∷◌, ◌++◌, Option, Some, None, option_map, Result, Ok, refl, sym, ap, ◌∙◌}
+use Rattle.std.proofs.Common.{◌≡◌, ℕ, List, [], ◌∷◌, Option, Some, None, option_map, Result, Ok, refl, sym, ap, ◌∙◌}
 use Rattle.std.specs.Prelude.{map}
 use Rattle.std.specs.List.{AllZip}
 use Rattle.index_model.specs.declared.shard.Node.{Node}
-use Rattle.index_model.specs.Meaning.{◌>>=◌, value_of}
+use Rattle.index_model.specs.Meaning.{value_of}
 use Rattle.index_model.specs.Sections.{Section}
 use Rattle.index_model.specs.Attributes.{name_value, linkage_value}
-use Rattle.index_model.specs.Program.{Walked, Located, items_of, scope_around}
+use Rattle.index_model.specs.Program.{Walked, Located, items_of}
 use Rattle.index_model.specs.ShardParts.{node_facts, IsNodeOf}
 use Rattle.index_model.specs.Strings.{Texts, text_in, texts_of, some_text, own_name, own_linkage_name}
 use Rattle.index_model.specs.Walk.{Item, parent_of}

@@ -1,13 +1,12 @@
 -- The open entries are the lexical parents of what comes.
-use Rattle.std.proofs.Common.{◌≡◌, ℕ, zero, suc, ◌+◌, ◌-◌, ◌<◌, ◌≤◌, Bool, true, false, cond, eqb, List, [], ◌∷◌, ◌++◌, Option, Some, None, option_map, refl, sym, ap, subst, ◌∙◌, arith, ⊎_elim}
+use Rattle.std.proofs.Common.{◌≡◌, ℕ, zero, suc, ◌-◌, ◌<◌, ◌≤◌, Bool, List, [], ◌∷◌, ◌++◌, Option, Some, None, option_map, sym, ap, subst, ◌∙◌, arith, ⊎_elim}
 use Rattle.std.specs.Prelude.{Contains}
 use Rattle.std.proofs.lemmas.List.Elements.{Contains-append_left, Contains-append_right, Contains-append_cases, Contains-push, Contains-push_cases}
 use Rattle.index_model.specs.declared.rules.Parent.{Parent}
 use Rattle.index_model.specs.Walk.{Item, parent_of}
 use Rattle.index_model.specs.Rules.{is_visited, is_visited_under, parent_as}
-use Rattle.index_model.specs.Program.{Walked, items_of}
-use Rattle.index_model.specs.LawsOrder.{IsInOrder, HasParent}
-use Rattle.index_model.proofs.Meanings.{contains_here, contains_later, contains_cases}
+use Rattle.index_model.specs.LawsOrder.{HasParent}
+use Rattle.index_model.proofs.Meanings.{contains_here, contains_cases}
 use Rattle.index_model.proofs.ParentLaws.{Rise, rise_below}
 use Rattle.index_model.proofs.VisitedLaws.{visited_by_parent}
 use Rattle.shard_build.specs.declared.open.Open.{Open}

@@ -1,5 +1,5 @@
 -- The units of a run, up to its end or to its first fault.
-use Rattle.std.proofs.Common.{◌≡◌, ℕ, zero, suc, ◌+◌, ◌-◌, ◌<◌, ◌≤◌, List, [], ◌∷◌, ◌++◌, length, take, drop, get_or, Option, Some, Result, Ok, Err, refl, sym, ap, subst, ◌∙◌, arith, append_assoc, length-drop, length-take}
+use Rattle.std.proofs.Common.{◌≡◌, ℕ, ◌+◌, ◌-◌, ◌<◌, ◌≤◌, List, [], ◌∷◌, ◌++◌, length, take, drop, get_or, Some, Result, Ok, Err, refl, sym, ap, subst, ◌∙◌, arith, append_assoc, length-drop, length-take}
 use Rattle.std.specs.Prelude.{slice_get, codes, IsOkAnd}
 use Rattle.std.specs.List.{enumerate_from}
 use Rattle.std.proofs.lemmas.List.{get_or-drop, get_or-take, take_more}
@@ -14,7 +14,7 @@ use Rattle.index_model.specs.declared.unit.Unit.{Unit as UnitHeader}
 use Rattle.index_model.specs.Faults.{scanned}
 use Rattle.index_model.specs.Gives.{StopsAs}
 use Rattle.index_model.specs.Abbreviations.{table}
-use Rattle.index_model.specs.Meaning.{◌>>=◌, each, fault, some_or}
+use Rattle.index_model.specs.Meaning.{each, fault, some_or}
 use Rattle.index_model.specs.Program.{Walked, walked}
 use Rattle.index_model.specs.Sections.{Section, section_bytes}
 use Rattle.index_model.specs.Shards.{first_number}

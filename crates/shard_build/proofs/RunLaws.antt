@@ -1,11 +1,10 @@
 -- A run with one more unit.
-use Rattle.std.proofs.Common.{◌≡◌, ℕ, ◌+◌, ◌-◌, ◌≤◌, List, [], ◌∷◌, ◌++◌, length, take, drop, refl, sym, ap, subst, ◌∙◌, arith, append-nil, length-take}
+use Rattle.std.proofs.Common.{◌≡◌, ℕ, ◌+◌, ◌-◌, ◌≤◌, List, [], ◌∷◌, ◌++◌, length, take, drop, sym, ap, subst, ◌∙◌, arith, append-nil, length-take}
 use Rattle.std.specs.Prelude.{filter, flat_map, map}
 use Rattle.std.specs.List.{AllZip}
 use Rattle.std.proofs.lemmas.Grind.{flat_map-append}
 use Rattle.std.proofs.lemmas.List.{drop-drop, drop-take, map-append}
 use Rattle.std.proofs.lemmas.List.Elements.{filter-append}
-use Rattle.ix_base.specs.Reading.{Input}
 use Rattle.index_model.specs.declared.shard.Import.{Import}
 use Rattle.index_model.specs.declared.shard.Root.{Root}
 use Rattle.index_model.specs.declared.shard.Span.{Span}
@@ -16,7 +15,7 @@ use Rattle.index_model.specs.ShardParts.{root_facts, is_kept, kept_in, spans_of,
 use Rattle.unit_headers.specs.Images.{unit_bytes}
 use Rattle.shard_build.specs.declared.run.Run.{Run}
 use Rattle.shard_build.specs.Kept.{Behind, NodeSeen, node_seen, kept_seen}
-use Rattle.shard_build.specs.Runs.{Holds, HoldsOneMore}
+use Rattle.shard_build.specs.Runs.{HoldsOneMore}
 use Rattle.shard_build.proofs.NodeLaws.{IsSeenOf, are_nodes, are_seen}
 use Rattle.shard_build.proofs.UnitEnd.{Adds}
 

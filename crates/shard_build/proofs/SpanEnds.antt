@@ -1,22 +1,14 @@
 -- The spans that are kept behind some tokens are those of the walk.
-use Rattle.std.proofs.Common.{◌≡◌, ℕ, zero, suc, ◌+◌, ◌-◌, ◌<◌, ◌≤◌, Bool, true, false, cond, eqb, ltb, ◌&&◌, List, [], ◌∷◌, ◌++◌, length, Option, Some, None, unwrap_or, Result, Ok, Err, refl, sym, ap, subst, ◌∙◌, arith, append_assoc, append-nil, length-append, ⊎_elim}
-use Rattle.std.specs.Prelude.{Contains, filter, filter_map, map}
-use Rattle.std.specs.List.{cons_option}
-use Rattle.std.proofs.lemmas.Bool.{lt-ltb, le-ltb, eq-eqb, ne_eqb, cases_eq, cases_Bool}
-use Rattle.std.proofs.lemmas.List.Elements.{filter_map-append, Contains-push_cases}
-use Rattle.ix_base.specs.declared.fault.Fault.{Fault}
+use Rattle.std.proofs.Common.{◌≡◌, ℕ, zero, suc, ◌+◌, ◌-◌, ◌<◌, ◌≤◌, Bool, true, false, cond, eqb, List, [], ◌∷◌, ◌++◌, length, Option, Some, None, unwrap_or, Ok, refl, sym, ap, subst, ◌∙◌, arith, append_assoc, append-nil, length-append}
+use Rattle.std.proofs.lemmas.Bool.{eq-eqb, ne_eqb}
 use Rattle.ix_base.specs.Reading.{Input}
 use Rattle.index_model.specs.declared.shard.Span.{Span}
 use Rattle.index_model.specs.declared.unit.Unit.{Unit as UnitHeader}
-use Rattle.index_model.specs.Meaning.{◌>>=◌}
-use Rattle.index_model.specs.Program.{Walked, items_of}
 use Rattle.index_model.specs.Sections.{Section}
-use Rattle.index_model.specs.ShardParts.{ends_children, first_place, span_of, spans_of}
-use Rattle.index_model.specs.Walk.{Item, Token, Null, Entry, Levels, item_in}
+use Rattle.index_model.specs.Walk.{Item, Token, Null, Entry, Levels}
 use Rattle.index_model.specs.WalkLeft.{levels_after}
-use Rattle.index_model.proofs.Meanings.{bind_ok, contains_here, contains_later, same_ok}
-use Rattle.index_model.proofs.OrderLaws.{entries, goes}
-use Rattle.index_model.proofs.TokenReads.{IsToken, Follow}
+use Rattle.index_model.proofs.Meanings.{same_ok}
+use Rattle.index_model.proofs.TokenReads.{Follow}
 use Rattle.shard_build.specs.declared.open.Open.{Open}
 use Rattle.shard_build.specs.Kept.{Behind, ended_at, closed, role_of, span_from, spans_by, behind_all}
 use Rattle.shard_build.proofs.EntrySteps.{made, visited, has_texts}

@@ -1,5 +1,5 @@
 -- The spans of the entries of a walk, by the tokens behind each of them.
-use Rattle.std.proofs.Common.{◌≡◌, ℕ, suc, ◌+◌, ◌<◌, ◌≤◌, Bool, true, false, cond, eqb, ltb, ◌&&◌, List, [], ◌∷◌, ◌++◌, Option, Some, None, unwrap_or, refl, sym, ap, subst, ◌∙◌, arith, append_assoc, ⊎_elim}
+use Rattle.std.proofs.Common.{◌≡◌, ℕ, ◌+◌, ◌<◌, ◌≤◌, Bool, true, false, cond, eqb, ltb, ◌&&◌, List, [], ◌∷◌, ◌++◌, Option, Some, None, unwrap_or, refl, sym, ap, ◌∙◌, arith, append_assoc, ⊎_elim}
 use Rattle.std.specs.Prelude.{Contains, filter, filter_map, map}
 use Rattle.std.specs.List.{cons_option}
 use Rattle.std.proofs.lemmas.Bool.{lt-ltb, le-ltb}
@@ -7,7 +7,7 @@ use Rattle.std.proofs.lemmas.List.Elements.{filter_map-append, Contains-push_cas
 use Rattle.ix_base.specs.Reading.{Input}
 use Rattle.index_model.specs.declared.shard.Span.{Span}
 use Rattle.index_model.specs.declared.unit.Unit.{Unit as UnitHeader}
-use Rattle.index_model.specs.Program.{Walked, items_of}
+use Rattle.index_model.specs.Program.{Walked}
 use Rattle.index_model.specs.Sections.{Section}
 use Rattle.index_model.specs.ShardParts.{ends_children, first_place, span_of, spans_of}
 use Rattle.index_model.specs.Walk.{Item, Token, Null, Entry, Levels}
@@ -15,7 +15,6 @@ use Rattle.index_model.specs.WalkLeft.{levels_after}
 use Rattle.index_model.proofs.OrderLaws.{entries, goes}
 use Rattle.index_model.proofs.Meanings.{contains_here, contains_later}
 use Rattle.index_model.proofs.TokenReads.{Follow}
-use Rattle.shard_build.specs.Kept.{span_from}
 use Rattle.shard_build.proofs.SpanEnds.{ends, new_spans, span_before}
 
 -- ---- behind an entry

@@ -1,5 +1,5 @@
 -- The span at an index, when it ends.
-use Rattle.std.proofs.Common.{◌≡◌, ℕ, zero, suc, ◌<◌, ◌≤◌, List, [], ◌∷◌, length, get_or, set, refl, sym, ap, ◌∙◌, arith}
+use Rattle.std.proofs.Common.{◌≡◌, ℕ, zero, suc, ◌<◌, ◌≤◌, List, [], ◌∷◌, length, get_or, set, refl, ap, arith}
 use Rattle.index_model.specs.declared.shard.Span.{Span}
 use Rattle.shard_build.specs.Kept.{ended_at}
 

@@ -6,26 +6,25 @@ use Rattle.ix_base.specs.declared.fault.Fault.{Fault}
 use Rattle.ix_base.specs.declared.fault.Stop.{Stop}
 use Rattle.ix_base.specs.declared.fault.Stop.TheVariants as stops
 use Rattle.index_model.specs.Gives.{StopsAs}
-use Rattle.ix_base.specs.declared.code.TheConstants.{BAD_ABBREVIATION}
 use Rattle.index_model.specs.declared.shard.Import.{Import}
 use Rattle.index_model.specs.declared.shard.Span.{Span}
 use Rattle.index_model.specs.declared.unit.Unit.{Unit as UnitHeader}
 use Rattle.index_model.specs.Abbreviations.{Abbrev, table}
 use Rattle.index_model.specs.Faults.{none_or, scanned}
-use Rattle.index_model.specs.Meaning.{◌>>=◌, ◌>>◌, each, fault, some_or}
-use Rattle.index_model.specs.Program.{Walked, Located, walked, located, items_of}
+use Rattle.index_model.specs.Meaning.{◌>>◌, each}
+use Rattle.index_model.specs.Program.{Walked, walked, located, items_of}
 use Rattle.index_model.specs.Sections.{Section, section_bytes}
 use Rattle.index_model.specs.ShardParts.{root_facts, may_be_ada, spans_of, imports_in}
 use Rattle.index_model.specs.Strings.{Texts}
-use Rattle.index_model.specs.Walk.{Item, Walk}
-use Rattle.index_model.proofs.OrderLaws.{walks_in_order, walk_rises, walk_tokens}
+use Rattle.index_model.specs.Walk.{Item}
+use Rattle.index_model.proofs.OrderLaws.{walks_in_order, walk_rises}
 use Rattle.index_model.proofs.Scans.{read}
 use Rattle.index_model.proofs.TokenReads.{Follow, start, walk_follows}
 use Rattle.index_model.specs.Program.{body}
 use Rattle.shard_build.specs.declared.frame.Frame.{Frame}
 use Rattle.shard_build.specs.declared.open.Open.{Open}
 use Rattle.shard_build.specs.Frames.{blank}
-use Rattle.shard_build.specs.Kept.{Behind, NodeSeen, behind_all, imports_by}
+use Rattle.shard_build.specs.Kept.{Behind, NodeSeen, behind_all}
 use Rattle.shard_build.specs.Tokens.{unless, behind_walk}
 use Rattle.shard_build.proofs.FrameLaws.{frame_by, unit_frame, root_says}
 use Rattle.shard_build.proofs.ImportLaws.{all_imports}

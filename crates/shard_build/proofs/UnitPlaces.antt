@@ -1,8 +1,8 @@
 -- The units of an image lie in its sections.
-use Rattle.std.proofs.Common.{◌≡◌, ℕ, ◌+◌, ◌<◌, ◌≤◌, ◌^◌, List, [], ◌∷◌, ◌++◌, length, take, drop, get_or, Option, Some, Ok, refl, sym, ap, subst, ◌∙◌, arith, length-drop, length-take, length-append, ⊎_elim}
+use Rattle.std.proofs.Common.{◌≡◌, ℕ, ◌+◌, ◌<◌, ◌≤◌, ◌^◌, List, [], ◌∷◌, length, drop, Some, Ok, ap, subst, arith, length-drop, length-take, length-append, ⊎_elim}
 use Rattle.std.specs.Prelude.{Contains, codes, slice_get}
 use Rattle.std.proofs.lemmas.List.Elements.{Contains-append_cases, Contains-get_or}
-use Rattle.std.proofs.lemmas.Option.{slice_get-get_or, get_or_from_slice_get, slice_get_within}
+use Rattle.std.proofs.lemmas.Option.{get_or_from_slice_get, slice_get_within}
 use Rattle.ix_base.specs.Reading.{Input, input}
 use Rattle.index_model.specs.declared.unit.Part.{Part}
 use Rattle.index_model.specs.declared.unit.Part.TheVariants.{Info, Types}
@@ -14,7 +14,7 @@ use Rattle.index_model.specs.Units.{next_unit, units_of}
 use Rattle.index_model.proofs.Meanings.{contains_cases}
 use Rattle.index_model.proofs.UnitReads.{unit_takes}
 use Rattle.index_model.proofs.UnitTilingLaws.{units_tile}
-use Rattle.unit_headers.specs.Images.{Image, image_of, unit_bytes, ForUnit}
+use Rattle.unit_headers.specs.Images.{Image, image_of, unit_bytes}
 use Rattle.unit_headers.proofs.Images.{parts_of}
 
 -- a unit that tiles bytes ends in them

@@ -1,6 +1,5 @@
 -- What a unit's root says of the whole unit (DWARF 5, 3.1.1).
-use Rattle.std.specs.Prelude.{ℕ, false, ◌&&◌, ◌||◌, ◌==◌, if◌then◌else◌, Option, None, unwrap_or, is_none}
-use Rattle.index_model.specs.declared.shard.Root.{Root}
+use Rattle.std.specs.Prelude.{false, ◌&&◌, ◌||◌, ◌==◌, if◌then◌else◌, None, unwrap_or, is_none}
 use Rattle.index_model.specs.Attributes.{read_as, as_offset, language_value}
 use Rattle.index_model.specs.Languages.{class_of}
 use Rattle.index_model.specs.Rules.{is_ada}

@@ -1,5 +1,5 @@
 -- What is kept of a unit behind some of its tokens: the form that a scan keeps, one token after the other.
-use Rattle.std.specs.Prelude.{ℕ, zero, suc, ◌+◌, Bool, true, false, ◌||◌, nat_lt, ◌==◌, if◌then◌else◌, List, [], ◌∷◌, ◌++◌, map, reverse, length, codes, Option, Some, None, option_map, option_and_then, option_to_list, Result, Ok}
+use Rattle.std.specs.Prelude.{ℕ, zero, suc, ◌+◌, Bool, false, ◌||◌, nat_lt, ◌==◌, if◌then◌else◌, List, [], ◌∷◌, ◌++◌, map, reverse, length, codes, Option, Some, None, option_map, option_and_then, option_to_list, Result, Ok}
 use Rattle.ix_base.specs.declared.fault.Fault.{Fault}
 use Rattle.index_model.specs.declared.shard.Import.{Import}
 use Rattle.index_model.specs.declared.shard.Next.{Next}

@@ -1,5 +1,5 @@
 -- What is kept behind the units of a run.
-use Rattle.std.specs.Prelude.{◌≡◌, ℕ, List, [], ◌∷◌, ◌++◌, flat_map, map, codes, Option, Some, None, ⊤}
+use Rattle.std.specs.Prelude.{◌≡◌, ℕ, List, [], ◌∷◌, ◌++◌, flat_map, map, Some}
 use Rattle.std.specs.List.{AllZip}
 use Rattle.index_model.specs.Abbreviations.{table}
 use Rattle.index_model.specs.Program.{Walked}

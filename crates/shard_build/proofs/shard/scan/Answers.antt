@@ -1,4 +1,4 @@
-use Rattle.std.proofs.Common.{◌≡◌, ℕ, ◌+◌, ◌-◌, ◌<◌, ◌≤◌, List, length, take, Option, Some, Ok, sym, ap, subst, ◌∙◌, arith}
+use Rattle.std.proofs.Common.{◌≡◌, ℕ, ◌-◌, List, take, Ok, ap, subst, ◌∙◌, arith}
 use Rattle.std.specs.Prelude.{codes, IsOkAnd}
 use Rattle.std.proofs.lemmas.Result.{err_from_is_err_and}
 use Rattle.index_model.specs.declared.unit.Unit.{Unit as UnitHeader}
@@ -7,7 +7,6 @@ use Rattle.index_model.specs.Gives.{StopsAs}
 use Rattle.index_model.specs.Meaning.{each}
 use Rattle.index_model.specs.Sections.{Section, section_bytes}
 use Rattle.index_model.proofs.Meanings.{same_some}
-use Rattle.shard_build.specs.declared.tables.Table.{Table}
 use Rattle.shard_build.specs.Runs.{HoldsOneMore, IsAtOffset}
 use Rattle.shard_build.proofs.RunEnds.{units_from, so_far_none, so_far_more, run_stops, table_stops, first_is}
 use Rattle.shard_build.proofs.shard.scan.Goals as goal

@@ -1,4 +1,3 @@
-use Rattle.std.proofs.Common.{[]}
 use Rattle.form_reader.specs.Seen.{seen}
 use Rattle.shard_build.proofs.KeepLaws.{onwards, at_end}
 use Rattle.shard_build.proofs.attributes.Attributes.of.Goals as goal

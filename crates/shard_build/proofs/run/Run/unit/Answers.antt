@@ -1,17 +1,17 @@
-use Rattle.std.proofs.Common.{◌≡◌, ℕ, ◌+◌, ◌-◌, Ok, List, [], reverse, refl, sym, ap, subst, ◌∙◌, rules}
+use Rattle.std.proofs.Common.{◌≡◌, ℕ, ◌+◌, ◌-◌, Ok, List, reverse, refl, sym, ap, subst, ◌∙◌, rules}
 use Rattle.std.specs.Prelude.{Contains}
 use Rattle.ix_base.specs.Reading.{Input}
 use Rattle.index_model.specs.declared.unit.Unit.{Unit as UnitHeader}
 use Rattle.index_model.specs.Faults.{scanned}
 use Rattle.index_model.specs.Gives.{StopsAs}
 use Rattle.index_model.specs.LawsTexts.{StandsIn}
-use Rattle.index_model.specs.Program.{Walked, body, items_of}
-use Rattle.index_model.specs.Walk.{Item, Walk, walk_of, items}
+use Rattle.index_model.specs.Program.{items_of}
+use Rattle.index_model.specs.Walk.{Walk, walk_of, items}
 use Rattle.index_model.proofs.TextLaws.{attribute_texts_in}
 use Rattle.shard_build.specs.declared.kept.Kept.{Kept}
 use Rattle.shard_build.specs.declared.open.Open.{Open}
 use Rattle.shard_build.specs.declared.run.Run.{Run}
-use Rattle.shard_build.specs.Kept.{Behind, kept_seen}
+use Rattle.shard_build.specs.Kept.{kept_seen}
 use Rattle.shard_build.specs.Tokens.{behind_walk}
 use Rattle.shard_build.proofs.RunLaws.{holds_more, body_is}
 use Rattle.shard_build.proofs.UnitEnd.{Starts, w, is_walked, unit_ok, unit_stops}
