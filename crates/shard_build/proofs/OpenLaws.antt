@@ -66,14 +66,17 @@ module _ (ada : Bool) (ds : List Item) where
   open_behind es d [] zero le h = tt
   open_behind es d [] (suc j) le h = h
   open_behind es d (o ∷ os) zero le h = h
-  open_behind es d (o ∷ os) (suc j) le h = (record {
-    entry = h.0.entry;
-    member = Contains-append_left es (d ∷ []) h.0.entry h.0.member;
-    depth = h.0.depth;
-    at = h.0.at;
-    parent = h.0.parent;
-    last = λ x c same. ⊎_elim (λ (l : Contains es x). h.0.last x l same) (λ (is : d ≡ x). absurd (omega (arith, le, same, ap (λ (y : Item). y.depth) is))) (Contains-push_cases es d x c);
-  }, open_behind es d os j (omega (arith, le)) h.1)
+  open_behind es d (o ∷ os) (suc j) le h = (
+    record {
+      entry = h.0.entry;
+      member = Contains-append_left es (d ∷ []) h.0.entry h.0.member;
+      depth = h.0.depth;
+      at = h.0.at;
+      parent = h.0.parent;
+      last = λ x c same. ⊎_elim (λ (l : Contains es x). h.0.last x l same) (λ (is : d ≡ x). absurd (omega (arith, le, same, ap (λ (y : Item). y.depth) is))) (Contains-push_cases es d x c);
+    },
+    open_behind es d os j (omega (arith, le)) h.1,
+  )
 
   module _ (n : ℕ) (es : List Item) (d : Item) (rest : List Item) (whole : es ++ d ∷ rest ≡ ds) (rise : Rise n ds) where
     rising : Rise n (es ++ d ∷ rest)
@@ -81,14 +84,17 @@ module _ (ada : Bool) (ds : List Item) where
 
     -- an entry is open behind itself
     pub opens : (o : Open) (os : List Open) (k : ℕ) → k ≡ d.depth → o.at ≡ d.at → o.parent ≡ role_of d.depth d.tag (is_visited ada ds d) → AreOpen ada ds es os k → AreOpen ada ds (es ++ d ∷ []) (o ∷ os) (suc k)
-    opens o os k deep at parent h = (record {
-      entry = d;
-      member = Contains-push es d;
-      depth = sym deep;
-      at = at;
-      parent = parent;
-      last = λ x c same. ⊎_elim (λ (l : Contains es x). let up = before_in n es d rest rising x l in omega (arith, up)) (λ (is : d ≡ x). omega (arith, ap (λ (y : Item). y.at) is)) (Contains-push_cases es d x c);
-    }, open_behind es d os k (omega (arith, deep)) h)
+    opens o os k deep at parent h = (
+      record {
+        entry = d;
+        member = Contains-push es d;
+        depth = sym deep;
+        at = at;
+        parent = parent;
+        last = λ x c same. ⊎_elim (λ (l : Contains es x). let up = before_in n es d rest rising x l in omega (arith, up)) (λ (is : d ≡ x). omega (arith, ap (λ (y : Item). y.at) is)) (Contains-push_cases es d x c);
+      },
+      open_behind es d os k (omega (arith, deep)) h,
+    )
 
     -- what stands before the entry is one of the earlier ones
     is_earlier : (x : Item) → Contains ds x → x.at < d.at → Contains es x

@@ -39,7 +39,7 @@ module _ (ss : List Section) (old new : Run) (w : Walked) (b : Behind) (nodes : 
     nodes =
         let all : map node_seen new.kept.nodes.items ≡ map node_seen old.kept.nodes.items ++ a.more = a.nodes ∙ ap (λ (ns : List NodeSeen). ns ++ a.more) nodes in
         let zipped : AllZip (IsSeenOf ss) (map node_seen old.kept.nodes.items ++ a.more) (kept_in ws ++ filter (λ d. is_kept d.home d.item) (located w)) =
-            zip_append (IsSeenOf ss) (map node_seen old.kept.nodes.items) a.more (kept_in ws) (filter (λ d. is_kept d.home d.item) (located w)) (are_seen ss old.kept.nodes.items (kept_in ws) h.nodes) a.are_nodes in
+        zip_append (IsSeenOf ss) (map node_seen old.kept.nodes.items) a.more (kept_in ws) (filter (λ d. is_kept d.home d.item) (located w)) (are_seen ss old.kept.nodes.items (kept_in ws) h.nodes) a.are_nodes in
         are_nodes ss new.kept.nodes.items (kept_in (ws ++ w ∷ [])) (subst (λ (ds : List Located). AllZip (IsSeenOf ss) (map node_seen new.kept.nodes.items) ds) (sym (kept_push ws w)) (subst (λ (ns : List NodeSeen). AllZip (IsSeenOf ss) ns (kept_in ws ++ filter (λ d. is_kept d.home d.item) (located w))) (sym all) zipped));
     spans = a.spans ∙ ap (λ (xs : List Span). xs ++ spans_of w) (spans ∙ h.spans) ∙ sym (flat_push spans_of ws w);
     imports = a.imports ∙ ap (λ (xs : List Import). xs ++ imports_in ss w) (imports ∙ h.imports) ∙ sym (flat_push (imports_in ss) ws w);

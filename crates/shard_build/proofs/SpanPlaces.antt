@@ -67,7 +67,7 @@ module _ (ss : List Section) (w : Walked) where
   span_is d before ts next open_ whole nulls f lt =
       let end = w.unit.start + w.unit.length in
       let all : filter_map (ends_children d) w.walk.tokens ≡ filter_map (ends_children d) ts =
-          ap (filter_map (ends_children d)) (sym whole) ∙ filter_map-append (ends_children d) before (Entry d ∷ ts) ∙ ap (λ (xs : List ℕ). xs ++ filter_map (ends_children d) ts) (none_ends d before nulls) in
+      ap (filter_map (ends_children d)) (sym whole) ∙ filter_map-append (ends_children d) before (Entry d ∷ ts) ∙ ap (λ (xs : List ℕ). xs ++ filter_map (ends_children d) ts) (none_ends d before nulls) in
       ap (λ (to : ℕ). let made : Span = record { unit = w.number; entry = d.at; depth = d.depth; from = d.after; to = to } in made)
       (sym (ends_there d end open_ next ts f lt) ∙ ap (λ (xs : List ℕ). first_place xs end) (sym all))
 

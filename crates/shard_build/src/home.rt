@@ -48,12 +48,7 @@ impl<'s, 'f> Home<'s, 'f> {
 
     /// The node of an entry in this one, with these texts.
     #[tactic(auto, unfolding(crate::specs::Kept::node_by))]
-    pub fn node(
-        &self,
-        outer: Option<Open>,
-        entry: &Attributes<'_>,
-        texts: Texts<'f>,
-    ) -> Node<'f>
+    pub fn node(&self, outer: Option<Open>, entry: &Attributes<'_>, texts: Texts<'f>) -> Node<'f>
         ensures { node_seen result ≡ node_by self.now.sections.now (self.now.number, self.now.unit) outer entry.now (texts_seen texts.entry) }
     {
         let version = self.unit.version;

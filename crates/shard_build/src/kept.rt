@@ -48,7 +48,11 @@ pub(crate) fn add_node<'f>(
 }
 
 // Adds the import of an imported unit.
-pub(crate) fn add_import(imports: &mut Vec<Import>, home: &Home<'_, '_>, entry: &Attributes<'_>) -> Result<(), NoMemory>
+pub(crate) fn add_import(
+    imports: &mut Vec<Import>,
+    home: &Home<'_, '_>,
+    entry: &Attributes<'_>,
+) -> Result<(), NoMemory>
     requires { home.now.unit.start + home.now.unit.length < 2 ^ 63 }
     ensures { OnOk result (imports.new.items ≡ imports.old.items ++ imports_by home.now.sections.now (home.now.number, home.now.unit) entry.now) }
 {
@@ -59,7 +63,11 @@ pub(crate) fn add_import(imports: &mut Vec<Import>, home: &Home<'_, '_>, entry: 
 }
 
 // Adds the span of an entry with children.
-pub(crate) fn add_span(spans: &mut Vec<Span>, home: &Home<'_, '_>, item: &Item<'_>) -> Result<(), NoMemory>
+pub(crate) fn add_span(
+    spans: &mut Vec<Span>,
+    home: &Home<'_, '_>,
+    item: &Item<'_>,
+) -> Result<(), NoMemory>
     requires { home.now.unit.start + home.now.unit.length < 2 ^ 63 }
     ensures { OnOk result (spans.new.items ≡ spans.old.items ++ spans_by home.now.sections.now (home.now.number, home.now.unit) item.now) }
 {
@@ -70,7 +78,12 @@ pub(crate) fn add_span(spans: &mut Vec<Span>, home: &Home<'_, '_>, item: &Item<'
 }
 
 // An entry with children becomes the innermost one. Its span has this index.
-pub(crate) fn open(opened: &mut Vec<Open>, item: &Item<'_>, visited: bool, span: usize) -> Result<(), NoMemory>
+pub(crate) fn open(
+    opened: &mut Vec<Open>,
+    item: &Item<'_>,
+    visited: bool,
+    span: usize,
+) -> Result<(), NoMemory>
     ensures { OnOk result (reverse opened.new.items ≡ opened_by item.now visited span (reverse opened.old.items)) }
 {
     if item.children() {

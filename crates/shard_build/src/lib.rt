@@ -9,9 +9,13 @@ mod frame;
 mod home;
 mod kept;
 mod open;
+#[cfg(test)]
+mod rows;
 mod run;
 mod shard;
 mod tables;
+#[cfg(test)]
+mod tests;
 mod texts;
 mod unit;
 

@@ -57,7 +57,8 @@ impl<'f> Run<'f> {
     {
         self.kept.frame = Frame::blank();
         self.kept.opened.clear();
-        self.kept.walk(home, Walk::new(home.bytes, &home.unit, abbrevs))?;
+        self.kept
+            .walk(home, Walk::new(home.bytes, &home.unit, abbrevs))?;
         self.roots.push(self.kept.frame.root)?;
         Ok(())
     }

@@ -20,12 +20,7 @@ use unit_headers::Image;
 /// Stops at the first fault of these units: of each unit its abbreviations, at the unit's joint offset, then its entries and
 /// what stands behind them, then the texts of its entries, at the entry's joint offset and name before linkage name. Each
 /// unit's bytes are read once.
-pub fn scan<'f>(
-    alloc: Global,
-    image: &Image<'f>,
-    first: u32,
-    count: u32,
-) -> Result<Shard<'f>, Stop>
+pub fn scan<'f>(alloc: Global, image: &Image<'f>, first: u32, count: u32) -> Result<Shard<'f>, Stop>
     requires { first + count ≤ length image.now.units }
     ensures { GivesFor (StandsFor image.now.sections) result (each (scanned image.now.sections) (take count (drop first (enumerate_from 0 image.now.units)))) }
 {

@@ -66,8 +66,18 @@ impl<'s, 'f> Home<'s, 'f> {
             None => Ok(None),
             Some(Value::Inline(text)) => self.inline(item, text),
             Some(Value::Str(at)) => text(self.sections, base, self.unit.wide, &Value::Str(at)),
-            Some(Value::LineStr(at)) => text(self.sections, base, self.unit.wide, &Value::LineStr(at)),
-            Some(Value::StrIndex(index)) => text(self.sections, base, self.unit.wide, &Value::StrIndex(index)),
+            Some(Value::LineStr(at)) => text(
+                self.sections,
+                base,
+                self.unit.wide,
+                &Value::LineStr(at),
+            ),
+            Some(Value::StrIndex(index)) => text(
+                self.sections,
+                base,
+                self.unit.wide,
+                &Value::StrIndex(index),
+            ),
             Some(_) => Ok(None),
         }
     }

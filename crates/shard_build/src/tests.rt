@@ -1,0 +1,148 @@
+use crate::rows::{NAME_BEFORE_ITS_BASE, PARTIAL_UNIT, THREE_UNITS, TWO_DAMAGED_UNITS};
+use crate::scan;
+use index_model::{Import, Next, Shard, Span};
+use ix_base::code::{BAD_CODE, TRUNCATED};
+use ix_base::{Fault, Stop};
+use std::alloc::Global;
+use std::test::Fail;
+use unit_headers::Image;
+
+// The shard of so many units from the first one on.
+fn scanned<'f>(
+    alloc: Global,
+    image: &Image<'f>,
+    first: u32,
+    count: u32,
+) -> Result<Shard<'f>, Fail> {
+    let fits = image.units().len() as u64 >= u64::from(first) + u64::from(count);
+    if !fits {
+        return Err(Fail::from("fewer units"));
+    }
+    Ok(scan(alloc, image, first, count)?)
+}
+
+fn span(unit: u32, entry: u64, depth: u32, from: u64, to: u64) -> Span {
+    Span {
+        unit,
+        entry,
+        depth,
+        from,
+        to,
+    }
+}
+
+#[test]
+fn spans_stand_for_the_children_of_their_entries(rt: HostRuntime) -> Result<(), Fail> {
+    let image = Image::open(rt.alloc(), &THREE_UNITS)?;
+    let shard = scanned(rt.alloc(), &image, 0, 3)?;
+    let spans = [
+        span(0, 0x0c, 0, 0x13, 0x25),
+        span(1, 0x31, 0, 0x38, 0x3e),
+        span(2, 0x4a, 0, 0x51, 0x5e),
+        span(2, 0x51, 1, 0x55, 0x5d),
+        span(2, 0x55, 2, 0x58, 0x5c),
+    ];
+    assert_eq!(rt; shard.spans.as_slice(), spans.as_slice());
+    let last = scanned(rt.alloc(), &image, 2, 1)?;
+    assert_eq!(rt; last.first, 2);
+    assert_eq!(rt; last.spans.as_slice(), &spans[2..]);
+    Ok(())
+}
+
+#[test]
+fn keeps_a_node_of_each_entry_that_may_be_visited(rt: HostRuntime) -> Result<(), Fail> {
+    let image = Image::open(rt.alloc(), &THREE_UNITS)?;
+    let shard = scanned(rt.alloc(), &image, 0, 3)?;
+    let rows: [(u32, u64, Option<u64>, u64, Option<&[u8]>); 8] = [
+        (0, 0x0c, None, 0x11, Some(b"d.cc")),
+        (0, 0x13, Some(0x0c), 0x2e, None),
+        (1, 0x31, None, 0x11, Some(b"a.cc")),
+        (1, 0x38, Some(0x31), 0x2e, None),
+        (2, 0x4a, None, 0x11, Some(b"n.cc")),
+        (2, 0x51, Some(0x4a), 0x39, Some(b"ns")),
+        (2, 0x55, Some(0x51), 0x02, Some(b"C")),
+        (2, 0x58, Some(0x55), 0x2e, Some(b"f")),
+    ];
+    assert_eq!(rt; shard.nodes.as_slice().len(), rows.len());
+    for (node, row) in shard.nodes.as_slice().iter().zip(&rows) {
+        assert_eq!(rt;
+            (node.unit, node.offset, node.parent, node.tag, node.name),
+            *row
+        );
+    }
+    let method = shard.nodes.as_slice().last().ok_or("no node")?;
+    assert!(rt; method.declaration && method.external && !method.address);
+    Ok(())
+}
+
+// The function's abstract origin stands in the second unit, whose specification stands in the third.
+#[test]
+fn keeps_references_as_they_stand(rt: HostRuntime) -> Result<(), Fail> {
+    let image = Image::open(rt.alloc(), &THREE_UNITS)?;
+    let shard = scanned(rt.alloc(), &image, 0, 3)?;
+    let nodes = shard.nodes.as_slice();
+    let far = |target| Some(Next {
+        target,
+        near: false,
+    });
+    assert_eq!(rt; nodes.get(1).ok_or("no node")?.next, far(0x38));
+    assert_eq!(rt; nodes.get(3).ok_or("no node")?.next, far(0x58));
+    Ok(())
+}
+
+// Unit 2 is cut in its function, and the code of the function of unit 7 isn't known.
+#[test]
+fn the_fault_is_that_of_the_least_unit(rt: HostRuntime) -> Result<(), Fail> {
+    let image = Image::open(rt.alloc(), &TWO_DAMAGED_UNITS)?;
+    let fault = |code, at| Some(Stop::Fault(Fault { code, at }));
+    assert!(rt; image.units().len() == 10);
+    assert_eq!(rt;
+        scan(rt.alloc(), &image, 0, 10).err(),
+        fault(TRUNCATED, 0x60)
+    );
+    assert_eq!(rt; scan(rt.alloc(), &image, 0, 2).err(), None);
+    assert_eq!(rt;
+        scan(rt.alloc(), &image, 3, 7).err(),
+        fault(BAD_CODE, 0x121)
+    );
+    assert_eq!(rt; scan(rt.alloc(), &image, 3, 0).err(), None);
+    Ok(())
+}
+
+#[test]
+fn a_base_counts_before_it_is_read(rt: HostRuntime) -> Result<(), Fail> {
+    let image = Image::open(rt.alloc(), &NAME_BEFORE_ITS_BASE)?;
+    let shard = scanned(rt.alloc(), &image, 0, 1)?;
+    let nodes = shard.nodes.as_slice();
+    assert_eq!(rt;
+        nodes.get(0).ok_or("no node")?.name,
+        Some(b"a.c".as_slice())
+    );
+    assert_eq!(rt;
+        nodes.get(1).ok_or("no node")?.name,
+        Some(b"main".as_slice())
+    );
+    Ok(())
+}
+
+// A partial unit without a language may turn out to be one of Ada, in which the children of a subprogram are visited.
+#[test]
+fn keeps_what_a_partial_unit_may_show(rt: HostRuntime) -> Result<(), Fail> {
+    let image = Image::open(rt.alloc(), &PARTIAL_UNIT)?;
+    let shard = scanned(rt.alloc(), &image, 0, 2)?;
+    let offsets: [u64; 5] = [0x0c, 0x0d, 0x1f, 0x3d, 0x45];
+    assert_eq!(rt; shard.nodes.as_slice().len(), offsets.len());
+    for (node, offset) in shard.nodes.as_slice().iter().zip(&offsets) {
+        assert_eq!(rt; node.offset, *offset);
+    }
+    let roots = shard.roots.as_slice();
+    let partial = roots.get(0).ok_or("no root")?;
+    assert!(rt; partial.partial && partial.language.is_none());
+    assert_eq!(rt; roots.get(1).ok_or("no root")?.language, Some(13));
+    let import = Import {
+        unit: 1,
+        target: 0x0c,
+    };
+    assert_eq!(rt; shard.imports.as_slice(), [import].as_slice());
+    Ok(())
+}
