@@ -1,7 +1,10 @@
-use crate::rows::{NAME_BEFORE_ITS_BASE, PARTIAL_UNIT, THREE_UNITS, TWO_DAMAGED_UNITS};
+use crate::rows::{
+    IMPORT_PAST_THE_SECTION, LANGUAGE_0, NAME_BEFORE_ITS_BASE, PARTIAL_UNIT, THREE_UNITS,
+    TWO_DAMAGED_UNITS,
+};
 use crate::scan;
 use index_model::{Import, Next, Shard, Span};
-use ix_base::code::{BAD_CODE, TRUNCATED};
+use ix_base::code::{TRUNCATED, UNKNOWN_FORM};
 use ix_base::{Fault, Stop};
 use std::alloc::Global;
 use std::test::Fail;
@@ -90,7 +93,7 @@ fn keeps_references_as_they_stand(rt: HostRuntime) -> Result<(), Fail> {
     Ok(())
 }
 
-// Unit 2 is cut in its function, and the code of the function of unit 7 isn't known.
+// Unit 2 is cut in its function, and the function of unit 7 has a form that isn't known.
 #[test]
 fn the_fault_is_that_of_the_least_unit(rt: HostRuntime) -> Result<(), Fail> {
     let image = Image::open(rt.alloc(), &TWO_DAMAGED_UNITS)?;
@@ -103,7 +106,7 @@ fn the_fault_is_that_of_the_least_unit(rt: HostRuntime) -> Result<(), Fail> {
     assert_eq!(rt; scan(rt.alloc(), &image, 0, 2).err(), None);
     assert_eq!(rt;
         scan(rt.alloc(), &image, 3, 7).err(),
-        fault(BAD_CODE, 0x121)
+        fault(UNKNOWN_FORM, 0x121)
     );
     assert_eq!(rt; scan(rt.alloc(), &image, 3, 0).err(), None);
     Ok(())
@@ -144,5 +147,23 @@ fn keeps_what_a_partial_unit_may_show(rt: HostRuntime) -> Result<(), Fail> {
         target: 0x0c,
     };
     assert_eq!(rt; shard.imports.as_slice(), [import].as_slice());
+    Ok(())
+}
+
+#[test]
+fn keeps_no_import_that_names_no_place(rt: HostRuntime) -> Result<(), Fail> {
+    let image = Image::open(rt.alloc(), &IMPORT_PAST_THE_SECTION)?;
+    let shard = scanned(rt.alloc(), &image, 0, 2)?;
+    assert!(rt; shard.imports.as_slice().is_empty());
+    Ok(())
+}
+
+#[test]
+fn a_partial_unit_has_its_own_language(rt: HostRuntime) -> Result<(), Fail> {
+    let image = Image::open(rt.alloc(), &LANGUAGE_0)?;
+    let shard = scanned(rt.alloc(), &image, 0, 2)?;
+    let partial = shard.roots.as_slice().get(0).ok_or("no root")?;
+    assert!(rt; partial.partial);
+    assert_eq!(rt; partial.language, Some(0));
     Ok(())
 }
