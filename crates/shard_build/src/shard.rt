@@ -17,14 +17,16 @@ use unit_headers::Image;
 
 /// The shard of the `count` units from number `first` on, counted over both sections in section order.
 ///
-/// Stops at the first fault of these units: of each unit its abbreviations, at the unit's joint offset, then its entries and
-/// what stands behind them, then the texts of its entries, at the entry's joint offset and name before linkage name. Each
-/// unit's bytes are read once.
+/// Stops at the first fault of these units. Of each unit come first its abbreviations (code 10, at the unit's joint offset),
+/// then its entries in order (DWARF 5, sections 7.5.2 and 7.5.3: codes 11, 12 and 18 to 21, at the entry's joint offset) and
+/// what stands behind them (23), and then the texts of its entries (7.5.5, class string: codes 13, 14 and 24, at the entry's
+/// joint offset, name before linkage name). Each unit's bytes are read once.
 pub fn scan<'f>(alloc: Global, image: &Image<'f>, first: u32, count: u32) -> Result<Shard<'f>, Stop>
     requires { first + count ≤ length image.now.units }
     ensures { GivesFor (StandsFor image.now.sections) result (each (scanned image.now.sections) (take count (drop first (enumerate_from 0 image.now.units)))) }
 {
-    let units = image.units();
+    // There are at most `MAX_UNITS` of them, so their numbers don't wrap.
+    let _units = image.units();
     let end = first + count;
     let section = image.sections().get(b".debug_abbrev");
     let mut run = Run::new(alloc);
