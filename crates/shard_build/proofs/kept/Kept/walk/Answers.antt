@@ -9,12 +9,12 @@ use Rattle.shard_build.proofs.kept.Kept.walk.Goals as goal
 
 pub take-requires-clause-texts : goal.take-requires-clause-texts
 take-requires-clause-texts c =
-    let first = rw c.in-Some.is at c.in_ok-token.ensures in
+    let first = rw c.in-Some.is at c.in_ok-token.ensures.value in
     on_first (HoldsTexts c.args.home.now.bytes.now c.args.home.now.unit) (token_seen c.in-Some.token) c.loop-token.walk c.token.new.self first c.loop-token.invariant.texts
 
 pub loop-token-preserved : goal.loop-token-preserved
 loop-token-preserved c =
-    let first = rw c.in-Some.is at c.in_ok-token.ensures in
+    let first = rw c.in-Some.is at c.in_ok-token.ensures.value in
     let u : ℕ × UnitHeader = (c.args.home.now.number, c.args.home.now.unit) in
     record {
       same = one_more c.args.home.now.sections.now u (kept_seen c.loop-token.self) (kept_seen c.take.new.self) (token_seen c.in-Some.token) c.loop-token.walk c.token.new.self first c.in_default-take.ensures ∙ c.loop-token.invariant.same;
