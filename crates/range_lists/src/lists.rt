@@ -1,0 +1,156 @@
+//! Lists of ranges, in `.debug_ranges` and `.debug_rnglists` (DWARF 5, sections 2.17.3 and 7.25).
+
+ghost use Rattle.std.specs.Prelude.{◌≡◌, ◌+◌, ◌++◌, ◌∷◌, [], filter, codes, OnOk};
+ghost use Rattle.index_model.specs.Gives.{GivesAlways};
+ghost use Rattle.index_model.specs.RangeLists.{list_at, list_of, list_offset, kind_at, pair_at};
+ghost use Rattle.index_model.specs.Ranges.{is_kept, ranges_by};
+ghost use Rattle.index_model.specs.Sections.{section_bytes};
+ghost use Rattle.index_model.specs.Strings.{offset_size};
+ghost use Rattle.range_lists.specs.Gives.{GivesOrRefused};
+ghost use Rattle.range_lists.specs.Homes.{as_value, unit_with};
+ghost use Rattle.range_lists.specs.Lists.{entry_seen, reader_for, kept, behind, capped, as_list, range_in, base_behind};
+
+use crate::home::{Home, cursor_at};
+use crate::list_entry::{Entry, Format};
+use crate::refusal::Refusal;
+use index_model::{Range, Raw};
+use ix_base::code::{BAD_RANGE, NO_BASE};
+use ix_base::{Cursor, NoMemory};
+
+// The range between two offsets from a base. It doesn't count if it begins at 0, begins or ends too high, or has no byte.
+pub(crate) fn range_from(base: u64, low: u64, end: u64) -> Option<Range>
+    ensures { as_list result ≡ filter is_kept (record { low = base + low; end = base + end } ∷ []) }
+{
+    let low = base.checked_add(low)?;
+    let end = base.checked_add(end)?;
+    if low == 0 || low >= u64::MAX - 1 || low >= end {
+        return None;
+    }
+    Some(Range { low, end })
+}
+
+// Adds a range that counts.
+pub(crate) fn add_range(ranges: &mut Vec<Range>, range: Option<Range>) -> Result<(), NoMemory>
+    ensures { OnOk result (ranges.new.items ≡ ranges.old.items ++ as_list range) }
+{
+    match range {
+        Some(range) => Ok(ranges.push(range)?),
+        None => Ok(()),
+    }
+}
+
+// The bytes of an offset (DWARF 5, section 7.4).
+fn offset_size(wide: bool) -> u64
+    ensures { result ≡ offset_size wide }
+{
+    if wide { 8 } else { 4 }
+}
+
+impl Entry {
+    // The range of the entry, if it has one that counts.
+    fn range(&self, base: u64) -> Option<Range>
+        ensures { as_list result ≡ range_in (entry_seen self.now) base }
+    {
+        match *self {
+            Entry::End | Entry::Base(_) => None,
+            Entry::Bounds(low, end) => range_from(0, low, end),
+            Entry::Offsets(low, end) => range_from(base, low, end),
+            Entry::Length(low, bytes) => range_from(low, 0, bytes),
+        }
+    }
+
+    // The base behind the entry. None behind the last.
+    fn base_behind(&self, base: u64) -> Option<u64>
+        ensures { result ≡ base_behind (entry_seen self.now) base }
+    {
+        match *self {
+            Entry::End => None,
+            Entry::Base(address) => Some(address),
+            Entry::Bounds(..) | Entry::Offsets(..) | Entry::Length(..) => Some(base),
+        }
+    }
+}
+
+impl Home<'_> {
+    // Adds the ranges of the list at a place of a section.
+    #[tactic(auto, unfolding(index_model::specs::RangeLists::list_at))]
+    fn add_list_at(
+        &self,
+        ranges: &mut Vec<Range>,
+        format: Format,
+        first_base: u64,
+        bytes: &[u8],
+        place: u64,
+    ) -> Result<(), Refusal>
+        ensures { GivesOrRefused (λ _. ranges.new.items) result (behind ranges.old.items (kept (list_at (reader_for format self.now.sections.now (unit_with self.now)) first_base bytes.now place))) }
+    {
+        if place > bytes.len() as u64 {
+            return Err(Refusal::Code(BAD_RANGE));
+        }
+        let mut cursor = Cursor::new(bytes, place as usize);
+        let mut base = first_base;
+        // There are fewer entries than bytes.
+        'entries: for _ in 0..bytes.len() {
+            let entry = self.read_entry(format, &mut cursor)?;
+            let Some(next) = entry.base_behind(base) else {
+                return Ok(());
+            };
+            add_range(ranges, entry.range(base))?;
+            base = next;
+        }
+        Err(Refusal::Code(BAD_RANGE))
+    }
+
+    // Where the list of an index begins in `.debug_rnglists`. A place that is too high counts as the greatest.
+    fn list_place(&self, index: u64) -> Result<u64, u8>
+        ensures { GivesAlways (λ place. place) result (capped (list_offset self.now.sections.now (unit_with self.now) index)) }
+    {
+        let base = self.rnglists_base.ok_or(NO_BASE)?;
+        let size = offset_size(self.header.wide);
+        let at = base.saturating_add(index.saturating_mul(size));
+        let offset = cursor_at(self.sections.get(b".debug_rnglists"), at)
+            .offset(self.header.wide)
+            .ok_or(BAD_RANGE)?;
+        Ok(base.saturating_add(offset))
+    }
+
+    // Adds the ranges of a list.
+    #[tactic(auto, unfolding(index_model::specs::RangeLists::list_of))]
+    fn add_list_from(
+        &self,
+        ranges: &mut Vec<Range>,
+        first_base: u64,
+        list: Raw,
+    ) -> Result<(), Refusal>
+        ensures { GivesOrRefused (λ _. ranges.new.items) result (behind ranges.old.items (kept (list_of self.now.sections.now (unit_with self.now) first_base (as_value list)))) }
+    {
+        match list {
+            Raw::RangeIndex(index) => {
+                let place = self.list_place(index)?;
+                let lists = self.sections.get(b".debug_rnglists");
+                self.add_list_at(ranges, Format::Kinds, first_base, lists, place)
+            }
+            Raw::Offset(place) => {
+                if self.header.version == 5 {
+                    let lists = self.sections.get(b".debug_rnglists");
+                    self.add_list_at(ranges, Format::Kinds, first_base, lists, place)
+                } else {
+                    let lists = self.sections.get(b".debug_ranges");
+                    self.add_list_at(ranges, Format::Pairs, first_base, lists, place)
+                }
+            }
+            Raw::Address(_) | Raw::AddressIndex(_) | Raw::Constant(_) => {
+                Err(Refusal::Code(BAD_RANGE))
+            }
+        }
+    }
+
+    /// Adds the ranges of a list, which counts from the low_pc of the root at first. Those that don't count are left out.
+    #[tactic(auto, unfolding(index_model::specs::Ranges::ranges_by))]
+    pub(crate) fn add_list(&self, ranges: &mut Vec<Range>, list: Raw) -> Result<(), Refusal>
+        ensures { GivesOrRefused (λ _. ranges.new.items) result (behind ranges.old.items (kept (ranges_by self.now.sections.now (unit_with self.now) (Some (as_value list)) None None))) }
+    {
+        let first_base = self.first_base()?;
+        self.add_list_from(ranges, first_base, list)
+    }
+}
