@@ -1,3 +1,4 @@
 pub mod Homes
 pub mod Lists
 pub mod Gives
+pub mod Nodes

@@ -34,7 +34,7 @@ as_list None = []
 as_list (Some r) = r ∷ []
 
 -- these ranges, and those of the meaning
-abbrev pub behind : List Range → Result (List Range) ℕ → Result (List Range) ℕ
+abbrev pub behind : {E : Type 0} → List Range → Result (List Range) E → Result (List Range) E
 behind front ranges = ranges >>= λ rs. Ok (front ++ rs)
 
 -- the range of an entry, if it has one that counts

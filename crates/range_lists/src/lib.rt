@@ -9,4 +9,10 @@
 mod home;
 mod list_entry;
 mod lists;
+mod node;
 mod refusal;
+mod run;
+mod unit;
+
+pub use index_model::Range;
+pub use unit::unit_ranges;

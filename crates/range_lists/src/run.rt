@@ -1,0 +1,45 @@
+//! What a shard keeps of one unit, and which entries are linked.
+
+ghost use Rattle.std.specs.Prelude.{◌≡◌, ◌==◌, filter, is_some, position};
+ghost use Rattle.std.specs.Arc.{arc_value};
+ghost use Rattle.std.specs.List.Sorted.{IsNonDecreasingBy};
+ghost use Rattle.index_model.specs.ShardLanguages.{root_in};
+ghost use Rattle.range_lists.specs.Nodes.{is_linked, EntriesRise};
+
+use index_model::{LinkedEntry, Node, Root, Shard};
+use std::sync::Arc;
+
+/// The index of the shard whose run has the unit.
+pub(crate) fn run_of(shards: &[Arc<Shard<'_>>], unit: u32) -> Option<usize>
+    ensures { result ≡ position (λ s. is_some (root_in unit (arc_value s))) shards.now }
+{
+    shards
+        .iter()
+        .position(|shard| root_in(shard, unit).is_some())
+}
+
+/// The root of a unit, if the unit is one of the shard's run. The number of a shard without units says nothing.
+pub(crate) fn root_in(shard: &Shard<'_>, unit: u32) -> Option<Root>
+    ensures { result ≡ root_in unit shard.now }
+{
+    let place = unit.checked_sub(shard.first)?;
+    shard.roots.as_slice().get(place as usize).copied()
+}
+
+/// The nodes of a unit, among nodes in the order of their units.
+pub(crate) fn nodes_of<'a, 'f>(nodes: &'a [Node<'f>], unit: u32) -> &'a [Node<'f>]
+    ensures { IsNonDecreasingBy (λ n. n.unit) nodes.now → result.now ≡ filter (λ n. n.unit == unit) nodes.now }
+{
+    let from = &nodes[nodes.partition_point(|node| node.unit < unit)..];
+    &from[..from.partition_point(|node| node.unit <= unit)]
+}
+
+/// Whether the entry at the offset is one of these, whose offsets rise.
+pub(crate) fn is_linked(entries: &[LinkedEntry<'_>], offset: u64) -> bool
+    ensures { EntriesRise entries.now → result ≡ is_linked entries.now offset }
+{
+    let place = entries.partition_point(|entry| entry.offset < offset);
+    entries
+        .get(place)
+        .is_some_and(|entry| entry.offset == offset)
+}
