@@ -1,3 +1,4 @@
 pub mod Roots
 pub mod Reading
 pub mod Refusals
+pub mod Searching

@@ -1,6 +1,6 @@
 //! What a shard keeps of one unit, and which entries are linked.
 
-ghost use Rattle.std.specs.Prelude.{◌≡◌, ◌==◌, filter, is_some, position};
+ghost use Rattle.std.specs.Prelude.{◌≡◌, ◌==◌, filter, is_some, option_map, position, slice_get};
 ghost use Rattle.std.specs.Arc.{arc_value};
 ghost use Rattle.std.specs.List.Sorted.{IsNonDecreasingBy};
 ghost use Rattle.index_model.specs.ShardLanguages.{root_in};
@@ -39,7 +39,15 @@ pub(crate) fn is_linked(entries: &[LinkedEntry<'_>], offset: u64) -> bool
     ensures { EntriesRise entries.now → result ≡ is_linked entries.now offset }
 {
     let place = entries.partition_point(|entry| entry.offset < offset);
-    entries
-        .get(place)
-        .is_some_and(|entry| entry.offset == offset)
+    match offset_at(entries, place) {
+        Some(found) => found == offset,
+        None => false,
+    }
+}
+
+// The offset of the entry at a place.
+fn offset_at(entries: &[LinkedEntry<'_>], place: usize) -> Option<u64>
+    ensures { result ≡ option_map (λ e. e.offset) (slice_get entries.now place) }
+{
+    Some(entries.get(place)?.offset)
 }
