@@ -15,4 +15,4 @@ mod run;
 mod unit;
 
 pub use index_model::Range;
-
+pub use unit::unit_ranges;

@@ -1,6 +1,6 @@
 //! What a shard keeps of one unit, and which entries are linked.
 
-ghost use Rattle.std.specs.Prelude.{◌≡◌, ◌==◌, filter, is_some, option_map, position, slice_get};
+ghost use Rattle.std.specs.Prelude.{◌≡◌, ◌==◌, ◌<◌, filter, length, IfSome, is_some, option_map, position, slice_get};
 ghost use Rattle.std.specs.Arc.{arc_value};
 ghost use Rattle.std.specs.List.Sorted.{IsNonDecreasingBy};
 ghost use Rattle.index_model.specs.ShardLanguages.{root_in};
@@ -11,7 +11,8 @@ use std::sync::Arc;
 
 /// The index of the shard whose run has the unit.
 pub(crate) fn run_of(shards: &[Arc<Shard<'_>>], unit: u32) -> Option<usize>
-    ensures { result ≡ position (λ s. is_some (root_in unit (arc_value s))) shards.now }
+    ensures value { result ≡ position (λ s. is_some (root_in unit (arc_value s))) shards.now }
+    ensures within { IfSome result (λ k. k < length shards.now) }
 {
     shards
         .iter()
