@@ -4,3 +4,8 @@ pub mod Refusals
 pub mod Searching
 pub mod Walking
 pub mod Alike
+pub mod Filters
+pub mod Located
+pub mod Followed
+pub mod NodeItems
+pub mod LinkedLaws

@@ -3,6 +3,7 @@
 ghost use Rattle.std.specs.Prelude.{◌≡◌, filter, map, slice_get};
 ghost use Rattle.std.specs.Arc.{arc_value};
 ghost use Rattle.index_model.specs.Gives.{Gives};
+ghost use Rattle.unit_headers.specs.Images.{image_of};
 ghost use Rattle.range_lists.specs.Homes.{unit_with};
 ghost use Rattle.range_lists.specs.Lists.{behind};
 ghost use Rattle.range_lists.specs.Units.{first_low, ForUnit, ForWalk};
@@ -39,7 +40,8 @@ fn first_low(nodes: &[Node<'_>]) -> Option<Raw>
 
 // The header of a unit.
 fn header_of(image: &Image<'_>, unit: u32) -> Option<Unit>
-    ensures { result ≡ slice_get image.now.units unit }
+    ensures value { result ≡ slice_get image.now.units unit }
+    ensures of_file { image_of image.now.file ≡ Ok image.now }
 {
     image.units().get(unit as usize).copied()
 }
@@ -88,7 +90,8 @@ fn ranges_in_run(
     linked: &Linked<'_>,
     unit: u32,
 ) -> Result<Vec<Range>, Stop>
-    ensures { ForWalk image.now shard.now linked.now unit (λ ranges. Gives (λ v. v.items) result ranges) }
+    ensures ranges { ForWalk image.now shard.now linked.now unit (λ ranges. Gives (λ v. v.items) result ranges) }
+    ensures of_file { image_of image.now.file ≡ Ok image.now }
 {
     let (Some(header), Some(root)) = (header_of(image, unit), root_in(shard, unit)) else {
         return Ok(Vec::new(alloc));
