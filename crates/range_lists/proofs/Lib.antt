@@ -9,3 +9,5 @@ pub mod Located
 pub mod Followed
 pub mod NodeItems
 pub mod LinkedLaws
+pub mod Runs
+pub mod UnitRanges
