@@ -59,6 +59,15 @@ none_first {B = B} f (x ∷ xs) none =
     empty (Some y) e = absurd (true≢false e)
     empty None e = refl
 
+pub slice_map : {A B : Type 0} (f : A → B) (xs : List A) (k : ℕ) (d : A) → k < length xs → slice_get (map f xs) k ≡ Some (f (get_or xs k d))
+slice_map f [] k d lt = absurd (omega arith)
+slice_map f (x ∷ xs) zero d lt = refl
+slice_map f (x ∷ xs) (suc k) d lt = slice_map f xs k d (omega (arith, lt))
+
+pub map_length : {A B : Type 0} (f : A → B) (xs : List A) → length (map f xs) ≡ length xs
+map_length f [] = refl
+map_length f (x ∷ xs) = omega (arith, map_length f xs)
+
 -- ---- the run of a shard
 
 -- the run for which a shard stands, and whose links these are

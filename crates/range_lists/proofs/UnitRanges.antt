@@ -1,6 +1,6 @@
 -- The ranges of a unit, by the shard and the links of its run.
 use Rattle.std.proofs.Common.{◌≡◌, ℕ, ◌+◌, ◌-◌, ◌<◌, Bool, true, false, cond, eqb, ◌&&◌, ◌||◌, List, [], ◌∷◌, ◌++◌, length, map, filter, flat_map, Option, Some, None, Result, Ok, refl, sym, ap, subst, ◌∙◌, arith, inl, inr, ⊎_elim}
-use Rattle.std.specs.Prelude.{Contains, find, is_some, option_and_then}
+use Rattle.std.specs.Prelude.{Contains, find, slice_get, is_some, option_and_then}
 use Rattle.std.specs.Option.{option_map}
 use Rattle.std.specs.List.{AllZip}
 use mathlib.Core.Logic.{◌⊎◌}
@@ -18,6 +18,10 @@ use Rattle.index_model.specs.declared.shard.Raw.{Raw}
 use Rattle.index_model.specs.declared.shard.Shard.{Shard}
 use Rattle.index_model.specs.Meaning.{◌>>=◌, each}
 use Rattle.index_model.specs.Sections.{Section}
+use Rattle.index_model.specs.Units.{units_of}
+use Rattle.index_model.specs.declared.unit.Unit.{Unit as UnitHeader}
+use Rattle.unit_headers.specs.Images.{Image, image_of}
+use Rattle.unit_headers.proofs.Images.{Parts, parts_of}
 use Rattle.index_model.specs.Forms.{Value, Addr, AddrIndex}
 use Rattle.index_model.specs.Tags.{subprogram}
 use Rattle.index_model.specs.Attributes.{attribute, as_address, low_pc}
@@ -27,25 +31,26 @@ use Rattle.index_model.specs.Links.{Link, is_link_indexed, indexed_in}
 use Rattle.index_model.specs.Ranges.{entry_ranges, entries_with_ranges, has_ranges, subprograms_in, ranges_of}
 use Rattle.index_model.specs.Faults.{program_of, links_of}
 use Rattle.index_model.specs.Rules.{is_visited}
-use Rattle.index_model.specs.ShardParts.{IsNodeOf, is_kept, kept_in, may_be_ada}
-use Rattle.index_model.specs.Shards.{StandsFor, IsRunOf}
-use Rattle.index_model.specs.ShardLanguages.{NodesRise}
-use Rattle.index_model.proofs.Meanings.{contains_cases}
+use Rattle.index_model.specs.ShardParts.{IsNodeOf, is_kept, kept_in, may_be_ada, root_facts}
+use Rattle.index_model.specs.Shards.{StandsFor, IsRunOf, AreShardsOf}
+use Rattle.index_model.specs.ShardLanguages.{first_some, root_in, NodesRise}
+use Rattle.index_model.proofs.Meanings.{same_ok, contains_cases}
 use Rattle.index_model.proofs.TokenReads.{Follow, start}
 use Rattle.index_model.proofs.OrderLaws.{entries, walk_tokens}
 use Rattle.index_model.proofs.Pairs.{Pairs, On, of_filter, pairs_filter, pairs_of_map}
-use Rattle.index_model.proofs.ShardRoots.{Numbered, program_numbered, joined}
+use Rattle.index_model.proofs.ShardRoots.{Numbered, program_numbered, find_number, roots_are, joined}
+use Rattle.index_model.proofs.Scans.{program_parts}
 use Rattle.index_model.proofs.ShardNodes.{all_rise}
 use Rattle.index_model.proofs.UnitsApart.{program_apart, run_apart}
 use Rattle.range_lists.specs.Homes.{as_value}
 use Rattle.range_lists.specs.Nodes.{node_ranges, all_node_ranges, has_node_ranges, is_linked, is_linked_subprogram, nodes_with_ranges, EntriesRise}
-use Rattle.range_lists.specs.Units.{IsLinkedRun, unit_nodes, first_low}
+use Rattle.range_lists.specs.Units.{IsLinkedRun, AreLinkedOf, Keeps, unit_nodes, first_low}
 use Rattle.range_lists.proofs.Filters.{filter_within, filter_both, zip_filter, each_zip, each_map}
 use Rattle.range_lists.proofs.Located.{Before, located_before, of_located, at_home, at_number, home_only}
 use Rattle.range_lists.proofs.Followed.{is_followed, all_followed, followed_kept}
 use Rattle.range_lists.proofs.NodeItems.{node_place, node_unit, node_tag, node_low, node_has, node_is_entry}
 use Rattle.range_lists.proofs.LinkedLaws.{own, entries_pairs, pairs_rise, listed_followed, subprograms_are}
-use Rattle.range_lists.proofs.Runs.{Chosen}
+use Rattle.range_lists.proofs.Runs.{Chosen, chosen_at, member_of, scan_unit}
 
 -- ---- a root comes first
 
@@ -225,3 +230,51 @@ module _ (f : List ℕ) (p : Program) (ks : List Link) (file : program_of f ≡ 
       (λ (none : items_of w ≡ []). without_root none)
       (λ (some : (root : Item) × (rest : List Item) × (items_of w ≡ root ∷ rest) × (root.depth ≡ 0)). with_root some.0 some.1 some.2 some.3)
       (heads t.0 w.walk.tokens t.1)
+
+-- ---- all shards
+
+-- the shards have the root of a unit
+pub root_there : (f : List ℕ) (p : Program) → program_of f ≡ Ok p → (shards : List Shard) (h : AreShardsOf p shards) (w : Walked) → Contains p.walks w → (unit : ℕ) → w.number ≡ unit → first_some (root_in unit) shards ≡ Some (root_facts w)
+root_there f p file shards h w wc unit number =
+    let numbered : Numbered 0 (joined h.runs) = subst (Numbered 0) (sym h.all) (program_numbered f p file) in
+    let member : Contains (joined h.runs) w = subst (λ (ws : List Walked). Contains ws w) (sym h.all) wc in
+    ap (λ (u : ℕ). first_some (root_in u) shards) (sym number) ∙
+    roots_are p.sections shards h.runs w.number 0 h.stand numbered ∙ ap (option_map root_facts) (find_number 0 (joined h.runs) w numbered member)
+
+-- what the shard and the links at a place keep of a unit, and its ranges
+abbrev Found : Image → Program → List Link → Shard → Linked → Walked → ℕ → Type 0
+Found image p ks s l w unit = Keeps image s l unit w × (ranges_of p ks w ≡ all_node_ranges image.sections w (nodes_with_ranges l.entries (unit_nodes unit s.nodes)))
+
+module _ (image : Image) (of_file : image_of image.file ≡ Ok image) (p : Program) (ks : List Link) (file : program_of image.file ≡ Ok p) (links : links_of p ≡ Ok ks) where
+  parts : Parts image.file image
+  parts = parts_of image.file image of_file
+
+  same_sections : p.sections ≡ image.sections
+  same_sections = same_ok p.sections image.sections (sym (program_parts image.file p file).1 ∙ parts.sections)
+
+  header : (w : Walked) → Contains p.walks w → slice_get image.units w.number ≡ Some w.unit
+  header w wc =
+      let a = program_parts image.file p file in
+      let us : a.0 ≡ image.units = same_ok a.0 image.units (sym a.2 ∙ ap units_of same_sections ∙ parts.units) in
+      let from : w.number ≡ w.number - 0 = omega arith in
+      ap (λ (xs : List UnitHeader). slice_get xs w.number) (sym us) ∙ ap (slice_get a.0) from ∙ (scan_unit p.sections 0 a.0 p.walks a.3 w wc).1
+
+  found : (s : Shard) (l : Linked) (c : Chosen p p.walks s l) (w : Walked) → Contains p.walks w → is_some (root_in w.number s) ≡ true → Found image p ks s l w w.number
+  found s l c w wc on =
+      let m = member_of p p.walks 0 (program_numbered image.file p file) w wc s l c on in
+      let r = right image.file p ks file links s l c w m.0 in
+      let keeps : Keeps image s l w.number w = record {
+        header = header w wc;
+        root = m.1;
+        low = r.0;
+        nodes = nodes_rise image.file p ks file links s l c w m.0;
+        entries = entries_rise image.file p ks file links s l c w m.0;
+      } in
+      (keeps, r.1 ∙ ap (λ (secs : List Section). all_node_ranges secs w (nodes_with_ranges l.entries (unit_nodes w.number s.nodes))) same_sections)
+
+  pub found_at : (shards : List Shard) (linked : List Linked) (h : AreShardsOf p shards) → AreLinkedOf p shards h linked → (w : Walked) → Contains p.walks w → (unit : ℕ) → w.number ≡ unit →
+      (k : ℕ) (s : Shard) (l : Linked) → slice_get shards k ≡ Some s → slice_get linked k ≡ Some l → is_some (root_in unit s) ≡ true → Found image p ks s l w unit
+  found_at shards linked h own w wc unit number k s l is its on =
+      let numbered : Numbered 0 (joined h.runs) = subst (Numbered 0) (sym h.all) (program_numbered image.file p file) in
+      let c : Chosen p p.walks s l = subst (λ (ws : List Walked). Chosen p ws s l) h.all (chosen_at p shards linked h.runs 0 h.stand own numbered k s l is its) in
+      subst (Found image p ks s l w) number (found s l c w wc (ap (λ (u : ℕ). is_some (root_in u s)) number ∙ on))
