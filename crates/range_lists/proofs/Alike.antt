@@ -135,8 +135,8 @@ pub moved : (Holds : Result (List Range) Fault → Type 0) (ss secs : List Secti
     Holds (all_node_ranges ss (unit_with h) (nodes_with_ranges entries nodes)) → Holds (all_node_ranges secs w (nodes_with_ranges links others))
 moved Holds ss secs h w nodes others entries links sections alike ns es holds =
     subst Holds (
-      all_same ss (unit_with h) w alike (nodes_with_ranges entries nodes) ∙
-      ap (λ (s : List Section). all_node_ranges s w (nodes_with_ranges entries nodes)) sections ∙
-      ap (λ (xs : List Node). all_node_ranges secs w (nodes_with_ranges entries xs)) ns ∙
-      ap (λ (xs : List LinkedEntry). all_node_ranges secs w (nodes_with_ranges xs others)) es
+    all_same ss (unit_with h) w alike (nodes_with_ranges entries nodes) ∙
+    ap (λ (s : List Section). all_node_ranges s w (nodes_with_ranges entries nodes)) sections ∙
+    ap (λ (xs : List Node). all_node_ranges secs w (nodes_with_ranges entries xs)) ns ∙
+    ap (λ (xs : List LinkedEntry). all_node_ranges secs w (nodes_with_ranges xs others)) es
     ) holds

@@ -75,8 +75,8 @@ nodes_between unit nodes n m within below above up high le =
     let from = take (length nodes - n) (drop n nodes) in
     let rest = rest_of nodes n in
     let low : (k : ℕ) (d : Node) → k < length from → unit ≤ (get_or from k d).unit = λ k d lt.
-        let at = ap (λ (xs : List Node). (get_or xs k d).unit) rest ∙ ap (λ (x : Node). x.unit) (get_or-drop n nodes k d) in
-        let long = ap (λ (xs : List Node). length xs) rest in
-        let there = above (n + k) d (omega arith) (omega (arith, lt, long, length-drop n nodes, within)) in
-        omega (arith, at, there) in
+    let at = ap (λ (xs : List Node). (get_or xs k d).unit) rest ∙ ap (λ (x : Node). x.unit) (get_or-drop n nodes k d) in
+    let long = ap (λ (xs : List Node). length xs) rest in
+    let there = above (n + k) d (omega arith) (omega (arith, lt, long, length-drop n nodes, within)) in
+    omega (arith, at, there) in
     front_of unit from m low up high le ∙ ap (filter (of_unit unit)) rest ∙ sym (behind_lower unit nodes n below)

@@ -152,7 +152,7 @@ module _ (f : List ℕ) (p : Program) (ks : List Link) (file : program_of f ≡ 
   subprograms_zip : AllZip (IsNodeOf ss) (filter (is_linked_subprogram es) nodes) (filter is_counted (located w))
   subprograms_zip =
       let z = zip_filter (IsNodeOf ss) (is_linked_subprogram es) is_counted (λ n d h.
-          ap (λ (k : ℕ). eqb k subprogram && is_linked es n.offset) (node_tag d n h.facts) ∙ ap (λ (k : ℕ). eqb d.item.tag subprogram && is_linked es k) (node_place d n h.facts)) nodes kept_items nodes_zip in
+      ap (λ (k : ℕ). eqb k subprogram && is_linked es n.offset) (node_tag d n h.facts) ∙ ap (λ (k : ℕ). eqb d.item.tag subprogram && is_linked es k) (node_place d n h.facts)) nodes kept_items nodes_zip in
       let one = filter_within is_kept_here is_counted (located w) (λ d dc on. listed_kept d dc (and_parts (eqb d.item.tag subprogram) (is_linked es d.item.at) on).1) in
       subst (AllZip (IsNodeOf ss) (filter (is_linked_subprogram es) nodes)) one z
 
@@ -164,7 +164,7 @@ module _ (f : List ℕ) (p : Program) (ks : List Link) (file : program_of f ≡ 
   subprograms_same =
       let item : Located → Item = λ d. d.item in
       let chosen : subprograms_in ks w ≡ map item (filter is_counted (located w)) =
-          subprograms_are p ks links c.run r (program_apart f p file).apart before c.own.links c.own.given es c.own.is w wc ∙ ap (map item) (home_only is_counted w 0 p.walks (program_numbered f p file) in_program) in
+      subprograms_are p ks links c.run r (program_apart f p file).apart before c.own.links c.own.given es c.own.is w wc ∙ ap (map item) (home_only is_counted w 0 p.walks (program_numbered f p file) in_program) in
       ap (each (entry_ranges ss w)) chosen ∙
       each_map item (entry_ranges ss w) (filter is_counted (located w)) ∙
       sym (each_zip (IsNodeOf ss) (node_ranges ss w) (λ d. entry_ranges ss w d.item) (filter (is_linked_subprogram es) nodes) (filter is_counted (located w)) (λ n d dc h. node_entry n d (of_located w d (of_filter is_counted (located w) d dc).0).0 h) subprograms_zip)
@@ -212,7 +212,7 @@ module _ (f : List ℕ) (p : Program) (ks : List Link) (file : program_of f ≡ 
       let others = filter is_kept_here (map (at_home w) rest) in
       let root_kept : is_kept_here (at_home w root) ≡ true = ap (λ (b : Bool). b || is_visited (may_be_ada w) (items_of w) root) (eq-eqb root.depth 0 top) in
       let kept_some : kept_items ≡ at_home w root ∷ others =
-          ap (λ (ds : List Item). filter is_kept_here (map (at_home w) ds)) is ∙ ap (λ (b : Bool). cond b (at_home w root ∷ others) others) root_kept in
+      ap (λ (ds : List Item). filter is_kept_here (map (at_home w) ds)) is ∙ ap (λ (b : Bool). cond b (at_home w root ∷ others) others) root_kept in
       let z = zip_some (IsNodeOf ss) nodes (at_home w root) others (subst (AllZip (IsNodeOf ss) nodes) kept_some nodes_zip) in
       let n = z.head in
       let facts = z.first.facts in

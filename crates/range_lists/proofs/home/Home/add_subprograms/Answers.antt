@@ -17,13 +17,13 @@ loop-node-preserved c rise =
     let i = c.loop-node.node-index in
     elim c.if-is_linked_subprogram.branch [
       | then-is_linked_subprogram+in_ok-add_node b ↦
-        ap (λ r. behind r.items (all_node_ranges ss w (filter test (drop (i + 1) nodes)))) b.ranges-is ∙
-        sym (added ss w test nodes i _ c.loop-node-test.true c.loop-node.ranges.items b.add_node.new.ranges.items (sym (c.is_linked_subprogram.ensures rise) ∙ b.if-is_linked_subprogram.true) b.in_ok-add_node.ensures) ∙
-        c.loop-node.invariant rise
+          ap (λ r. behind r.items (all_node_ranges ss w (filter test (drop (i + 1) nodes)))) b.ranges-is ∙
+          sym (added ss w test nodes i _ c.loop-node-test.true c.loop-node.ranges.items b.add_node.new.ranges.items (sym (c.is_linked_subprogram.ensures rise) ∙ b.if-is_linked_subprogram.true) b.in_ok-add_node.ensures) ∙
+          c.loop-node.invariant rise
       | else-is_linked_subprogram b ↦
-        ap (λ r. behind r.items (all_node_ranges ss w (filter test (drop (i + 1) nodes)))) b.ranges-is ∙
-        ap (λ ns. behind c.loop-node.ranges.items (all_node_ranges ss w ns)) (sym (skipped ss w test nodes i _ c.loop-node-test.true (sym (c.is_linked_subprogram.ensures rise) ∙ b.if-is_linked_subprogram.false))) ∙
-        c.loop-node.invariant rise
+          ap (λ r. behind r.items (all_node_ranges ss w (filter test (drop (i + 1) nodes)))) b.ranges-is ∙
+          ap (λ ns. behind c.loop-node.ranges.items (all_node_ranges ss w ns)) (sym (skipped ss w test nodes i _ c.loop-node-test.true (sym (c.is_linked_subprogram.ensures rise) ∙ b.if-is_linked_subprogram.false))) ∙
+          c.loop-node.invariant rise
     ]
 
 pub returns-in_err-add_node : goal.returns-in_err-add_node
