@@ -14,6 +14,7 @@ import subprocess
 import sys
 
 import gen_vectors
+import root_facts
 
 CRATES = gen_vectors.CRATES
 WRITTEN = '// Written by tools/gen_tables.py; not to be changed by hand.'
@@ -221,11 +222,63 @@ def walk_tables():
     return '\n'.join(made)
 
 
+# ---- ranges
+
+def some(sort, number):
+    return 'None' if number is None or number < 0 else 'Some(%s)' % (sort % number)
+
+
+def raw(facts, attribute, sorts):
+    sort, number = facts.get(attribute) or (None, None)
+    return some('Raw::%s(%%#x)' % sort, number) if sort in sorts else 'None'
+
+
+def range_case(row):
+    """The root of the row's file, and the sections that its ranges are read from."""
+    have = sections(row_file(row))
+    version, facts = root_facts.root_facts(have)
+    bases = [some('%#x', (facts.get(base) or (0, None))[1]) for base in (root_facts.ADDR_BASE, root_facts.RNGLISTS_BASE)]
+    ranges = dict(facts)
+    if version <= 3 and facts.get(root_facts.RANGES, ('', 0))[0] == 'Constant':
+        ranges[root_facts.RANGES] = ('Offset', facts[root_facts.RANGES][1])
+    values = [
+        raw(facts, root_facts.LOW_PC, ['Address', 'AddressIndex']),
+        raw(facts, root_facts.HIGH_PC, ['Address', 'AddressIndex', 'Constant']),
+        raw(ranges, root_facts.RANGES, ['Offset', 'RangeIndex'] if version == 5 else ['Offset'])]
+    lists = [literal(have.get(name, b'')) for name in ('.debug_addr', '.debug_ranges', '.debug_rnglists')]
+    return [str(version), '[%s]' % ', '.join(bases), '[%s]' % ', '.join(values), '[%s]' % ', '.join(lists)]
+
+
+def range_tables():
+    answers, faults = {}, []
+    for row in rows_of('address_index_faults', 'range_list_faults', 'range_lists', 'old_range_lists', 'low_and_high_addresses'):
+        # the ranges are those of one root
+        if 'subprogram' in row or not row.startswith('address_'):
+            continue
+        case, found = range_case(row), refusal(row)
+        if found:
+            faults.append([quoted(row)] + case + [str(found[0])])
+            continue
+        asked = gen_vectors.read(os.path.join(gen_vectors.ROWS, row, 'args')).decode().split()[-1]
+        inside = gen_vectors.read(os.path.join(gen_vectors.ROWS, row, 'stdout')).decode() != 'none\n'
+        answers.setdefault(tuple(case), [row]).append('(0x%x, %s)' % (int(asked, 16), str(inside).lower()))
+    kind = '(&str, u16, [Option<u64>; 2], [Option<Raw>; 3], [&[u8]; 3], %s)'
+    whole = gen_vectors.read(row_file('address_subprograms_where_the_root_has_none'))
+    return '\n'.join([
+        'use index_model::Raw;\n',
+        '// A unit with one subprogram, whose root has no ranges.\npub(crate) const WHOLE: [u8; %d] = *%s;\n' % (len(whole), wrapped(whole, 4)),
+        table('ANSWERS', 'A root: the version of its unit, addr_base and rnglists_base, and then low_pc, high_pc and ranges. `.debug_addr`,\n'
+              '// `.debug_ranges` and `.debug_rnglists`, and of some addresses whether they are the unit\'s.',
+              kind % '&[(u64, bool)]', [[quoted(found[0])] + list(case) + ['&[%s]' % ', '.join(found[1:])] for case, found in answers.items()]),
+        table('FAULTS', 'The same, of a unit whose ranges can\'t be read, and the code of the fault.', kind % 'u8', faults)])
+
+
 FILES = {
     'elf_sections/src/tests/rows.rt': elf_tables,
     'unit_headers/src/tests/rows.rt': header_tables,
     'abbrev_table/src/tests/rows.rt': abbreviation_tables,
     'entry_scan/src/walk/tests/rows.rt': walk_tables,
+    'range_lists/src/tests/rows.rt': range_tables,
 }
 
 

@@ -12,6 +12,8 @@ mod lists;
 mod node;
 mod refusal;
 mod run;
+#[cfg(test)]
+mod tests;
 mod unit;
 
 pub use index_model::Range;

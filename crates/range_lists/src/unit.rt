@@ -65,7 +65,7 @@ impl Home<'_> {
     }
 
     // The ranges of the root, or else those of the linked subprograms. The nodes are those of the unit.
-    fn ranges_of_nodes(
+    pub(crate) fn ranges_of_nodes(
         &self,
         alloc: Global,
         nodes: &[Node<'_>],
