@@ -249,7 +249,8 @@ def range_case(row):
     return [str(version), '[%s]' % ', '.join(bases), '[%s]' % ', '.join(values), '[%s]' % ', '.join(lists)]
 
 
-def range_tables():
+def range_rows():
+    """The cases of roots whose ranges can be read, and those of roots whose ranges can't."""
     answers, faults = {}, []
     for row in rows_of('address_index_faults', 'range_list_faults', 'range_lists', 'old_range_lists', 'low_and_high_addresses'):
         # the ranges are those of one root
@@ -262,15 +263,25 @@ def range_tables():
         asked = gen_vectors.read(os.path.join(gen_vectors.ROWS, row, 'args')).decode().split()[-1]
         inside = gen_vectors.read(os.path.join(gen_vectors.ROWS, row, 'stdout')).decode() != 'none\n'
         answers.setdefault(tuple(case), [row]).append('(0x%x, %s)' % (int(asked, 16), str(inside).lower()))
-    kind = '(&str, u16, [Option<u64>; 2], [Option<Raw>; 3], [&[u8]; 3], %s)'
+    return [[quoted(found[0])] + list(case) + ['&[%s]' % ', '.join(found[1:])] for case, found in answers.items()], faults
+
+
+RANGE_KIND = '(&str, u16, [Option<u64>; 2], [Option<Raw>; 3], [&[u8]; 3], %s)'
+
+
+def range_tables():
     whole = gen_vectors.read(row_file('address_subprograms_where_the_root_has_none'))
     return '\n'.join([
         'use index_model::Raw;\n',
         '// A unit with one subprogram, whose root has no ranges.\npub(crate) const WHOLE: [u8; %d] = *%s;\n' % (len(whole), wrapped(whole, 4)),
         table('ANSWERS', 'A root: the version of its unit, addr_base and rnglists_base, and then low_pc, high_pc and ranges. `.debug_addr`,\n'
               '// `.debug_ranges` and `.debug_rnglists`, and of some addresses whether they are the unit\'s.',
-              kind % '&[(u64, bool)]', [[quoted(found[0])] + list(case) + ['&[%s]' % ', '.join(found[1:])] for case, found in answers.items()]),
-        table('FAULTS', 'The same, of a unit whose ranges can\'t be read, and the code of the fault.', kind % 'u8', faults)])
+              RANGE_KIND % '&[(u64, bool)]', range_rows()[0])])
+
+
+def range_fault_tables():
+    doc = 'A root as in `rows`, of a unit whose ranges can\'t be read, and the code of the fault.'
+    return '\n'.join(['use index_model::Raw;\n', table('FAULTS', doc, RANGE_KIND % 'u8', range_rows()[1])])
 
 
 FILES = {
@@ -279,6 +290,7 @@ FILES = {
     'abbrev_table/src/tests/rows.rt': abbreviation_tables,
     'entry_scan/src/walk/tests/rows.rt': walk_tables,
     'range_lists/src/tests/rows.rt': range_tables,
+    'range_lists/src/tests/fault_rows.rt': range_fault_tables,
 }
 
 

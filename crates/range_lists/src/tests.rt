@@ -1,13 +1,15 @@
 //! Tables of worked files, whose sections are packed anew.
 
+mod fault_rows;
 mod rows;
 
 use crate::home::Home;
 use crate::unit_ranges;
 use elf_sections::Sections;
+use fault_rows::FAULTS;
 use index_model::{Linked, LinkedEntry, List, Node, Part, Range, Raw, Root, Shard, Unit, UnitSort};
 use ix_base::{Fault, MAX_FILE_BYTES, Stop};
-use rows::{ANSWERS, FAULTS, WHOLE};
+use rows::{ANSWERS, WHOLE};
 use std::alloc::{AllocError, Global};
 use std::sync::Arc;
 use std::test::Fail;
