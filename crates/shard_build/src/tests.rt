@@ -3,7 +3,7 @@ use crate::rows::{
     TWO_DAMAGED_UNITS,
 };
 use crate::scan;
-use index_model::{Import, Next, Shard, Span};
+use index_model::{Import, Next, Node, Shard, Span};
 use ix_base::code::{TRUNCATED, UNKNOWN_FORM};
 use ix_base::{Fault, Stop};
 use std::alloc::Global;
@@ -52,11 +52,20 @@ fn spans_stand_for_the_children_of_their_entries(rt: HostRuntime) -> Result<(), 
     Ok(())
 }
 
+// A unit, and offset, parent, tag and name of a node.
+type Row<'r> = (u32, u64, Option<u64>, u64, Option<&'r [u8]>);
+
+fn has_facts(node: &Node<'_>, row: &Row<'_>) -> bool {
+    let (unit, offset, parent, tag, name) = *row;
+    (node.unit, node.offset, node.parent, node.tag) == (unit, offset, parent, tag)
+        && node.name == name
+}
+
 #[test]
 fn keeps_a_node_of_each_entry_that_may_be_visited(rt: HostRuntime) -> Result<(), Fail> {
     let image = Image::open(rt.alloc(), &THREE_UNITS)?;
     let shard = scanned(rt.alloc(), &image, 0, 3)?;
-    let rows: [(u32, u64, Option<u64>, u64, Option<&[u8]>); 8] = [
+    let rows: [Row<'_>; 8] = [
         (0, 0x0c, None, 0x11, Some(b"d.cc")),
         (0, 0x13, Some(0x0c), 0x2e, None),
         (1, 0x31, None, 0x11, Some(b"a.cc")),
@@ -66,13 +75,14 @@ fn keeps_a_node_of_each_entry_that_may_be_visited(rt: HostRuntime) -> Result<(),
         (2, 0x55, Some(0x51), 0x02, Some(b"C")),
         (2, 0x58, Some(0x55), 0x2e, Some(b"f")),
     ];
-    assert_eq!(rt; shard.nodes.as_slice().len(), rows.len());
-    for (node, row) in shard.nodes.as_slice().iter().zip(&rows) {
-        assert_eq!(rt;
-            (node.unit, node.offset, node.parent, node.tag, node.name),
-            *row
-        );
-    }
+    let nodes = shard.nodes.as_slice();
+    assert_eq!(rt; nodes.len(), rows.len());
+    assert!(rt;
+        nodes
+            .iter()
+            .zip(&rows)
+            .all(|(node, row)| has_facts(node, row))
+    );
     let method = shard.nodes.as_slice().last().ok_or("no node")?;
     assert!(rt; method.declaration && method.external && !method.address);
     Ok(())
