@@ -116,6 +116,19 @@ fn root_ranges(
     home.ranges_of_nodes(alloc, &[root], &[])
 }
 
+// Whether each address is in one of the ranges as it should be.
+fn agrees(ranges: &[Range], asked: &[(u64, bool)]) -> bool {
+    asked
+        .iter()
+        .all(|(address, inside)| is_in(ranges, *address) == *inside)
+}
+
+fn is_in(ranges: &[Range], address: u64) -> bool {
+    ranges
+        .iter()
+        .any(|range| range.low <= address && address < range.end)
+}
+
 #[test]
 fn addresses_of_roots(rt: HostRuntime) -> Result<(), Fail> {
     for (name, version, bases, values, contents, asked) in ANSWERS {
@@ -123,12 +136,7 @@ fn addresses_of_roots(rt: HostRuntime) -> Result<(), Fail> {
         assert!(rt; file.len() as u64 <= MAX_FILE_BYTES);
         let sections = Sections::open(rt.alloc(), &file)?;
         let ranges = root_ranges(rt.alloc(), &sections, version, bases, values)?;
-        for (address, inside) in asked {
-            let found = ranges
-                .iter()
-                .any(|range| range.low <= *address && *address < range.end);
-            assert_eq!(rt; found, *inside, "{name} at {address}");
-        }
+        assert!(rt; agrees(&ranges, asked), "{name}");
     }
     Ok(())
 }
