@@ -1,0 +1,4 @@
+pub mod CutLaws
+pub mod LastLaws
+pub mod LengthLaws
+pub mod ScopeLaws
