@@ -1,9 +1,9 @@
 -- The first `__` of a name ends its first piece.
-use Rattle.std.proofs.Common.{◌≡◌, ℕ, zero, suc, ◌+◌, ◌<◌, ◌≤◌, Bool, true, false, ◌&&◌, eqb, List, [], ◌∷◌, length, take, drop, get_or, cond, refl, sym, ap, ◌∙◌, arith, ⊎_elim}
-use Rattle.std.specs.Prelude.{codes, Option, Some, None}
+use Rattle.std.proofs.Common.{◌≡◌, ℕ, zero, suc, ◌+◌, ◌<◌, Bool, true, false, ◌&&◌, eqb, List, [], ◌∷◌, take, drop, get_or, cond, refl, ap, ◌∙◌, arith, ⊎_elim}
+use Rattle.std.specs.Prelude.{codes, Some, None}
 use Rattle.std.specs.List.{onto_first}
 use Rattle.std.proofs.lemmas.Bool.{cases_Bool, eqb-true, eq-eqb}
-use Rattle.memchr.specs.Find.{OccursAt, Nowhere, FindsNeedle}
+use Rattle.memchr.specs.Find.{OccursAt, FindsNeedle}
 use Rattle.index_model.specs.AdaNames.{pieces, is_line}
 
 pub step_on : (a b : ℕ) (bs : List ℕ) → (is_line a && is_line b) ≡ true → pieces (a ∷ b ∷ bs) ≡ [] ∷ pieces bs

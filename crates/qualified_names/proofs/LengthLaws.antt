@@ -1,5 +1,5 @@
 -- The length of a decoded name: each `__` becomes one byte.
-use Rattle.std.proofs.Common.{◌≡◌, ℕ, zero, suc, ◌+◌, ◌<◌, ◌≤◌, Bool, true, false, ◌&&◌, List, [], ◌∷◌, ◌++◌, length, take, drop, ◌-◌, flat_map, cond, refl, sym, ap, subst, ◌∙◌, arith, length-append, length-take, length-drop, ⊎_elim}
+use Rattle.std.proofs.Common.{◌≡◌, ℕ, ◌+◌, ◌<◌, ◌≤◌, Bool, true, false, ◌&&◌, List, [], ◌∷◌, ◌++◌, length, take, drop, ◌-◌, flat_map, cond, refl, sym, subst, arith, length-append, length-take, length-drop, ⊎_elim}
 use Rattle.std.specs.Prelude.{codes}
 use Rattle.std.specs.List.{onto_first, suffix_len}
 use Rattle.std.proofs.lemmas.Bool.{cases_Bool}
@@ -42,14 +42,14 @@ at_most : (b : Bool) (xs ys : List ℕ) (n : ℕ) → length xs ≤ n → length
 at_most true xs ys n h k = h
 at_most false xs ys n h k = k
 
-without_number_length : (name : List ℕ) → length (without_number name) ≤ length name
+pub without_number_length : (name : List ℕ) → length (without_number name) ≤ length name
 unfolding without_number
 without_number_length name =
     let stem = before_digits name in
     let most : length stem ≤ length name = omega (arith, length-take (length name - suffix_len is_digit name) name) in
     at_most _ (take (length stem - 2) stem) name (length name) (omega (arith, most, length-take (length stem - 2) stem)) (omega arith)
 
-without_prefix_length : (name : List ℕ) → length (without_prefix name) ≤ length name
+pub without_prefix_length : (name : List ℕ) → length (without_prefix name) ≤ length name
 without_prefix_length name = at_most (begins_with (codes "_ada_") name) (drop 5 name) name (length name) (omega (arith, length-drop 5 name)) (omega arith)
 
 pub shortened_length : (name : List ℕ) → length (shortened name) ≤ length name

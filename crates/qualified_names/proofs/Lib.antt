@@ -2,3 +2,4 @@ pub mod CutLaws
 pub mod LastLaws
 pub mod LengthLaws
 pub mod ScopeLaws
+pub mod StayLaws

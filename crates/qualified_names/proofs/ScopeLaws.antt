@@ -1,5 +1,5 @@
 -- A name behind its scope, component by component.
-use Rattle.std.proofs.Common.{◌≡◌, ℕ, suc, ◌+◌, ◌<◌, List, [], ◌∷◌, ◌++◌, length, take, get_or, flat_map, filter_map, reverse, refl, sym, ap, ◌∙◌, arith, length-append, append-nil, add-one, min}
+use Rattle.std.proofs.Common.{◌≡◌, ℕ, ◌+◌, ◌<◌, List, [], ◌∷◌, ◌++◌, length, take, get_or, flat_map, filter_map, reverse, refl, sym, ap, ◌∙◌, arith, length-append, append-nil, add-one, min}
 use Rattle.std.specs.Prelude.{codes, option_map, Option, Some, None}
 use Rattle.std.specs.Borrow.{Bor}
 use Rattle.std.specs.List.{join_by, cons_option}
@@ -8,7 +8,8 @@ use Rattle.std.proofs.lemmas.Bool.Decides.{nat_tests}
 use Rattle.std.proofs.lemmas.List.{append_assoc, reverse-append}
 use Rattle.std.proofs.lemmas.List.Concat.{flat_map-append}
 use Rattle.std.proofs.lemmas.List.Elements.{filter_map-append}
-use Rattle.qualified_names.specs.Scoped.{parts}
+use Rattle.index_model.specs.Names.{Member, component, scoped_name}
+use Rattle.qualified_names.specs.Scoped.{parts, joined}
 
 -- each component with its separator
 abbrev pub prefix : List (List ℕ) → List ℕ
@@ -68,3 +69,8 @@ saturates top a b c p s n ha hb hc t ht = grind (arith, nat_tests)
 pub empty : {A : Type 0} (xs : List A) → length xs ≡ 0 → xs ≡ []
 empty [] e = refl
 empty (x ∷ xs) e = absurd (omega (arith, e))
+
+-- the name of the definitions is that of the path's components
+pub scoped_name_is : (path : List Member) (name : List ℕ) → scoped_name path name ≡ joined (filter_map component path) name
+unfolding scoped_name
+scoped_name_is path name = refl

@@ -21,10 +21,10 @@ pub fn ada(alloc: Global, name: &[u8]) -> Result<Vec<u8>, NoMemory>
     }
 }
 
-/// The length of the decoded name.
-#[tactic(auto, unfolding(index_model::specs::AdaNames::decoded))]
+/// The length of the decoded name. Where it is the name's own length, the name stays as it stood.
 pub fn ada_length(name: &[u8]) -> usize
-    ensures { result ≡ length (decoded name.now) }
+    ensures value { result ≡ length (decoded name.now) }
+    ensures stays { result ≡ length name.now → decoded name.now ≡ name.now }
 {
     match coded(name) {
         Some(short) => pointed_length(short),

@@ -1,4 +1,4 @@
-use Rattle.std.proofs.Common.{◌≡◌, ◌++◌, List, ℕ}
+use Rattle.std.proofs.Common.{◌≡◌, ◌++◌}
 use Rattle.qualified_names.specs.Pieces.{pointed}
 use Rattle.qualified_names.proofs.LengthLaws.{points}
 use Rattle.qualified_names.proofs.decoding.push_pieces.Given as goal

@@ -1,10 +1,10 @@
 use Rattle.std.proofs.Common.{◌≡◌, ◌∙◌, List, [], ◌∷◌, ◌++◌, ℕ, reverse, sym, ap, append-nil}
-use Rattle.std.specs.Prelude.{Option, Some, None, codes}
+use Rattle.std.specs.Prelude.{Option, codes}
 use Rattle.std.specs.Borrow.{Bor}
 use Rattle.std.specs.Iterator.Adapters.{rev_source}
 use Rattle.std.specs.Slice.Iter.{iter_rest}
 use Rattle.std.proofs.lemmas.List.{append_assoc}
-use Rattle.qualified_names.specs.Scoped.{parts, joined}
+use Rattle.qualified_names.specs.Scoped.{parts}
 use Rattle.qualified_names.proofs.ScopeLaws.{prefix, joined_is, outermost_some, outermost_none, empty}
 use Rattle.qualified_names.proofs.scope.scoped.Goals as goal
 

@@ -1,4 +1,4 @@
-use Rattle.std.proofs.Common.{◌≡◌, ◌≤◌, length, ℕ, ◌+◌, take}
+use Rattle.std.proofs.Common.{◌≡◌, ◌≤◌, length, ◌+◌, take}
 use Rattle.std.specs.List.{suffix_len}
 use Rattle.index_model.specs.AdaNames.{is_digit}
 use Rattle.qualified_names.proofs.shortened.before_digits.Given as goal
