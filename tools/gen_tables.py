@@ -201,12 +201,20 @@ def entries(row):
 
 
 def walk_tables():
+    return walks_of([
+        ('WALKS', 'Abbreviations, a unit of version 5, and depth, offset and tag of each entry.', ['walks']),
+        ('FORMS', 'The same, of values of many forms.', ['address_and_block_forms', 'constant_and_flag_forms', 'reference_and_string_forms'])])
+
+
+def walk_fault_tables():
+    return walks_of([
+        ('WALK_FAULTS', 'Abbreviations, a unit of version 5 whose first byte has the joint offset, and its first fault.', ['walk_faults']),
+        ('FORM_FAULTS', 'The same, of values of many forms.', ['form_faults', 'value_faults'])])
+
+
+def walks_of(tables):
     made = []
-    for name, doc, groups in [
-            ('WALK_FAULTS', 'Abbreviations, a unit of version 5 whose first byte has the joint offset, and its first fault.', ['walk_faults']),
-            ('FORM_FAULTS', 'The same, of values of many forms.', ['form_faults', 'value_faults']),
-            ('WALKS', 'Abbreviations, a unit of version 5, and depth, offset and tag of each entry.', ['walks']),
-            ('FORMS', 'The same, of values of many forms.', ['address_and_block_forms', 'constant_and_flag_forms', 'reference_and_string_forms'])]:
+    for name, doc, groups in tables:
         cases = []
         for row in rows_of(*groups):
             have, found = sections(row_file(row)), refusal(row)
@@ -289,6 +297,7 @@ FILES = {
     'unit_headers/src/tests/rows.rt': header_tables,
     'abbrev_table/src/tests/rows.rt': abbreviation_tables,
     'entry_scan/src/walk/tests/rows.rt': walk_tables,
+    'entry_scan/src/walk/tests/fault_rows.rt': walk_fault_tables,
     'range_lists/src/tests/rows.rt': range_tables,
     'range_lists/src/tests/fault_rows.rt': range_fault_tables,
 }

@@ -1,12 +1,14 @@
+mod fault_rows;
 mod rows;
 
 ghost use Rattle.std.specs.Prelude.{◌≡◌, ◌≤◌, ◌<◌, length};
 
 use super::*;
 use abbrev_table::BadAbbrev;
+use fault_rows::{FORM_FAULTS, WALK_FAULTS};
 use form_reader::Value;
 use index_model::{Part, UnitSort};
-use rows::{FORM_FAULTS, FORMS, WALK_FAULTS, WALKS};
+use rows::{FORMS, WALKS};
 use std::alloc::Global;
 
 // The abbreviations of a C program: code 1 a compile unit with children, code 2 a subprogram without.
