@@ -4,3 +4,4 @@ pub mod Frames
 pub mod Kept
 pub mod Tokens
 pub mod Runs
+pub mod Entries

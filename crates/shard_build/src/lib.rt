@@ -5,6 +5,7 @@
 mod attributes;
 mod facts;
 mod forms;
+mod entries;
 mod frame;
 mod home;
 mod kept;
@@ -19,4 +20,5 @@ mod tests;
 mod texts;
 mod unit;
 
+pub use entries::Entries;
 pub use shard::scan;
