@@ -14,3 +14,6 @@ pub mod UnitEnd
 pub mod RunLaws
 pub mod RunEnds
 pub mod UnitPlaces
+pub mod OnePlace
+pub mod FoundNodes
+pub mod FoundSpans

@@ -12,7 +12,7 @@ use Rattle.index_model.specs.Strings.{Texts, text_in, texts_of, some_text, own_n
 use Rattle.index_model.specs.Walk.{Item, parent_of}
 use Rattle.index_model.proofs.Meanings.{bind_ok, same_ok}
 use Rattle.shard_build.specs.declared.open.Open.{Open}
-use Rattle.shard_build.specs.Kept.{NodeSeen, node_seen, node_by}
+use Rattle.shard_build.specs.Kept.{NodeSeen, node_seen, node_by, node_under}
 
 -- an entry of a unit
 abbrev pub at_home : Walked → Item → Located
@@ -69,10 +69,14 @@ module _ (ss : List Section) (w : Walked) (d : Item) (t : Texts) (is : texts_of 
       (sym (ap of_name a.1 ∙ ap (λ (x : Texts). x.name) same), sym (ap of_name b.1 ∙ ap (λ (x : Texts). x.linkage) same))
 
   -- the node that is made of an entry is that of the entry
-  pub seen_of : (outer : Option Open) → option_map (λ o. o.at) outer ≡ option_map (λ e. e.at) (parent_of (items_of w) d) → IsSeenOf ss (node_by ss (w.number, w.unit) outer d t) (at_home w d)
-  unfolding node_by node_facts
-  seen_of outer parent = record {
-    facts = λ m. ap (λ (p : Option ℕ). record (node_by ss (w.number, w.unit) outer d t).facts { parent = p }) (parent ∙ place_of w (parent_of (items_of w) d));
+  pub seen_under : (parent : Option ℕ) → parent ≡ option_map (λ e. e.at) (parent_of (items_of w) d) → IsSeenOf ss (node_under ss (w.number, w.unit) parent d t) (at_home w d)
+  unfolding node_under node_facts
+  seen_under parent is = record {
+    facts = λ m. ap (λ (p : Option ℕ). record (node_under ss (w.number, w.unit) parent d t).facts { parent = p }) (is ∙ place_of w (parent_of (items_of w) d));
     name = texts_are.0;
     linkage = texts_are.1;
   }
+
+  pub seen_of : (outer : Option Open) → option_map (λ o. o.at) outer ≡ option_map (λ e. e.at) (parent_of (items_of w) d) → IsSeenOf ss (node_by ss (w.number, w.unit) outer d t) (at_home w d)
+  unfolding node_by
+  seen_of outer is = seen_under (option_map (λ o. o.at) outer) is

@@ -106,12 +106,12 @@ module _ (ss : List Section) (u : ℕ × UnitHeader) where
   -- ---- nodes
 
   -- the node of an entry with this parent and these texts
-  unfoldable pub node_by : Option Open → Item → Texts → NodeSeen
-  node_by outer d t = record {
+  unfoldable pub node_under : Option ℕ → Item → Texts → NodeSeen
+  node_under parent d t = record {
     facts = record {
       unit = u.0;
       offset = d.at;
-      parent = option_map (λ o. o.at) outer;
+      parent = parent;
       tag = d.tag;
       declaration = is_declaration d;
       external = has_external d;
@@ -130,6 +130,10 @@ module _ (ss : List Section) (u : ℕ × UnitHeader) where
     name = t.name;
     linkage = t.linkage;
   }
+
+  -- the node of an entry in this one
+  unfoldable pub node_by : Option Open → Item → Texts → NodeSeen
+  node_by outer d t = node_under (option_map (λ o. o.at) outer) d t
 
   -- whether an entry in this one has a node
   abbrev pub has_node : Frame → Option Open → Item → Bool

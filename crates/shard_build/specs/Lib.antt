@@ -5,3 +5,5 @@ pub mod Kept
 pub mod Tokens
 pub mod Runs
 pub mod Entries
+pub mod Found
+pub mod Again

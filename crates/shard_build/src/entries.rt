@@ -5,10 +5,13 @@ ghost use Rattle.std.specs.Arc.{arc_value};
 ghost use Rattle.index_model.specs.Attributes.{Reference};
 ghost use Rattle.index_model.specs.Program.{Walked, item_with_offset};
 ghost use Rattle.index_model.specs.ShardParts.{as_next};
-ghost use Rattle.shard_build.specs.Entries.{AreShardsOfFile, ForProgram, IsNodeIn, entry_meant};
+ghost use Rattle.shard_build.specs.Entries.{AreShardsOfFile, ForProgram, IsNodeIn, IsTargetOf, entry_meant};
+ghost use Rattle.shard_build.specs.Found.{IsWithin};
 
+use crate::found::Found;
+use crate::home::Home;
 use crate::tables::Table;
-use index_model::{Next, Node, Shard};
+use index_model::{Next, Node, Shard, Span};
 use ix_base::NoMemory;
 use std::alloc::Global;
 use std::marker::Model;
@@ -66,23 +69,59 @@ impl<'s, 'f> Entries<'s, 'f> {
     }
 
     /// The node of the entry at a joint offset, None where no entry of the file stands there.
-    pub fn at(&mut self, _alloc: Global, _offset: u64) -> Result<Option<Node<'f>>, NoMemory>
-        ensures value { ForProgram self.old (λ p. IfOk result (λ n. IsNodeIn p.sections n (item_with_offset p _offset))) }
+    pub fn at(&mut self, alloc: Global, offset: u64) -> Result<Option<Node<'f>>, NoMemory>
+        ensures value { ForProgram self.old (λ p. IfOk result (λ n. IsNodeIn p.sections n (item_with_offset p offset))) }
         ensures kept { self.new ≡ self.old }
     {
-        Err(NoMemory)
+        match Found::of(self.image, self.shards, offset) {
+            Found::Kept(node) => Ok(Some(node)),
+            Found::Within(span) => self.again(alloc, &span, offset),
+            Found::Nowhere => Ok(None),
+        }
+    }
+
+    // The node of the entry at a joint offset in the span of its parent, where it is read again.
+    fn again(
+        &mut self,
+        alloc: Global,
+        span: &Span,
+        offset: u64,
+    ) -> Result<Option<Node<'f>>, NoMemory>
+        requires { ForProgram self.old (λ p. IsWithin p offset span.now) }
+        ensures value { ForProgram self.old (λ p. IfOk result (λ n. IsNodeIn p.sections n (item_with_offset p offset))) }
+        ensures kept { self.new ≡ self.old }
+    {
+        let home = Home::of(self.image, span.unit);
+        let section = self.image.sections().get(b".debug_abbrev");
+        let table = Table::of_sound(alloc, section, &home.unit, self.at_hand.take())?;
+        let node = home.node_within(&table.abbrevs, span, offset);
+        self.at_hand = Some(table);
+        Ok(node)
     }
 
     /// The node of the entry that a reference of a unit's entry names (DWARF 5, section 7.5.5), None where it names none.
     pub fn named(
         &mut self,
-        _alloc: Global,
-        _unit: u32,
-        _reference: Next,
+        alloc: Global,
+        unit: u32,
+        reference: Next,
     ) -> Result<Option<Node<'f>>, NoMemory>
-        ensures value { ForProgram self.old (λ p. (w : Walked) → Contains p.walks w → w.number ≡ _unit → (r : Reference) → _reference ≡ as_next r → IfOk result (λ n. IsNodeIn p.sections n (entry_meant p w r))) }
+        ensures value { ForProgram self.old (λ p. (w : Walked) → Contains p.walks w → w.number ≡ unit → (r : Reference) → reference ≡ as_next r → IfOk result (λ n. IsNodeIn p.sections n (entry_meant p w r))) }
         ensures kept { self.new ≡ self.old }
     {
-        Err(NoMemory)
+        match target(self.image, unit, reference) {
+            Some(offset) => self.at(alloc, offset),
+            None => Ok(None),
+        }
     }
+}
+
+// The joint offset that a reference of a unit's entry names, if it lies where its form says.
+fn target(image: &Image<'_>, unit: u32, reference: Next) -> Option<u64>
+    ensures { IsTargetOf image.now.file unit reference result }
+{
+    if unit as usize >= image.units().len() {
+        return None;
+    }
+    Home::of(image, unit).target(reference)
 }

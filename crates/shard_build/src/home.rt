@@ -3,7 +3,7 @@
 ghost use Rattle.std.specs.Prelude.{◌≡◌, ◌+◌, ◌<◌, ◌≤◌, ◌^◌, nat_lt, slice_get, if◌then◌else◌, length, codes, Some, None, option_to_list};
 ghost use Rattle.index_model.specs.Sections.{section_bytes};
 ghost use Rattle.unit_headers.specs.Images.{unit_bytes};
-ghost use Rattle.shard_build.specs.Kept.{node_seen, node_by, target_by, span_from, imports_by};
+ghost use Rattle.shard_build.specs.Kept.{node_seen, node_by, node_under, target_by, span_from, imports_by};
 ghost use Rattle.shard_build.specs.Texts.{texts_seen};
 
 use crate::attributes::Attributes;
@@ -51,11 +51,24 @@ impl<'s, 'f> Home<'s, 'f> {
     pub fn node(&self, outer: Option<Open>, entry: &Attributes<'_>, texts: Texts<'f>) -> Node<'f>
         ensures { node_seen result ≡ node_by self.now.sections.now (self.now.number, self.now.unit) outer entry.now (texts_seen texts.entry) }
     {
+        self.node_under(outer.map(|open| open.at), entry, texts)
+    }
+
+    /// The node of an entry whose parent has this joint offset, with these texts.
+    #[tactic(auto, unfolding(crate::specs::Kept::node_under))]
+    pub fn node_under(
+        &self,
+        parent: Option<u64>,
+        entry: &Attributes<'_>,
+        texts: Texts<'f>,
+    ) -> Node<'f>
+        ensures { node_seen result ≡ node_under self.now.sections.now (self.now.number, self.now.unit) parent entry.now (texts_seen texts.entry) }
+    {
         let version = self.unit.version;
         Node {
             unit: self.number,
             offset: entry.item().offset(),
-            parent: outer.map(|open| open.at),
+            parent,
             tag: entry.item().tag(),
             declaration: entry.is_declaration(),
             external: entry.is_external(),
@@ -107,8 +120,8 @@ impl<'s, 'f> Home<'s, 'f> {
         }
     }
 
-    // The joint offset that a reference names, if it lies in the unit or in `.debug_info`, as its form says.
-    fn target(&self, reference: Next) -> Option<u64>
+    /// The joint offset that a reference names, if it lies in the unit or in `.debug_info`, as its form says.
+    pub fn target(&self, reference: Next) -> Option<u64>
         requires { self.now.unit.start + self.now.unit.length < 2 ^ 63 }
         ensures { result ≡ target_by self.now.sections.now (self.now.number, self.now.unit) reference }
     {

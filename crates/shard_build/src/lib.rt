@@ -2,10 +2,12 @@
 //! and 7.5.3).
 #![tactic(auto)]
 
+mod again;
 mod attributes;
+mod entries;
 mod facts;
 mod forms;
-mod entries;
+mod found;
 mod frame;
 mod home;
 mod kept;

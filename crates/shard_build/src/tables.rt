@@ -1,6 +1,6 @@
 //! Tables of abbreviations that serve more than one unit (DWARF 5, section 7.5.3).
 
-ghost use Rattle.std.specs.Prelude.{◌≡◌, IfOk};
+ghost use Rattle.std.specs.Prelude.{◌≡◌, IfOk, IsSome, Some};
 ghost use Rattle.std.specs.Option.{ForSome};
 ghost use Rattle.ix_base.specs.declared.code.TheConstants.{BAD_ABBREVIATION as BAD};
 ghost use Rattle.index_model.specs.Abbreviations.{table};
@@ -11,7 +11,7 @@ ghost use Rattle.shard_build.specs.Runs.{IsAtOffset};
 use abbrev_table::{Abbrevs, BadAbbrev};
 use index_model::Unit;
 use ix_base::code::BAD_ABBREVIATION;
-use ix_base::{Fault, Stop};
+use ix_base::{Fault, NoMemory, Stop};
 use std::alloc::Global;
 
 /// A table of abbreviations, and where it stands in `.debug_abbrev`.
@@ -41,6 +41,25 @@ impl Table {
                 Table::read(alloc, bytes, unit)
             },
             None => Table::read(alloc, bytes, unit),
+        }
+    }
+
+    /// The same, where the table of the unit isn't damaged.
+    pub fn of_sound(
+        alloc: Global,
+        bytes: &[u8],
+        unit: &Unit,
+        at_hand: Option<Table>,
+    ) -> Result<Table, NoMemory>
+        requires hand { ForSome at_hand (IsAtOffset bytes.now) }
+        requires sound { IsSome (table bytes.now unit.now.«abbrev») }
+        ensures value { IfOk result (λ t. table bytes.now unit.now.«abbrev» ≡ Some t.abbrevs) }
+        ensures place { IfOk result (IsAtOffset bytes.now) }
+    {
+        match Table::of(alloc, bytes, unit, at_hand) {
+            Ok(table) => Ok(table),
+            Err(Stop::Memory) => Err(NoMemory),
+            Err(Stop::Fault(_)) => unreachable!(),
         }
     }
 
