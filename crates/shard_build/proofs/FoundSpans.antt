@@ -55,7 +55,7 @@ span_number w s c = let e = span_item w s c in ap (λ (x : Span). x.unit) (sym e
 pub in_span : (w : Walked) (s : Span) (o : ℕ) (d : Item) → item_in_span w s o ≡ Some d → Contains (items_of w) d × (d.at ≡ o)
 in_span w s o d found =
     let m = find_member (stands_in s o) (items_of w) d found in
-    (m.0, eqb-true d.at o (and_parts (eqb d.at o) (leb s.from o && ltb o s.to) m.1).0)
+    (m.0, eqb-true d.at o (and_parts (eqb d.at o) (leb s.from o) (and_parts (eqb d.at o && leb s.from o) (ltb o s.to) m.1).0).0)
 
 offset_of_parent : (w : Walked) (d e : Item) → parent_of (items_of w) d ≡ Some e → parent_offset (at_home w d) ≡ Some e.at
 offset_of_parent w d e is = ap (λ (x : Option Item). option_map (λ (l : Located). l.item.at) (option_map (at_home w) x)) is
@@ -145,8 +145,8 @@ module _ (f : List ℕ) (p : Program) (is : program_of f ≡ Ok p) (s : Shard) (
           by_entry missing (Some d) e =
               let there = stands_there d e in
               let h = home_of f p is o d e in
-              let inside = and_from (leb t.from o) (ltb o t.to) (le-leb t.from o there.1.0) (lt-ltb o t.to there.1.1) in
-              absurd (find_none (stands_in t o) (items_of w) missing d.item there.0 (and_from (eqb d.item.at o) (leb t.from o && ltb o t.to) (eq-eqb d.item.at o h.2) inside))
+              let begun = and_from (eqb d.item.at o) (leb t.from o) (eq-eqb d.item.at o h.2) (le-leb t.from o there.1.0) in
+              absurd (find_none (stands_in t o) (items_of w) missing d.item there.0 (and_from (eqb d.item.at o && leb t.from o) (ltb o t.to) begun (lt-ltb o t.to there.1.1)))
 
           by_item : (r : Option Item) → item_in_span w t o ≡ r → item_with_offset p o ≡ option_map (at_home w) (item_in_span w t o)
           by_item (Some x) e =

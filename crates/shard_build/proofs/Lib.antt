@@ -17,3 +17,6 @@ pub mod UnitPlaces
 pub mod OnePlace
 pub mod FoundNodes
 pub mod FoundSpans
+pub mod FoundPoints
+pub mod UnitNumbers
+pub mod FoundShards

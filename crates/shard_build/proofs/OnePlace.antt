@@ -4,6 +4,7 @@ use Rattle.std.specs.Prelude.{Contains, find, flat_map}
 use Rattle.std.specs.Option.{option_map}
 use Rattle.std.proofs.lemmas.Bool.{true≢false, eqb-true, eq-eqb}
 use Rattle.std.proofs.lemmas.List.Elements.{Contains-append_left, Contains-append_right}
+use mathlib.Core.Logic.{◌⊎◌}
 use Rattle.index_model.specs.Faults.{program_of}
 use Rattle.index_model.specs.LawsOrder.{IsInside}
 use Rattle.index_model.specs.Program.{Walked, Program, Located, items_of, located, item_with_offset}

@@ -1,6 +1,6 @@
 //! Where an entry of the file is found: among the nodes of a shard, or by the innermost span that holds it.
 
-ghost use Rattle.std.specs.Prelude.{◌≡◌, ◌<◌, ◌==◌, nat_lt, map, length, position, find, filter, Contains, IfSome, option_map, None, Ok};
+ghost use Rattle.std.specs.Prelude.{◌≡◌, ◌<◌, ◌==◌, nat_lt, map, length, position, slice_get, find, filter, Contains, IfSome, option_map, None, Ok};
 ghost use Rattle.std.specs.Arc.{arc_value};
 ghost use Rattle.std.specs.List.{last_or};
 ghost use Rattle.std.specs.List.Sorted.{IsNonDecreasingBy};
@@ -80,12 +80,19 @@ fn node_at<'f>(nodes: &[Node<'f>], offset: u64) -> Option<Node<'f>>
     ensures { IsNonDecreasingBy (λ n. n.offset) nodes.now → result ≡ find (λ n. n.offset == offset) nodes.now }
 {
     let place = nodes.partition_point(|node| node.offset < offset);
-    let node = nodes.get(place).copied()?;
+    let node = at_place(nodes, place)?;
     if node.offset == offset {
         Some(node)
     } else {
         None
     }
+}
+
+// The node at a place.
+fn at_place<'f>(nodes: &[Node<'f>], place: usize) -> Option<Node<'f>>
+    ensures { result ≡ slice_get nodes.now place }
+{
+    nodes.get(place).copied()
 }
 
 // The innermost span that holds the entry at the offset: the last that begins there or before it and ends behind it.
