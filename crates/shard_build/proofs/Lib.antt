@@ -20,3 +20,4 @@ pub mod FoundSpans
 pub mod FoundPoints
 pub mod UnitNumbers
 pub mod FoundShards
+pub mod AgainLaws

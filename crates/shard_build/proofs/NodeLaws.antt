@@ -53,7 +53,8 @@ are_seen ss [] (d ∷ ds) h = h
 are_seen ss (n ∷ ns) [] h = h
 are_seen ss (n ∷ ns) (d ∷ ds) h = (seen_is ss n d h.0, are_seen ss ns ds h.1)
 
-place_of : (w : Walked) (o : Option Item) → option_map (λ (e : Item). e.at) o ≡ option_map (λ (e : Located). e.item.at) (option_map (at_home w) o)
+-- the offset of an entry of a unit
+pub place_of : (w : Walked) (o : Option Item) → option_map (λ (e : Item). e.at) o ≡ option_map (λ (e : Located). e.item.at) (option_map (at_home w) o)
 place_of w None = refl
 place_of w (Some e) = refl
 
