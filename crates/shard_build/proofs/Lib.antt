@@ -21,3 +21,4 @@ pub mod FoundPoints
 pub mod UnitNumbers
 pub mod FoundShards
 pub mod AgainLaws
+pub mod AgainUnits

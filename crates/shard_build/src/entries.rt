@@ -91,6 +91,8 @@ impl<'s, 'f> Entries<'s, 'f> {
         ensures value { ForProgram self.old (λ p. IfOk result (λ n. IsNodeIn p.sections n (item_with_offset p offset))) }
         ensures kept { self.new ≡ self.old }
     {
+        // The units are those of the image's file, and the span's is one of them.
+        let _units = self.image.units();
         let home = Home::of(self.image, span.unit);
         let section = self.image.sections().get(b".debug_abbrev");
         let table = Table::of_sound(alloc, section, &home.unit, self.at_hand.take())?;

@@ -1,0 +1,104 @@
+use Rattle.std.proofs.Common.{◌≡◌, ℕ, ◌<◌, length, List, Some, Ok, sym, ap, subst, ◌∙◌}
+use Rattle.std.specs.Prelude.{slice_get, codes}
+use Rattle.index_model.specs.Faults.{program_of}
+use Rattle.index_model.specs.Program.{Program}
+use Rattle.index_model.specs.Sections.{Section, section_bytes}
+use Rattle.unit_headers.specs.Images.{image_of, unit_bytes}
+use Rattle.shard_build.specs.Entries.{EntriesOf}
+use Rattle.shard_build.specs.Found.{IsWithin}
+use Rattle.shard_build.proofs.FoundSpans.{span_number}
+use Rattle.shard_build.proofs.AgainUnits.{number_within, some_table, sound, in_spans, span_of_parent, node_there}
+use Rattle.shard_build.proofs.entries.Entries.again.Goals as goal
+
+pub of-home-requires : goal.of-home-requires
+of-home-requires c =
+    let im = c.self.inside.image.now in
+    let file : im.file ≡ c.args.self.now.image.file = ap (λ (e : EntriesOf). e.image.file) c.self.view_is in
+    let image : image_of im.file ≡ Ok im = c.units-units.ensures.of_file in
+    let of = c.self.invariant.0 in
+    let p : Program = of.program in
+    let is : program_of im.file ≡ Ok p = of.is in
+    let h : IsWithin p c.args.offset c.args.span.now = c.requires p (sym (ap program_of file) ∙ is) in
+    let number : c.args.span.now.unit ≡ h.home.number = span_number h.home c.args.span.now h.span in
+    subst (λ (n : ℕ). n < length im.units) (sym number) (number_within im image p is h.home h.unit)
+
+pub of_sound-requires-clause-sound : goal.of_sound-requires-clause-sound
+of_sound-requires-clause-sound c =
+    let im = c.self.inside.image.now in
+    let file : im.file ≡ c.args.self.now.image.file = ap (λ (e : EntriesOf). e.image.file) c.self.view_is in
+    let image : image_of im.file ≡ Ok im = c.units-units.ensures.of_file in
+    let of = c.self.invariant.0 in
+    let p : Program = of.program in
+    let is : program_of im.file ≡ Ok p = of.is in
+    let h : IsWithin p c.args.offset c.args.span.now = c.requires p (sym (ap program_of file) ∙ is) in
+    let number : c.args.span.now.unit ≡ h.home.number = span_number h.home c.args.span.now h.span in
+    let home = c.of-home.result in
+    let unit = subst (λ (n : ℕ). slice_get im.units n ≡ Some home.unit) number c.of-home.ensures.unit in
+    let section : c.get-section.result.now ≡ section_bytes im.sections (codes ".debug_abbrev") = c.get-section.ensures.value ∙ ap (λ (ss : List Section). section_bytes ss (codes ".debug_abbrev")) c.sections.ensures in
+    some_table im image p is h.home h.unit home c.of-home.ensures.sections (c.of-home.ensures.number ∙ number) unit c.get-section.result.now section
+
+pub node_within-node-requires-clause-sound : goal.node_within-node-requires-clause-sound
+node_within-node-requires-clause-sound c =
+    let im = c.self.inside.image.now in
+    let file : im.file ≡ c.args.self.now.image.file = ap (λ (e : EntriesOf). e.image.file) c.self.view_is in
+    let image : image_of im.file ≡ Ok im = c.units-units.ensures.of_file in
+    let of = c.self.invariant.0 in
+    let p : Program = of.program in
+    let is : program_of im.file ≡ Ok p = of.is in
+    let h : IsWithin p c.args.offset c.args.span.now = c.requires p (sym (ap program_of file) ∙ is) in
+    let number : c.args.span.now.unit ≡ h.home.number = span_number h.home c.args.span.now h.span in
+    let home = c.of-home.result in
+    let unit = subst (λ (n : ℕ). slice_get im.units n ≡ Some home.unit) number c.of-home.ensures.unit in
+    let section : c.get-section.result.now ≡ section_bytes im.sections (codes ".debug_abbrev") = c.get-section.ensures.value ∙ ap (λ (ss : List Section). section_bytes ss (codes ".debug_abbrev")) c.sections.ensures in
+    let own : home.bytes.now ≡ unit_bytes home.sections.now home.unit = c.of-home.ensures.own ∙ ap (λ (ss : List Section). unit_bytes ss home.unit) (sym c.of-home.ensures.sections) in
+    let a = c.in_ok-table.table.abbrevs in
+    sound im image p is h.home h.unit home c.of-home.ensures.sections (c.of-home.ensures.number ∙ number) unit own c.of-home.ensures.header c.get-section.result.now section a c.in_ok-table.ensures.value
+
+pub node_within-node-requires-clause-span : goal.node_within-node-requires-clause-span
+node_within-node-requires-clause-span c =
+    let im = c.self.inside.image.now in
+    let file : im.file ≡ c.args.self.now.image.file = ap (λ (e : EntriesOf). e.image.file) c.self.view_is in
+    let image : image_of im.file ≡ Ok im = c.units-units.ensures.of_file in
+    let of = c.self.invariant.0 in
+    let p : Program = of.program in
+    let is : program_of im.file ≡ Ok p = of.is in
+    let h : IsWithin p c.args.offset c.args.span.now = c.requires p (sym (ap program_of file) ∙ is) in
+    let number : c.args.span.now.unit ≡ h.home.number = span_number h.home c.args.span.now h.span in
+    let home = c.of-home.result in
+    let unit = subst (λ (n : ℕ). slice_get im.units n ≡ Some home.unit) number c.of-home.ensures.unit in
+    let section : c.get-section.result.now ≡ section_bytes im.sections (codes ".debug_abbrev") = c.get-section.ensures.value ∙ ap (λ (ss : List Section). section_bytes ss (codes ".debug_abbrev")) c.sections.ensures in
+    let own : home.bytes.now ≡ unit_bytes home.sections.now home.unit = c.of-home.ensures.own ∙ ap (λ (ss : List Section). unit_bytes ss home.unit) (sym c.of-home.ensures.sections) in
+    let a = c.in_ok-table.table.abbrevs in
+    in_spans im image p is h.home h.unit home c.of-home.ensures.sections (c.of-home.ensures.number ∙ number) unit own c.of-home.ensures.header c.get-section.result.now section a c.in_ok-table.ensures.value c.args.span.now h.span
+
+pub node_within-node-requires-clause-parent : goal.node_within-node-requires-clause-parent
+node_within-node-requires-clause-parent c =
+    let im = c.self.inside.image.now in
+    let file : im.file ≡ c.args.self.now.image.file = ap (λ (e : EntriesOf). e.image.file) c.self.view_is in
+    let image : image_of im.file ≡ Ok im = c.units-units.ensures.of_file in
+    let of = c.self.invariant.0 in
+    let p : Program = of.program in
+    let is : program_of im.file ≡ Ok p = of.is in
+    let h : IsWithin p c.args.offset c.args.span.now = c.requires p (sym (ap program_of file) ∙ is) in
+    let number : c.args.span.now.unit ≡ h.home.number = span_number h.home c.args.span.now h.span in
+    let home = c.of-home.result in
+    let unit = subst (λ (n : ℕ). slice_get im.units n ≡ Some home.unit) number c.of-home.ensures.unit in
+    let section : c.get-section.result.now ≡ section_bytes im.sections (codes ".debug_abbrev") = c.get-section.ensures.value ∙ ap (λ (ss : List Section). section_bytes ss (codes ".debug_abbrev")) c.sections.ensures in
+    let own : home.bytes.now ≡ unit_bytes home.sections.now home.unit = c.of-home.ensures.own ∙ ap (λ (ss : List Section). unit_bytes ss home.unit) (sym c.of-home.ensures.sections) in
+    let a = c.in_ok-table.table.abbrevs in
+    span_of_parent im image p is h.home h.unit home c.of-home.ensures.sections (c.of-home.ensures.number ∙ number) unit own c.of-home.ensures.header c.get-section.result.now section a c.in_ok-table.ensures.value c.args.span.now c.args.offset h.parent
+
+pub returns-clause-value : goal.returns-clause-value
+returns-clause-value c p given =
+    let im = c.self.inside.image.now in
+    let file : im.file ≡ c.args.self.now.image.file = ap (λ (e : EntriesOf). e.image.file) c.self.view_is in
+    let image : image_of im.file ≡ Ok im = c.units-units.ensures.of_file in
+    let is : program_of im.file ≡ Ok p = ap program_of file ∙ given in
+    let h : IsWithin p c.args.offset c.args.span.now = c.requires p given in
+    let number : c.args.span.now.unit ≡ h.home.number = span_number h.home c.args.span.now h.span in
+    let home = c.of-home.result in
+    let unit = subst (λ (n : ℕ). slice_get im.units n ≡ Some home.unit) number c.of-home.ensures.unit in
+    let section : c.get-section.result.now ≡ section_bytes im.sections (codes ".debug_abbrev") = c.get-section.ensures.value ∙ ap (λ (ss : List Section). section_bytes ss (codes ".debug_abbrev")) c.sections.ensures in
+    let own : home.bytes.now ≡ unit_bytes home.sections.now home.unit = c.of-home.ensures.own ∙ ap (λ (ss : List Section). unit_bytes ss home.unit) (sym c.of-home.ensures.sections) in
+    let a = c.in_ok-table.table.abbrevs in
+    node_there im image p is h.home h.unit home c.of-home.ensures.sections (c.of-home.ensures.number ∙ number) unit own c.of-home.ensures.header c.get-section.result.now section a c.in_ok-table.ensures.value c.args.span.now c.args.offset h.same c.node_within-node.result c.node_within-node.ensures
