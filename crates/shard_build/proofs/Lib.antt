@@ -22,3 +22,4 @@ pub mod UnitNumbers
 pub mod FoundShards
 pub mod AgainLaws
 pub mod AgainUnits
+pub mod WholeFile

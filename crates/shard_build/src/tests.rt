@@ -1,12 +1,17 @@
+ghost use Rattle.std.specs.Prelude.{map, IfOk};
+ghost use Rattle.std.specs.Arc.{arc_value};
+ghost use Rattle.shard_build.specs.Entries.{AreShardsOfFile};
+
 use crate::rows::{
-    IMPORT_PAST_THE_SECTION, LANGUAGE_0, NAME_BEFORE_ITS_BASE, PARTIAL_UNIT, THREE_UNITS,
-    TWO_DAMAGED_UNITS,
+    IMPORT_PAST_THE_SECTION, LANGUAGE_0, NAME_BEFORE_ITS_BASE, PARAMETER, PARTIAL_UNIT,
+    THREE_UNITS, TWO_DAMAGED_UNITS,
 };
-use crate::scan;
+use crate::{Entries, scan};
 use index_model::{Import, Next, Node, Shard, Span};
 use ix_base::code::{TRUNCATED, UNKNOWN_FORM};
 use ix_base::{Fault, Stop};
 use std::alloc::Global;
+use std::sync::Arc;
 use std::test::Fail;
 use unit_headers::Image;
 
@@ -175,5 +180,49 @@ fn a_partial_unit_has_its_own_language(rt: HostRuntime) -> Result<(), Fail> {
     let partial = shard.roots.as_slice().get(0).ok_or("no root")?;
     assert!(rt; partial.partial);
     assert_eq!(rt; partial.language, Some(0));
+    Ok(())
+}
+
+// The shard of all units.
+fn whole<'f>(alloc: Global, image: &Image<'f>) -> Result<[Arc<Shard<'f>>; 1], Fail>
+    ensures { IfOk result (λ shards. AreShardsOfFile image.now (map arc_value shards)) }
+{
+    let count = image.units().len() as u32;
+    let shard = scan(alloc, image, 0, count)?;
+    Ok([Arc::new(alloc, shard)?])
+}
+
+// The parameter has no node in the shard. Its entry ends at 0x63.
+#[test]
+fn gives_the_node_of_any_entry(rt: HostRuntime) -> Result<(), Fail> {
+    let image = Image::open(rt.alloc(), &PARAMETER)?;
+    let shards = whole(rt.alloc(), &image)?;
+    let mut entries = Entries::new(&image, &shards);
+    let function = entries.at(rt.alloc(), 0x35)?.ok_or("no entry")?;
+    assert!(rt; has_facts(&function, &(0, 0x35, Some(0x0c), 0x2e, Some(b"main"))));
+    let parameter = entries.at(rt.alloc(), 0x57)?.ok_or("no entry")?;
+    assert!(rt; has_facts(&parameter, &(0, 0x57, Some(0x35), 0x05, Some(b"argc"))));
+    for between in [0x0b, 0x0d, 0x56, 0x58, 0x63, 0x64, 0x65] {
+        assert_eq!(rt; entries.at(rt.alloc(), between)?, None);
+    }
+    Ok(())
+}
+
+// The third unit begins at 0x3e.
+#[test]
+fn a_reference_counts_from_where_its_form_says(rt: HostRuntime) -> Result<(), Fail> {
+    let image = Image::open(rt.alloc(), &THREE_UNITS)?;
+    let shards = whole(rt.alloc(), &image)?;
+    let mut entries = Entries::new(&image, &shards);
+    let near = |target| Next { target, near: true };
+    let far = |target| Next {
+        target,
+        near: false,
+    };
+    let method = entries.named(rt.alloc(), 2, near(0x1a))?.ok_or("no entry")?;
+    assert!(rt; has_facts(&method, &(2, 0x58, Some(0x55), 0x2e, Some(b"f"))));
+    let made = entries.named(rt.alloc(), 0, far(0x38))?.ok_or("no entry")?;
+    assert!(rt; has_facts(&made, &(1, 0x38, Some(0x31), 0x2e, None)));
+    assert_eq!(rt; entries.named(rt.alloc(), 0, near(0x38))?, None);
     Ok(())
 }
