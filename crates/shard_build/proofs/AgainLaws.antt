@@ -1,16 +1,14 @@
 -- An entry that is read again is that of its unit, and it has its texts.
-use Rattle.std.proofs.Common.{◌≡◌, ℕ, suc, ◌+◌, ◌-◌, ◌<◌, ◌≤◌, Bool, cond, eqb, length, List, [], ◌∷◌, Option, Some, None, Result, Ok, Err, refl, sym, ap, subst, ◌∙◌, arith, ⊎_elim}
+use Rattle.std.proofs.Common.{◌≡◌, ℕ, suc, ◌+◌, ◌-◌, ◌≤◌, Bool, eqb, length, List, [], ◌∷◌, Option, Some, None, Result, Ok, Err, refl, sym, ap, subst, ◌∙◌, arith, ⊎_elim}
 use Rattle.std.specs.Prelude.{Contains, codes, find, option_and_then}
-use Rattle.std.specs.Option.{option_map}
 use Rattle.std.proofs.lemmas.Bool.{cases_eq}
 use Rattle.ix_base.specs.declared.fault.Fault.{Fault}
 use Rattle.ix_base.specs.Reading.{Input}
 use Rattle.index_model.specs.declared.unit.Unit.{Unit as UnitHeader}
 use Rattle.index_model.specs.Abbreviations.{Abbrev, table}
-use Rattle.index_model.specs.Attributes.{read_as, as_offset, name_value, linkage_value}
+use Rattle.index_model.specs.Attributes.{read_as, as_offset}
 use Rattle.index_model.specs.Faults.{none_or, scanned}
-use Rattle.index_model.specs.Forms.{Inline}
-use Rattle.index_model.specs.Meaning.{◌>>=◌, ◌>>◌, at_place, each}
+use Rattle.index_model.specs.Meaning.{◌>>◌, at_place, each}
 use Rattle.index_model.specs.LawsTexts.{StandsIn}
 use Rattle.index_model.specs.Parents.{parent_offset}
 use Rattle.index_model.specs.ShardParts.{IsNodeOf}
@@ -23,7 +21,7 @@ use Rattle.index_model.proofs.Meanings.{bind_ok, then_ok, same_ok, contains_here
 use Rattle.index_model.proofs.OrderLaws.{walks_in_order, walk_rises}
 use Rattle.index_model.proofs.ParentLaws.{Rise, rise_below}
 use Rattle.index_model.proofs.Pairs.{to_map}
-use Rattle.index_model.proofs.Scans.{read, scanned_walked, walked_by}
+use Rattle.index_model.proofs.Scans.{read, walked_by}
 use Rattle.index_model.proofs.TextLaws.{attribute_texts_in}
 use Rattle.entry_scan.specs.Inside.{walked_of}
 use Rattle.unit_headers.specs.Images.{unit_bytes}

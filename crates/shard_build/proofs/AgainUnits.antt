@@ -1,10 +1,9 @@
 -- The unit of an entry that is read again.
-use Rattle.std.proofs.Common.{◌≡◌, ℕ, ◌+◌, ◌<◌, ◌≤◌, length, get_or, List, [], ◌∷◌, Option, Some, None, Result, Ok, refl, sym, ap, subst, ◌∙◌, arith, ⊎_elim}
+use Rattle.std.proofs.Common.{◌≡◌, ℕ, ◌+◌, ◌<◌, ◌≤◌, length, List, [], ◌∷◌, Option, Some, Result, Ok, refl, sym, ap, subst, ◌∙◌, arith, ⊎_elim}
 use Rattle.std.specs.Prelude.{Contains, codes, slice_get, IsSome}
 use Rattle.std.proofs.lemmas.Option.{get_or_from_slice_get}
 use Rattle.ix_base.specs.declared.code.TheConstants.{BAD_ABBREVIATION}
 use Rattle.ix_base.specs.declared.fault.Fault.{Fault}
-use Rattle.index_model.specs.declared.shard.Next.{Next}
 use Rattle.index_model.specs.declared.shard.Node.{Node}
 use Rattle.index_model.specs.declared.shard.Span.{Span}
 use Rattle.index_model.specs.declared.unit.Unit.{Unit as UnitHeader}
@@ -12,7 +11,7 @@ use Rattle.index_model.specs.Abbreviations.{Abbrev, table}
 use Rattle.index_model.specs.Attributes.{Reference}
 use Rattle.index_model.specs.Faults.{scanned, program_of}
 use Rattle.index_model.specs.Meaning.{fault}
-use Rattle.index_model.specs.Program.{Walked, Program, Located, walked, item_with_offset}
+use Rattle.index_model.specs.Program.{Walked, Program, walked, item_with_offset}
 use Rattle.index_model.specs.References.{target_of}
 use Rattle.index_model.specs.Sections.{Section, section_bytes}
 use Rattle.index_model.specs.ShardParts.{spans_of, as_next}
@@ -23,10 +22,9 @@ use Rattle.unit_headers.specs.Images.{Image, image_of, unit_bytes}
 use Rattle.shard_build.specs.declared.home.Home.{Home}
 use Rattle.shard_build.specs.Again.{walk_by, IsSound}
 use Rattle.shard_build.specs.Entries.{IsNodeIn}
-use Rattle.shard_build.specs.Found.{IsWithin, IsSpanOfParent, located_in_span}
+use Rattle.shard_build.specs.Found.{IsSpanOfParent, located_in_span}
 use Rattle.shard_build.specs.Kept.{target_by}
 use Rattle.shard_build.proofs.AgainLaws.{walk_is}
-use Rattle.shard_build.proofs.FoundSpans.{span_number}
 use Rattle.shard_build.proofs.UnitNumbers.{IsImageOf, image_is, has_number, unit_with_number}
 
 -- ---- the scans of a program

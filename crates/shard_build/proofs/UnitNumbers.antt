@@ -1,5 +1,5 @@
 -- The units of a file by their numbers: which shard has one, and in which an entry stands.
-use Rattle.std.proofs.Common.{◌≡◌, ℕ, zero, suc, ◌+◌, ◌-◌, ◌<◌, ◌≤◌, Bool, true, false, leb, ltb, ◌&&◌, List, [], ◌∷◌, ◌++◌, map, length, get_or, flat_map, Option, Some, None, Ok, refl, sym, ap, subst, ◌∙◌, arith, ⊎_elim}
+use Rattle.std.proofs.Common.{◌≡◌, ℕ, zero, suc, ◌+◌, ◌-◌, ◌<◌, ◌≤◌, true, leb, ltb, List, [], ◌∷◌, ◌++◌, map, length, get_or, Ok, refl, sym, ap, subst, ◌∙◌, arith, ⊎_elim}
 use Rattle.std.specs.Prelude.{Contains}
 use Rattle.std.specs.List.{AllZip}
 use Rattle.std.specs.List.Sorted.{IsNonDecreasingBy}
@@ -12,12 +12,12 @@ use Rattle.index_model.specs.declared.shard.Shard.{Shard}
 use Rattle.index_model.specs.declared.unit.Unit.{Unit as UnitHeader}
 use Rattle.index_model.specs.Faults.{program_of}
 use Rattle.index_model.specs.Program.{Walked, Program, items_of}
-use Rattle.index_model.specs.Sections.{Section, sections_of}
+use Rattle.index_model.specs.Sections.{Section}
 use Rattle.index_model.specs.ShardParts.{root_facts}
 use Rattle.index_model.specs.Shards.{StandsFor, AreShardsOf, IsRunOf, first_number}
 use Rattle.index_model.specs.Units.{units_of}
 use Rattle.index_model.specs.Walk.{Item}
-use Rattle.index_model.proofs.Meanings.{same_ok, contains_here, contains_later, contains_cases}
+use Rattle.index_model.proofs.Meanings.{same_ok, contains_here, contains_later}
 use Rattle.index_model.proofs.OrderLaws.{walks_in_order}
 use Rattle.index_model.proofs.Pairs.{Pairs, On, all_pairs, pairs_map, pairs_weaker}
 use Rattle.index_model.proofs.Scans.{AreScans, scanned_walked, program_parts}
@@ -25,7 +25,7 @@ use Rattle.index_model.proofs.ShardRoots.{Numbered, joined, program_numbered, nu
 use Rattle.index_model.proofs.UnitsApart.{Apart, pairs_cases, walk_parts, program_apart}
 use Rattle.unit_headers.specs.Images.{Image, image_of}
 use Rattle.unit_headers.proofs.Images.{parts_of}
-use Rattle.shard_build.specs.Found.{has_unit, IsUnitAt}
+use Rattle.shard_build.specs.Found.{has_unit}
 
 -- ---- numbers
 

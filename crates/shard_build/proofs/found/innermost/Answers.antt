@@ -1,4 +1,4 @@
-use Rattle.std.proofs.Common.{leb, rules, of_calls, ap, subst, sym, List, Option}
+use Rattle.std.proofs.Common.{leb, rules, of_calls, subst, sym, List, Option}
 use Rattle.std.specs.Option.{option_map}
 use Rattle.std.specs.Prelude.{IfSome, Contains}
 use Rattle.std.proofs.lemmas.List.Sorted.{IsPartitionPoint-from_clause}

@@ -1,12 +1,8 @@
-use Rattle.std.proofs.Common.{◌≡◌, ℕ, List, Option, Some, None, sym, subst, ap, ◌∙◌}
-use Rattle.std.specs.Prelude.{Contains, find}
-use Rattle.std.specs.Option.{option_map}
+use Rattle.std.proofs.Common.{◌≡◌, ℕ, List, Option, sym, subst, ap, ◌∙◌}
+use Rattle.std.specs.Prelude.{find}
 use Rattle.std.specs.List.Sorted.{IsNonDecreasingBy}
 use Rattle.index_model.specs.declared.shard.Node.{Node}
 use Rattle.index_model.specs.declared.shard.Shard.{Shard}
-use Rattle.index_model.specs.declared.shard.Span.{Span}
-use Rattle.index_model.specs.Parents.{IsParentAt}
-use Rattle.index_model.proofs.SpanOrder.{entry}
 use Rattle.index_model.proofs.UnitsApart.{run_apart}
 use Rattle.shard_build.proofs.FoundNodes.{has_offset, offsets_rise}
 use Rattle.shard_build.proofs.FoundSpans.{kept_found, within_found, nowhere_found}

@@ -1,4 +1,4 @@
-use Rattle.std.proofs.Common.{◌≡◌, ℕ, List, map, Option, Some, None, sym, subst, ap, ◌∙◌}
+use Rattle.std.proofs.Common.{map, sym, subst, ◌∙◌}
 use Rattle.std.specs.Arc.{arc_value}
 use Rattle.index_model.specs.declared.shard.Shard.{Shard}
 use Rattle.shard_build.specs.Found.{IsUnitAt, IsFoundIn}

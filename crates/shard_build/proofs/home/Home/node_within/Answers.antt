@@ -1,11 +1,9 @@
-use Rattle.std.proofs.Common.{◌≡◌, ℕ, Bool, Option, Some, Result, Ok, Err, refl, sym, ap, subst, ◌∙◌}
-use Rattle.std.specs.Prelude.{Contains}
+use Rattle.std.proofs.Common.{◌≡◌, ℕ, Some, Result, Ok, Err, refl, sym, ap, subst, ◌∙◌}
 use Rattle.std.specs.Option.{option_map}
 use Rattle.ix_base.specs.declared.fault.Fault.{Fault}
 use Rattle.index_model.specs.declared.unit.Unit.{Unit as UnitHeader}
 use Rattle.index_model.specs.Meaning.{at_place}
-use Rattle.index_model.specs.Program.{Located, items_of}
-use Rattle.index_model.specs.ShardParts.{item_in_span, IsNodeOf}
+use Rattle.index_model.specs.ShardParts.{item_in_span}
 use Rattle.index_model.specs.Strings.{Texts}
 use Rattle.index_model.specs.Walk.{Item}
 use Rattle.index_model.proofs.Meanings.{same_ok}
@@ -13,7 +11,7 @@ use Rattle.index_model.proofs.Scans.{scanned_walked}
 use Rattle.entry_scan.specs.Inside.{walked_of}
 use Rattle.shard_build.specs.Again.{walk_by}
 use Rattle.shard_build.specs.Entries.{IsNodeIn}
-use Rattle.shard_build.specs.Kept.{NodeSeen, node_under}
+use Rattle.shard_build.specs.Kept.{node_under}
 use Rattle.shard_build.specs.Texts.{HoldsTexts, texts_by, texts_seen}
 use Rattle.shard_build.proofs.AgainLaws.{holds_texts, texts_read, node_again}
 use Rattle.shard_build.proofs.FoundSpans.{in_span}

@@ -1,8 +1,8 @@
-use Rattle.std.proofs.Common.{◌≡◌, ℕ, List, ◌∷◌, Option, Ok, sym, ap, subst, ◌∙◌}
+use Rattle.std.proofs.Common.{◌≡◌, ℕ, ◌∷◌, Option, Ok, sym, ap, subst, ◌∙◌}
 use Rattle.entry_scan.specs.Ahead.{GivesItem}
 use Rattle.entry_scan.specs.declared.item.Item.{Item as Read}
 use Rattle.index_model.specs.declared.unit.Unit.{Unit as UnitHeader}
-use Rattle.index_model.specs.Walk.{Item, Walk, items}
+use Rattle.index_model.specs.Walk.{Walk, items}
 use Rattle.index_model.specs.Program.{items_of}
 use Rattle.index_model.specs.Attributes.{read_as, as_offset}
 use Rattle.index_model.proofs.Scans.{scanned_walked}
