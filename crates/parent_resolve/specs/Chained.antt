@@ -1,0 +1,29 @@
+-- What is known of a chain whose entries were followed (DWARF 5, 2.13.2 and 3.3.8.1).
+use Rattle.std.specs.Prelude.{◌≡◌, ℕ, ◌+◌, List, ◌∷◌, filter_map, Contains, Option, Some, None, option_map, option_and_then, Result, Ok, Err, ⊤}
+use Rattle.index_model.specs.declared.shard.Node.{Node}
+use Rattle.index_model.specs.Meaning.{◌>>=◌}
+use Rattle.index_model.specs.Program.{Program, Located}
+use Rattle.index_model.specs.Chains.{first, chain_end, hops_from, is_external, linkage_name_of}
+use Rattle.index_model.specs.ShardParts.{IsNodeOf}
+use Rattle.index_model.specs.Strings.{own_name}
+use Rattle.parent_resolve.specs.declared.chain.Chain.{Chain}
+use Rattle.parent_resolve.specs.Followed.{all_entries}
+
+-- the name on a chain: the first own name
+abbrev pub name_on : Program → List Located → Option (List ℕ)
+name_on p chain = first (filter_map (own_name p.sections) chain)
+
+-- what is kept of the chain
+pub record IsChain (p : Program) (d : Located) (c : Chain) (chain : List Located) : Type 0 where
+  pub end : IsNodeOf p.sections c.end (chain_end d chain)
+  pub there : Contains (all_entries p) (chain_end d chain)
+  pub external : c.external ≡ is_external chain
+  pub name : option_map (λ t. t.now) c.name ≡ name_on p chain
+  pub linkage : option_map (λ t. t.now) c.linkage ≡ linkage_name_of p chain
+
+-- the node is that of the entry which the next reference names, or there is none
+abbrev pub IsNext : Program → Option Node → Option Located → Type 0
+IsNext p None None = ⊤
+IsNext p None (Some e) = ⊥
+IsNext p (Some n) None = ⊥
+IsNext p (Some n) (Some e) = IsNodeOf p.sections n e × Contains (all_entries p) e

@@ -1,0 +1,4 @@
+pub mod Followed
+pub mod Chained
+pub mod Signed
+pub mod Visits

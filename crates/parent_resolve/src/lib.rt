@@ -1,0 +1,12 @@
+//! What the references of a file's entries give: their chains, the names that these spell, and which entries are followed
+//! (DWARF 5, sections 2.13.2, 3.3.8 and 7.32).
+#![tactic(auto)]
+
+mod chain;
+mod followed;
+mod references;
+mod signatures;
+mod visits;
+
+pub use followed::Followed;
+pub use references::References;

@@ -1,0 +1,64 @@
+//! The type units of a file by their signatures (DWARF 5, section 7.32).
+
+ghost use Rattle.std.specs.Prelude.{◌≡◌, ◌≤◌, IfOk, length};
+ghost use Rattle.parent_resolve.specs.Signed.{AreSigned, IsFirstSigned, type_units};
+
+use index_model::{Unit, UnitSort};
+use ix_base::{MAX_UNITS, NoMemory};
+use std::alloc::Global;
+use unit_headers::Image;
+
+/// A type unit, by what a signature is looked up for.
+#[derive(Clone, Copy, Debug, PartialEq, Eq)]
+pub(crate) struct TypeUnit {
+    pub(crate) signature: u64,
+    /// The number of the unit in section order, counted from 0.
+    pub(crate) unit: u32,
+    /// Where the type stands, counted from the unit's first byte.
+    pub(crate) type_offset: u64,
+}
+
+/// The type units of a file, by their signatures.
+#[derive(Drop)]
+pub(crate) struct Signatures {
+    /// By their signatures, and of one signature in section order.
+    pub(crate) units: Vec<TypeUnit>,
+}
+
+impl Signatures {
+    /// Those of an image.
+    pub(crate) fn of(alloc: Global, image: &Image<'_>) -> Result<Signatures, NoMemory>
+        ensures { IfOk result (λ s. AreSigned image.now.units s.units.items) }
+    {
+        let mut units = type_units(alloc, image.units())?;
+        units.sort_by_key(|unit| unit.signature)?;
+        Ok(Signatures { units })
+    }
+
+    /// The first type unit in section order that has the signature.
+    pub(crate) fn find(&self, signature: u64) -> Option<TypeUnit>
+        ensures { IsFirstSigned self.now.units.items signature result }
+    {
+        let place = self.units.partition_point(|unit| unit.signature < signature);
+        let unit = *self.units.get(place)?;
+        (unit.signature == signature).then_some(unit)
+    }
+}
+
+// The type units, in section order.
+fn type_units(alloc: Global, units: &[Unit]) -> Result<Vec<TypeUnit>, NoMemory>
+    requires { length units.now ≤ MAX_UNITS }
+    ensures { IfOk result (λ v. v.items ≡ type_units units.now) }
+{
+    let mut found = Vec::new(alloc);
+    for (number, unit) in units.iter().enumerate() {
+        if unit.sort == UnitSort::Unnamed {
+            found.push(TypeUnit {
+                signature: unit.signature,
+                unit: number as u32,
+                type_offset: unit.type_offset,
+            })?;
+        }
+    }
+    Ok(found)
+}
