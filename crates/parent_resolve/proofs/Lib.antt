@@ -1,1 +1,3 @@
 pub mod Entries
+pub mod SignedLaws
+pub mod VisitLaws

@@ -1,7 +1,8 @@
 //! The type units of a file by their signatures (DWARF 5, section 7.32).
 
 ghost use Rattle.std.specs.Prelude.{◌≡◌, ◌≤◌, IfOk, length};
-ghost use Rattle.parent_resolve.specs.Signed.{AreSigned, IsFirstSigned, type_units};
+ghost use Rattle.std.specs.List.Sorted.{IsNonDecreasingBy};
+ghost use Rattle.parent_resolve.specs.Signed.{AreSigned, IsFirstSigned, as_type_unit, first_signed, type_units};
 
 use index_model::{Unit, UnitSort};
 use ix_base::{MAX_UNITS, NoMemory};
@@ -39,10 +40,17 @@ impl Signatures {
     pub(crate) fn find(&self, signature: u64) -> Option<TypeUnit>
         ensures { IsFirstSigned self.now.units.items signature result }
     {
-        let place = self.units.partition_point(|unit| unit.signature < signature);
-        let unit = *self.units.get(place)?;
-        (unit.signature == signature).then_some(unit)
+        first_signed(self.units.as_slice(), signature)
     }
+}
+
+// The first of these that has the signature.
+fn first_signed(units: &[TypeUnit], signature: u64) -> Option<TypeUnit>
+    ensures { IsNonDecreasingBy (λ t. t.signature) units.now → result ≡ first_signed units.now signature }
+{
+    let place = units.partition_point(|unit| unit.signature < signature);
+    let unit = *units.get(place)?;
+    (unit.signature == signature).then_some(unit)
 }
 
 // The type units, in section order.
@@ -52,13 +60,23 @@ fn type_units(alloc: Global, units: &[Unit]) -> Result<Vec<TypeUnit>, NoMemory>
 {
     let mut found = Vec::new(alloc);
     for (number, unit) in units.iter().enumerate() {
-        if unit.sort == UnitSort::Unnamed {
-            found.push(TypeUnit {
-                signature: unit.signature,
-                unit: number as u32,
-                type_offset: unit.type_offset,
-            })?;
+        if let Some(unit) = as_type_unit(number as u32, unit) {
+            found.push(unit)?;
         }
     }
     Ok(found)
+}
+
+// What is kept of the unit with this number, if it is a type unit.
+fn as_type_unit(number: u32, unit: &Unit) -> Option<TypeUnit>
+    ensures { result ≡ as_type_unit (number, unit.now) }
+{
+    match unit.sort {
+        UnitSort::Unnamed => Some(TypeUnit {
+            signature: unit.signature,
+            unit: number,
+            type_offset: unit.type_offset,
+        }),
+        _ => None,
+    }
 }
