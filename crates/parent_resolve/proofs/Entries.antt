@@ -22,7 +22,7 @@ use Rattle.parent_resolve.specs.Followed.{all_entries}
 abbrev pub Below : Located → Located → Type 0
 Below d e = d.item.at < e.item.at
 
-abbrev at_home : Walked → Item → Located
+abbrev pub at_home : Walked → Item → Located
 at_home w d = record { home = w; item = d }
 
 abbrev ItemsRise : Item → Item → Type 0
@@ -42,7 +42,7 @@ module _ (ss : List Section) where
   unit_rises : (w : Walked) → IsWalk ss w → Pairs Below (located w)
   unit_rises w walk = let r = walk_rises ss walk.0 w walk.1 in pairs_map Below (at_home w) (items_of w) (items_rise r.0 (items_of w) r.1)
 
-  order : (w : Walked) → IsWalk ss w → IsInOrder w
+  pub order : (w : Walked) → IsWalk ss w → IsInOrder w
   order w walk = walks_in_order ss walk.0 w walk.1
 
   between : (v w : Walked) → IsWalk ss v → IsWalk ss w → Apart v w → (d e : Located) → Contains (located v) d → Contains (located w) e → Below d e
@@ -51,7 +51,7 @@ module _ (ss : List Section) where
       let b = (order w ww).inside e.item (in_unit w e ec).1 in
       omega (arith, a.some, a.ends, b.begins, apart.1)
 
-  runs_rise : (ws : List Walked) → AreApart ss ws → Pairs Below (flat_map located ws)
+  pub runs_rise : (ws : List Walked) → AreApart ss ws → Pairs Below (flat_map located ws)
   runs_rise [] a = tt
   runs_rise (w ∷ ws) a = pairs_append Below (located w) (flat_map located ws)
       (unit_rises w (a.walks w (contains_here w ws)))
@@ -98,21 +98,52 @@ to_flat_map f (z ∷ zs) x y c m = ⊎_elim
     (λ (later : Contains zs x). Contains-append_right (f z) (flat_map f zs) y (to_flat_map f zs x y later m))
     (contains_cases z zs x c)
 
+-- the unit of an entry of these units
+pub home_of : (ws : List Walked) (d : Located) → Contains (flat_map located ws) d → Contains ws d.home × Contains (items_of d.home) d.item
+home_of ws d c =
+    let m = of_flat_map located ws d c in
+    let u = in_unit m.0 d m.2 in
+    (subst (Contains ws) (sym u.0) m.1, subst (λ (w : Walked). Contains (items_of w) d.item) (sym u.0) u.1)
+
 -- the unit of an entry
 pub home_in : (p : Program) (d : Located) → Contains (all_entries p) d → Contains p.walks d.home × Contains (items_of d.home) d.item
-home_in p d c =
-    let m = of_flat_map located p.walks d c in
-    let u = in_unit m.0 d m.2 in
-    (subst (Contains p.walks) (sym u.0) m.1, subst (λ (w : Walked). Contains (items_of w) d.item) (sym u.0) u.1)
+home_in p d c = home_of p.walks d c
+
+-- an item of one of these units is an entry of them
+pub entry_of : (ws : List Walked) (w : Walked) (d : Item) → Contains ws w → Contains (items_of w) d → Contains (flat_map located ws) (at_home w d)
+entry_of ws w d wc dc = to_flat_map located ws w (at_home w d) wc (to_map (at_home w) (items_of w) d dc)
 
 -- an item of a unit is an entry
 pub entry_in : (p : Program) (w : Walked) (d : Item) → Contains p.walks w → Contains (items_of w) d → Contains (all_entries p) (at_home w d)
-entry_in p w d wc dc = to_flat_map located p.walks w (at_home w d) wc (to_map (at_home w) (items_of w) d dc)
+entry_in p w d wc dc = entry_of p.walks w d wc dc
 
 -- what is found at an offset is an entry of the program and has that offset
 pub found_entry : (p : Program) (o : ℕ) (d : Located) → item_with_offset p o ≡ Some d → Contains (all_entries p) d × (d.item.at ≡ o)
 unfolding item_with_offset
 found_entry p o d is = found_has o (all_entries p) d is
+
+-- a parent in a unit whose entries are in order
+pub record IsAbove (w : Walked) (d e : Item) : Type 0 where
+  pub member : Contains (items_of w) e
+  pub earlier : e.at < d.at
+  pub below : 0 < d.depth
+
+pub above : (w : Walked) → IsInOrder w → (d : Item) → Contains (items_of w) d → (e : Item) → parent_of (items_of w) d ≡ Some e → IsAbove w d e
+above w o d c e is = ⊎_elim
+    (λ (top : d.depth ≡ 0). let none : None ≡ Some e = sym (o.root d c top).1 ∙ is in absurd cc)
+    (λ (below : d.depth ≡ 0 → ⊥).
+    let deep : 0 < d.depth = omega (arith, below) in
+    let m = o.parents d c deep in
+    let same : m.parent ≡ e = same_some m.parent e (sym m.is ∙ is) in
+    record { member = subst (Contains (items_of w)) same m.member; earlier = subst (λ (x : Item). x.at < d.at) same m.earlier; below = deep })
+    (cases_eq d.depth 0)
+
+-- an entry without a parent is a root
+pub top : (w : Walked) → IsInOrder w → (d : Item) → Contains (items_of w) d → parent_of (items_of w) d ≡ None → d.depth ≡ 0
+top w o d c is = ⊎_elim
+    (λ (zero_ : d.depth ≡ 0). zero_)
+    (λ (below : d.depth ≡ 0 → ⊥). let m = o.parents d c (omega (arith, below)) in let never : Some m.parent ≡ None = sym m.is ∙ is in absurd cc)
+    (cases_eq d.depth 0)
 
 module _ (f : List ℕ) (p : Program) (file : program_of f ≡ Ok p) where
   pub entries_rise : Pairs Below (all_entries p)
@@ -131,13 +162,7 @@ module _ (f : List ℕ) (p : Program) (file : program_of f ≡ Ok p) where
   unit_in_order w c = order p.sections w ((program_apart f p file).walks w c)
 
   parent_in : (d : Located) → Contains (all_entries p) d → (e : Item) → parent_of (items_of d.home) d.item ≡ Some e → Contains (items_of d.home) e
-  parent_in d c e is =
-      let h = home_in p d c in
-      let o = unit_in_order d.home h.0 in
-      ⊎_elim
-      (λ (top : d.item.depth ≡ 0). let none : None ≡ Some e = sym (o.root d.item h.1 top).1 ∙ is in absurd cc)
-      (λ (below : d.item.depth ≡ 0 → ⊥). let m = o.parents d.item h.1 (omega (arith, below)) in subst (Contains (items_of d.home)) (same_some m.parent e (sym m.is ∙ is)) m.member)
-      (cases_eq d.item.depth 0)
+  parent_in d c e is = let h = home_in p d c in (above d.home (unit_in_order d.home h.0) d.item h.1 e is).member
 
   -- the scope around an entry is an entry of the same unit
   pub scope_there : (d : Located) → Contains (all_entries p) d → (m : Located) → scope_around d ≡ Some m → Contains (all_entries p) m × (m.home ≡ d.home)

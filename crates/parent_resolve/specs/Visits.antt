@@ -1,5 +1,5 @@
 -- Which of a shard's entries are visited.
-use Rattle.std.specs.Prelude.{◌≡◌, ℕ, List, Bool, flat_map, Contains, Ok}
+use Rattle.std.specs.Prelude.{◌≡◌, ℕ, ◌<◌, List, Bool, flat_map, Contains, length, slice_index_or, Ok}
 use Rattle.index_model.specs.declared.shard.Node.{Node}
 use Rattle.index_model.specs.declared.shard.Shard.{Shard}
 use Rattle.index_model.specs.Faults.{program_of}
@@ -13,3 +13,13 @@ use Rattle.index_model.specs.Shards.{IsRunOf, StandsFor}
 abbrev pub IsVisitedBy : Shard → Node → Bool → Bool → Type 0
 IsVisitedBy s node ada answer = (file : List ℕ) (p : Program) (run : List Walked) → program_of file ≡ Ok p → IsRunOf p run → StandsFor p.sections s run →
     (d : Located) → Contains (flat_map located run) d → IsNodeOf p.sections node d → ada ≡ is_ada (class_of_unit p d.home) → answer ≡ is_visited ada (items_of d.home) d.item
+
+-- the node has the offset, and stands at the place
+pub record IsNodeAt (nodes : List Node) (at place : ℕ) (n : Node) : Type 0 where
+  pub within : place < length nodes
+  pub is : n ≡ slice_index_or nodes place n
+  pub offset : n.offset ≡ at
+
+-- no node has the offset
+abbrev pub HasNoneAt : List Node → ℕ → Type 0
+HasNoneAt nodes offset = (k : ℕ) (n : Node) → k < length nodes → (slice_index_or nodes k n).offset ≡ offset → ⊥

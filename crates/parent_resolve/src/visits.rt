@@ -1,23 +1,22 @@
 //! Which entries of a shard are visited.
 
-ghost use Rattle.std.specs.Prelude.{◌≡◌, ◌==◌, find, option_map};
+ghost use Rattle.std.specs.Prelude.{IfSome, IsNone};
 ghost use Rattle.std.specs.List.Sorted.{IsNonDecreasingBy};
-ghost use Rattle.parent_resolve.specs.Visits.{IsVisitedBy};
+ghost use Rattle.parent_resolve.specs.Visits.{HasNoneAt, IsNodeAt, IsVisitedBy};
 
 use entry_rules::visited;
 use index_model::{Node, Parent, Shard};
-use ix_base::MAX_DEPTH;
 
 /// Whether an entry of the shard's units is visited, in a unit whose class is Ada or isn't.
 pub(crate) fn is_visited(shard: &Shard<'_>, node: &Node<'_>, ada: bool) -> bool
     ensures { IsVisitedBy shard.now node.now ada result }
 {
+    let nodes = shard.nodes.as_slice();
     let mut parent = node.parent;
-    for _ in 0..MAX_DEPTH {
-        let Some(offset) = parent else {
-            return false;
-        };
-        let Some(above) = node_at(shard.nodes.as_slice(), offset) else {
+    // The entries above stand before it.
+    let mut before = nodes.len();
+    while let Some(offset) = parent {
+        let Some((place, above)) = node_at(&nodes[..before], offset) else {
             return false;
         };
         if above.parent.is_none() {
@@ -27,18 +26,20 @@ pub(crate) fn is_visited(shard: &Shard<'_>, node: &Node<'_>, ada: bool) -> bool
             return false;
         }
         parent = above.parent;
+        before = place;
     }
     false
 }
 
-// The node at an offset, if there is one.
-fn node_at<'s, 'f>(nodes: &'s [Node<'f>], offset: u64) -> Option<&'s Node<'f>>
-    ensures { IsNonDecreasingBy (λ n. n.offset) nodes.now → option_map (λ n. n.now) result ≡ find (λ n. n.offset == offset) nodes.now }
+// The node at an offset with its place, if there is one.
+fn node_at<'s, 'f>(nodes: &'s [Node<'f>], offset: u64) -> Option<(usize, &'s Node<'f>)>
+    ensures found { IfSome result (λ x. IsNodeAt nodes.now offset x.0 x.1.now) }
+    ensures none { IsNone result → IsNonDecreasingBy (λ n. n.offset) nodes.now → HasNoneAt nodes.now offset }
 {
     let place = nodes.partition_point(|node| node.offset < offset);
     let node = nodes.get(place)?;
     if node.offset == offset {
-        Some(node)
+        Some((place, node))
     } else {
         None
     }
