@@ -1,3 +1,6 @@
 pub mod Entries
 pub mod SignedLaws
 pub mod VisitLaws
+pub mod ChainLaws
+pub mod SignatureLaws
+pub mod FollowLaws

@@ -1,9 +1,8 @@
 -- What is known of a chain whose entries were followed (DWARF 5, 2.13.2 and 3.3.8.1).
-use Rattle.std.specs.Prelude.{◌≡◌, ℕ, ◌+◌, List, ◌∷◌, filter_map, Contains, Option, Some, None, option_map, option_and_then, Result, Ok, Err, ⊤}
+use Rattle.std.specs.Prelude.{◌≡◌, ℕ, List, [], ◌∷◌, ◌++◌, filter_map, Contains, Option, Some, None, option_map, ⊤}
 use Rattle.index_model.specs.declared.shard.Node.{Node}
-use Rattle.index_model.specs.Meaning.{◌>>=◌}
 use Rattle.index_model.specs.Program.{Program, Located}
-use Rattle.index_model.specs.Chains.{first, chain_end, hops_from, is_external, linkage_name_of}
+use Rattle.index_model.specs.Chains.{first, chain_end, is_external, linkage_name_of}
 use Rattle.index_model.specs.ShardParts.{IsNodeOf}
 use Rattle.index_model.specs.Strings.{own_name}
 use Rattle.parent_resolve.specs.declared.chain.Chain.{Chain}
@@ -20,6 +19,14 @@ pub record IsChain (p : Program) (d : Located) (c : Chain) (chain : List Located
   pub external : c.external ≡ is_external chain
   pub name : option_map (λ t. t.now) c.name ≡ name_on p chain
   pub linkage : option_map (λ t. t.now) c.linkage ≡ linkage_name_of p chain
+
+-- what begins a chain: what is kept of an entry alone
+abbrev pub BeginsWith : Node → Chain → Type 0
+BeginsWith node c = (p : Program) (d : Located) → IsNodeOf p.sections node d → Contains (all_entries p) d → IsChain p d c (d ∷ [])
+
+-- what is kept of a chain with one more entry
+abbrev pub GoesOnWith : Chain → Node → Chain → Type 0
+GoesOnWith old node new = (p : Program) (d e : Located) (chain : List Located) → IsChain p d old chain → IsNodeOf p.sections node e → Contains (all_entries p) e → IsChain p d new (chain ++ e ∷ [])
 
 -- the node is that of the entry which the next reference names, or there is none
 abbrev pub IsNext : Program → Option Node → Option Located → Type 0

@@ -1,9 +1,10 @@
 -- The type units of a file by their signatures (DWARF 5, 7.32).
-use Rattle.std.specs.Prelude.{◌≡◌, ℕ, ◌==◌, if◌then◌else◌, List, filter_map, find, Option, Some, None}
+use Rattle.std.specs.Prelude.{◌≡◌, ℕ, ◌==◌, if◌then◌else◌, List, filter_map, find, Option, Some, None, Ok}
 use Rattle.std.specs.List.{enumerate_from}
 use Rattle.std.specs.List.Sorted.{IsNonDecreasingBy}
 use Rattle.index_model.specs.declared.unit.Unit.{Unit as UnitHeader}
 use Rattle.index_model.specs.Chains.{is_type_unit}
+use Rattle.unit_headers.specs.Images.{Image, image_of}
 use Rattle.parent_resolve.specs.declared.signatures.TypeUnit.{TypeUnit}
 
 -- what is kept of a unit with its number, if it is a type unit
@@ -22,6 +23,11 @@ first_signed ts s = find (λ t. t.signature == s) ts
 pub record AreSigned (units : List UnitHeader) (ts : List TypeUnit) : Type 0 where
   pub rise : IsNonDecreasingBy (λ t. t.signature) ts
   pub first : (s : ℕ) → first_signed ts s ≡ first_signed (type_units units) s
+
+-- the image is that of its file, and these are its type units
+pub record AreTypeUnitsOf (image : Image) (ts : List TypeUnit) : Type 0 where
+  pub of_file : image_of image.file ≡ Ok image
+  pub signed : AreSigned image.units ts
 
 -- whatever units they are those of
 abbrev pub IsFirstSigned : List TypeUnit → ℕ → Option TypeUnit → Type 0

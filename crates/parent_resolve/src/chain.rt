@@ -5,7 +5,7 @@ ghost use Rattle.std.specs.Prelude.{◌≡◌};
 ghost use Rattle.index_model.specs.Chains.{chain_of, next_of};
 ghost use Rattle.index_model.specs.Gives.{GivesFor};
 ghost use Rattle.index_model.specs.Meaning.{at_place};
-ghost use Rattle.parent_resolve.specs.Chained.{IsChain, IsNext};
+ghost use Rattle.parent_resolve.specs.Chained.{BeginsWith, GoesOnWith, IsChain, IsNext};
 ghost use Rattle.parent_resolve.specs.Followed.{ForEntry};
 
 use index_model::Node;
@@ -29,7 +29,9 @@ pub(crate) struct Chain<'f> {
 
 impl<'f> Chain<'f> {
     // The chain of one entry alone.
-    fn of(node: &Node<'f>) -> Chain<'f> {
+    fn of(node: &Node<'f>) -> Chain<'f>
+        ensures { BeginsWith node.now result }
+    {
         Chain {
             end: *node,
             external: node.external,
@@ -39,7 +41,9 @@ impl<'f> Chain<'f> {
     }
 
     // The chain with one more entry.
-    fn with(self, node: &Node<'f>) -> Chain<'f> {
+    fn with(&self, node: &Node<'f>) -> Chain<'f>
+        ensures { GoesOnWith self.now node.now result }
+    {
         Chain {
             end: *node,
             external: self.external || node.external,

@@ -8,7 +8,7 @@ ghost use Rattle.index_model.specs.Meaning.{at_place};
 ghost use Rattle.index_model.specs.Program.{item_with_offset};
 ghost use Rattle.shard_build.specs.Entries.{AreShardsOfFile, ForProgram, IsNodeIn};
 ghost use Rattle.parent_resolve.specs.Followed.{ForEntry, IsFollowed, IsText, followed_of};
-ghost use Rattle.parent_resolve.specs.Signed.{AreSigned};
+ghost use Rattle.parent_resolve.specs.Signed.{AreTypeUnitsOf};
 
 use crate::chain::chain_of;
 use crate::followed::Followed;
@@ -31,13 +31,13 @@ pub struct References<'s, 'f> {
 
 impl<'s, 'f> Model for References<'s, 'f> {
     ghost use Rattle.shard_build.specs.Entries.{EntriesOf};
-    ghost use Rattle.parent_resolve.specs.Signed.{AreSigned};
+    ghost use Rattle.parent_resolve.specs.Signed.{AreTypeUnitsOf};
 
     ghost Value = { EntriesOf };
 
     ghost view = { λ r. r.entries };
 
-    ghost invariant = { λ r. AreSigned r.entries.image.units r.signatures.units.items };
+    ghost invariant = { λ r. AreTypeUnitsOf r.entries.image r.signatures.units.items };
 }
 
 impl<'s, 'f> References<'s, 'f> {
@@ -113,7 +113,7 @@ fn name_by_signature<'f>(
     node: &Node<'f>,
     at: u64,
 ) -> Result<Option<&'f [u8]>, Stop>
-    requires { AreSigned entries.old.image.units signatures.now.units.items }
+    requires { AreTypeUnitsOf entries.old.image signatures.now.units.items }
     ensures value { ForEntry entries.old node.now (λ p d. GivesFor IsText result (at_place at (name_by_signature p d))) }
     ensures kept { entries.new ≡ entries.old }
 {

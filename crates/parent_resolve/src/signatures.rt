@@ -2,7 +2,7 @@
 
 ghost use Rattle.std.specs.Prelude.{◌≡◌, ◌≤◌, IfOk, length};
 ghost use Rattle.std.specs.List.Sorted.{IsNonDecreasingBy};
-ghost use Rattle.parent_resolve.specs.Signed.{AreSigned, IsFirstSigned, as_type_unit, first_signed, type_units};
+ghost use Rattle.parent_resolve.specs.Signed.{AreTypeUnitsOf, IsFirstSigned, as_type_unit, first_signed, type_units};
 
 use index_model::{Unit, UnitSort};
 use ix_base::{MAX_UNITS, NoMemory};
@@ -29,7 +29,7 @@ pub(crate) struct Signatures {
 impl Signatures {
     /// Those of an image.
     pub(crate) fn of(alloc: Global, image: &Image<'_>) -> Result<Signatures, NoMemory>
-        ensures { IfOk result (λ s. AreSigned image.now.units s.units.items) }
+        ensures { IfOk result (λ s. AreTypeUnitsOf image.now s.units.items) }
     {
         let mut units = type_units(alloc, image.units())?;
         units.sort_by_key(|unit| unit.signature)?;
