@@ -1,9 +1,9 @@
 -- Chains, hop by hop.
-use Rattle.std.proofs.Common.{◌≡◌, ℕ, zero, suc, ◌+◌, ◌-◌, ◌<◌, ◌≤◌, Bool, true, false, ◌||◌, List, [], ◌∷◌, ◌++◌, Option, Some, None, option_map, Result, Ok, Err, refl, sym, ap, subst, ◌∙◌, arith, append_assoc, append-nil}
+use Rattle.std.proofs.Common.{◌≡◌, ℕ, zero, suc, ◌+◌, ◌-◌, ◌<◌, Bool, true, false, ◌||◌, List, [], ◌∷◌, ◌++◌, Option, Some, None, option_map, Result, Ok, Err, refl, sym, ap, subst, ◌∙◌, arith, append_assoc, append-nil}
 use denote.Ref.{Bor}
 use Rattle.std.specs.Prelude.{Contains, filter_map, option_and_then, IsOkAnd}
 use Rattle.std.specs.Option.{option_or}
-use Rattle.std.specs.List.{cons_option, list_any}
+use Rattle.std.specs.List.{cons_option}
 use Rattle.std.proofs.lemmas.List.Folds.{list_any-append}
 use Rattle.ix_base.specs.declared.fault.Fault.{Fault}
 use Rattle.ix_base.specs.declared.code.TheConstants.{BAD_REFERENCE, REFERENCE_CHAIN}
@@ -13,8 +13,7 @@ use Rattle.ix_base.specs.declared.fault.Stop.TheVariants as stops
 use Rattle.index_model.specs.declared.shard.Node.{Node}
 use Rattle.index_model.specs.declared.shard.Next.{Next}
 use Rattle.index_model.specs.Attributes.{Reference, next_reference, has_external, signature_of}
-use Rattle.index_model.specs.Chains.{first, next_of, hop, hops_from, chain_of, chain_end, is_external, linkage_name_of}
-use Rattle.index_model.specs.Faults.{program_of}
+use Rattle.index_model.specs.Chains.{first, next_of, hops_from, chain_of, chain_end, is_external, linkage_name_of}
 use Rattle.index_model.specs.Gives.{GivesFor, StopsAs}
 use Rattle.index_model.specs.Meaning.{◌>>=◌, fault, at_place, if_some, some_or}
 use Rattle.index_model.specs.Program.{Walked, Program, Located, item_with_offset}
@@ -222,6 +221,7 @@ module _ (p : Program) (d : Located) where
         where
           same : n ≡ k
           same = omega (arith, one)
+
           by : (r : Result (List Located) ℕ) → ((r >>= λ others. Ok (e ∷ others)) >>= with_seen) ≡ (r >>= with_after)
           by (Ok xs) = ap (λ (ys : List Located). let r : Result (List Located) ℕ = Ok (d ∷ ys) in r) (sym (append_assoc h.seen (e ∷ []) xs))
           by (Err code) = refl

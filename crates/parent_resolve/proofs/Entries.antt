@@ -1,5 +1,5 @@
 -- The entries of a program: an offset is that of one entry.
-use Rattle.std.proofs.Common.{◌≡◌, ℕ, suc, ◌+◌, ◌<◌, ◌≤◌, Bool, true, false, cond, eqb, List, [], ◌∷◌, flat_map, Option, Some, None, Ok, option_map, refl, sym, ap, subst, ◌∙◌, arith, inl, inr, ⊎_elim}
+use Rattle.std.proofs.Common.{◌≡◌, ℕ, suc, ◌<◌, Bool, true, false, cond, eqb, List, [], ◌∷◌, flat_map, Option, Some, None, Ok, option_map, refl, sym, ap, subst, ◌∙◌, arith, ⊎_elim}
 use Rattle.std.specs.Prelude.{Contains, find}
 use Rattle.std.proofs.lemmas.List.Elements.{Contains-append_left, Contains-append_right}
 use Rattle.std.proofs.lemmas.Bool.{eqb-true, eq-eqb, ne_eqb, cases_eq}
@@ -7,13 +7,12 @@ use Rattle.index_model.specs.Faults.{program_of}
 use Rattle.index_model.specs.Program.{Walked, Program, Located, items_of, located, scope_around, item_with_offset}
 use Rattle.index_model.specs.Walk.{Item, parent_of}
 use Rattle.index_model.specs.Sections.{Section}
-use Rattle.index_model.specs.Shards.{IsRunOf}
-use Rattle.index_model.specs.LawsOrder.{IsInOrder, HasParent}
+use Rattle.index_model.specs.LawsOrder.{IsInOrder}
 use Rattle.index_model.proofs.Meanings.{contains_here, contains_later, contains_cases, same_some}
-use Rattle.index_model.proofs.Pairs.{Pairs, On, of_map, to_map, of_flat_map, pairs_append, pairs_map, pairs_weaker}
+use Rattle.index_model.proofs.Pairs.{Pairs, of_map, to_map, of_flat_map, pairs_append, pairs_map}
 use Rattle.index_model.proofs.ParentLaws.{Rise, rise_below}
 use Rattle.index_model.proofs.OrderLaws.{walks_in_order, walk_rises}
-use Rattle.index_model.proofs.UnitsApart.{Apart, IsWalk, AreApart, program_apart, run_apart}
+use Rattle.index_model.proofs.UnitsApart.{Apart, IsWalk, AreApart, program_apart}
 use Rattle.parent_resolve.specs.Followed.{all_entries}
 
 -- ---- offsets rise

@@ -5,8 +5,7 @@ use Rattle.index_model.specs.Chains.{chain_of, spelled_name, name_by_signature}
 use Rattle.index_model.specs.Meaning.{◌>>=◌, some_else}
 use Rattle.index_model.specs.Program.{Program, Located}
 use Rattle.parent_resolve.specs.declared.chain.Chain.{Chain}
-use Rattle.parent_resolve.specs.declared.followed.Followed.{Followed}
-use Rattle.parent_resolve.specs.Chained.{IsChain, name_on}
+use Rattle.parent_resolve.specs.Chained.{IsChain}
 use Rattle.parent_resolve.specs.Followed.{IsFollowed, IsText, Named, followed_of}
 
 -- the text of a name

@@ -1,23 +1,19 @@
 -- The name by a signature.
-use Rattle.std.proofs.Common.{◌≡◌, ℕ, suc, ◌+◌, Bool, true, false, cond, eqb, ◌&&◌, List, [], ◌∷◌, Option, Some, None, option_map, Result, Ok, Err, refl, sym, ap, subst, ◌∙◌, arith, inl, inr, ⊎_elim}
-use denote.Ref.{Bor}
-use Rattle.std.specs.Prelude.{Contains, find, filter_map, option_and_then}
+use Rattle.std.proofs.Common.{◌≡◌, ℕ, ◌+◌, Bool, true, false, cond, eqb, ◌&&◌, List, [], ◌∷◌, Option, Some, None, Result, Ok, Err, refl, sym, ap, subst, ◌∙◌}
+use Rattle.std.specs.Prelude.{Contains, find, filter_map}
 use Rattle.std.specs.List.{enumerate_from, cons_option}
-use Rattle.ix_base.specs.declared.fault.Fault.{Fault}
 use Rattle.ix_base.specs.declared.code.TheConstants.{BAD_REFERENCE}
 use Rattle.index_model.specs.declared.unit.Unit.{Unit as UnitHeader}
-use Rattle.index_model.specs.declared.shard.Node.{Node}
 use Rattle.index_model.specs.Attributes.{Reference, signature_of}
 use Rattle.index_model.specs.Chains.{is_type_unit, name_signed, name_by_signature}
 use Rattle.index_model.specs.Faults.{program_of}
 use Rattle.index_model.specs.Meaning.{◌>>=◌, if_some, some_or}
-use Rattle.index_model.specs.Program.{Walked, Program, Located, item_with_offset}
-use Rattle.index_model.specs.References.{entry_named, target_of}
-use Rattle.index_model.specs.Sections.{Section, sections_of}
+use Rattle.index_model.specs.Program.{Walked, Program, Located}
+use Rattle.index_model.specs.References.{entry_named}
+use Rattle.index_model.specs.Sections.{Section}
 use Rattle.index_model.specs.Units.{units_of}
-use Rattle.index_model.specs.ShardParts.{IsNodeOf}
 use Rattle.index_model.specs.Strings.{own_name}
-use Rattle.index_model.proofs.Meanings.{contains_here, contains_later, same_ok, same_some}
+use Rattle.index_model.proofs.Meanings.{contains_here, contains_later, same_ok}
 use Rattle.index_model.proofs.Scans.{AreScans, scanned_walked, program_parts}
 use Rattle.index_model.proofs.UnitsApart.{walk_parts}
 use Rattle.unit_headers.specs.Images.{Image, image_of}
@@ -25,7 +21,6 @@ use Rattle.unit_headers.proofs.Images.{parts_of}
 use Rattle.shard_build.specs.Entries.{entry_meant}
 use Rattle.parent_resolve.specs.declared.signatures.TypeUnit.{TypeUnit}
 use Rattle.parent_resolve.specs.Signed.{as_type_unit, type_units, first_signed}
-use Rattle.parent_resolve.proofs.ChainLaws.{says}
 
 -- ---- the type unit with a signature
 
@@ -47,12 +42,15 @@ module _ (s : ℕ) where
 
   later : (w : Walked) (ws : List Walked) (o : Option TypeUnit) → is_signed w ≡ false → Same ws o → Same (w ∷ ws) o
   later w ws None off h = ap (λ (b : Bool). cond b (Some w) (find is_signed ws)) off ∙ h
-  later w ws (Some t) off h = (h.0, record {
-    found = ap (λ (b : Bool). cond b (Some w) (find is_signed ws)) off ∙ h.1.found;
-    member = contains_later w ws h.0 h.1.member;
-    number = h.1.number;
-    type_offset = h.1.type_offset;
-  })
+  later w ws (Some t) off h = (
+    h.0,
+    record {
+      found = ap (λ (b : Bool). cond b (Some w) (find is_signed ws)) off ∙ h.1.found;
+      member = contains_later w ws h.0 h.1.member;
+      number = h.1.number;
+      type_offset = h.1.type_offset;
+    },
+  )
 
   same_units : (ss : List Section) (n : ℕ) (us : List UnitHeader) (ws : List Walked) → AreScans ss n us ws → Same ws (first_signed (filter_map as_type_unit (enumerate_from n us)) s)
   same_units ss n [] [] h = refl
@@ -62,13 +60,17 @@ module _ (s : ℕ) where
     where
       parts : (w.number ≡ n) × (w.unit ≡ u)
       parts = walk_parts ss (n, u) w (scanned_walked ss (n, u) w h.0).0
+
       more : List TypeUnit
       more = filter_map as_type_unit (enumerate_from (n + 1) us)
+
       made : TypeUnit
       made = record { signature = u.signature; unit = n; type_offset = u.type_offset }
+
       computes : (t : Bool) → first_signed (cons_option (cond t (Some made) None) more) s ≡ cond t (cond (eqb u.signature s) (Some made) (first_signed more s)) (first_signed more s)
       computes true = refl
       computes false = refl
+
       by : (t g : Bool) → is_signed w ≡ (t && g) → Same ws (first_signed more s) → Same (w ∷ ws) (cond t (cond g (Some made) (first_signed more s)) (first_signed more s))
       by true true e others = (w, record { found = ap (λ (b : Bool). cond b (Some w) (find is_signed ws)) e; member = contains_here w ws; number = parts.0; type_offset = ap (λ (x : UnitHeader). x.type_offset) parts.1 })
       by true false e others = later w ws (first_signed more s) e others

@@ -1,158 +1,43 @@
 -- Whether an entry is visited, by the nodes of a shard.
-use Rattle.std.proofs.Common.{◌≡◌, ℕ, zero, suc, ◌+◌, ◌<◌, ◌≤◌, Bool, true, false, cond, eqb, not, ◌&&◌, ◌||◌, List, [], ◌∷◌, length, take, flat_map, get_or, Option, Some, None, option_map, Ok, refl, sym, ap, subst, ◌∙◌, arith, inl, inr, ⊎_elim}
-use Rattle.std.specs.Prelude.{Contains, filter, find, unwrap_or, is_none, is_some}
-use Rattle.std.specs.Option.{option_or}
-use Rattle.std.specs.List.{AllZip}
+use Rattle.std.proofs.Common.{◌≡◌, ℕ, ◌<◌, ◌≤◌, Bool, true, false, cond, eqb, not, ◌||◌, List, ◌++◌, length, take, flat_map, get_or, Option, Some, None, option_map, Ok, refl, sym, ap, subst, ◌∙◌, arith, ⊎_elim}
+use denote.Ref.{Bor}
+use Rattle.std.specs.Prelude.{Contains, find, is_none, is_some, IfSome, IsNone}
 use Rattle.std.specs.List.Sorted.{IsNonDecreasingBy}
-use Rattle.std.proofs.lemmas.Bool.{eq-eqb, ne_eqb, cases_eq, cases_lt, true≢false, false≢true}
+use Rattle.std.proofs.lemmas.Bool.{eq-eqb, ne_eqb, cases_lt, true≢false, false≢true}
 use Rattle.std.proofs.lemmas.List.{get_or_default, get_or-take, length-take}
 use Rattle.std.proofs.lemmas.List.Sorted.{IsNonDecreasingBy-take}
 use Rattle.index_model.specs.declared.shard.Node.{Node}
 use Rattle.index_model.specs.declared.shard.Shard.{Shard}
 use Rattle.index_model.specs.declared.rules.Parent.TheVariants.{Root, Other, Seen}
 use Rattle.index_model.specs.Faults.{program_of}
-use Rattle.index_model.specs.Languages.{class_of_unit, class_of, language_of, language_by_import, own_language, importing_language}
+use Rattle.index_model.specs.Languages.{class_of_unit}
 use Rattle.index_model.specs.LawsOrder.{IsInOrder}
-use Rattle.index_model.specs.Program.{Walked, Program, Located, items_of, located, root_of, scope_around}
-use Rattle.index_model.specs.Rules.{is_ada, is_visited, is_visited_at, is_visited_under, parent_as, opens}
+use Rattle.index_model.specs.Program.{Walked, Program, Located, items_of, located}
+use Rattle.index_model.specs.Rules.{is_ada, is_visited, is_visited_under, parent_as}
 use Rattle.index_model.specs.Sections.{Section}
-use Rattle.index_model.specs.ShardParts.{IsNodeOf, node_facts, is_kept, kept_in, may_be_ada, is_partial}
+use Rattle.index_model.specs.ShardParts.{IsNodeOf, is_kept, kept_in, may_be_ada, root_facts}
+use Rattle.index_model.specs.ShardLanguages.{root_in}
 use Rattle.index_model.specs.Shards.{IsRunOf, StandsFor}
-use Rattle.index_model.specs.Tags.{partial_unit, namespace, is_record_tag, enumeration, subprogram}
 use Rattle.index_model.specs.Walk.{Item, parent_of}
-use Rattle.index_model.proofs.Meanings.{contains_here, contains_later, contains_cases, same_some}
-use Rattle.index_model.proofs.Pairs.{Pairs, all_pairs, pairs_filter, of_filter, to_filter}
+use Rattle.index_model.proofs.Meanings.{same_some}
+use Rattle.index_model.proofs.Pairs.{Pairs, pairs_filter, of_filter, to_filter}
+use Rattle.index_model.proofs.ShardRoots.{Numbered, program_numbered, numbered_front, numbered_back, find_number, root_is}
 use Rattle.index_model.proofs.UnitsApart.{AreApart, run_apart}
 use Rattle.index_model.proofs.VisitedLaws.{visited_by_parent}
-use Rattle.parent_resolve.specs.Visits.{IsVisitedBy, IsNodeAt, HasNoneAt}
+use Rattle.parent_resolve.specs.Visits.{IsVisitedBy, MayBeVisitedBy, takes_importers_class, IsNodeAt, HasNoneAt}
 use Rattle.parent_resolve.proofs.Entries.{Below, at_home, runs_rise, order, home_of, entry_of, found_at, above, top, IsAbove}
-
--- ---- nodes and entries
-
-pub node_parts : (ss : List Section) (n : Node) (d : Located) → IsNodeOf ss n d → (n.offset ≡ d.item.at) × (n.parent ≡ option_map (λ e. e.item.at) (scope_around d)) × (n.tag ≡ d.item.tag)
-unfolding node_facts
-node_parts ss n d h = (ap (λ (x : Node). x.offset) h.facts, ap (λ (x : Node). x.parent) h.facts, ap (λ (x : Node). x.tag) h.facts)
-
-abbrev offset_in : Option Item → Option ℕ
-offset_in o = option_map (λ e. e.at) o
-
-scope_offset : (w : Walked) (o : Option Item) → option_map (λ (e : Located). e.item.at) (option_map (at_home w) o) ≡ offset_in o
-scope_offset w None = refl
-scope_offset w (Some e) = refl
-
--- the parent that a node names
-pub node_parent : (ss : List Section) (n : Node) (d : Located) → IsNodeOf ss n d → n.parent ≡ offset_in (parent_of (items_of d.home) d.item)
-node_parent ss n d h = (node_parts ss n d h).1 ∙ scope_offset d.home (parent_of (items_of d.home) d.item)
-
-abbrev NodesBelow : Node → Node → Type 0
-NodesBelow m n = m.offset < n.offset
-
-module _ (ss : List Section) where
-  -- each node is that of an entry
-  pub of_node : (ns : List Node) (ds : List Located) → AllZip (IsNodeOf ss) ns ds → (k : ℕ) (n : Node) → k < length ns → (d : Located) × Contains ds d × IsNodeOf ss (get_or ns k n) d
-  of_node [] [] z k n lt = absurd (omega arith)
-  of_node [] (d ∷ ds) z k n lt = absurd z
-  of_node (m ∷ ms) [] z k n lt = absurd z
-  of_node (m ∷ ms) (d ∷ ds) z zero n lt = (d, contains_here d ds, z.0)
-  of_node (m ∷ ms) (d ∷ ds) z (suc k) n lt = let r = of_node ms ds z.1 k n (omega (arith, lt)) in (r.0, contains_later d ds r.0 r.1, r.2)
-
-  -- each entry has its node
-  pub to_node : (ns : List Node) (ds : List Located) → AllZip (IsNodeOf ss) ns ds → (d : Located) → Contains ds d → (k : ℕ) × (k < length ns) × ((n : Node) → IsNodeOf ss (get_or ns k n) d)
-  to_node [] [] z d c = absurd (omega (arith, c.1))
-  to_node [] (e ∷ ds) z d c = absurd z
-  to_node (m ∷ ms) [] z d c = absurd z
-  to_node (m ∷ ms) (e ∷ ds) z d c = ⊎_elim
-      (λ (same : e ≡ d). (0, omega arith, λ n. subst (IsNodeOf ss m) same z.0))
-      (λ (l : Contains ds d). let r = to_node ms ds z.1 d l in (suc r.0, omega (arith, r.1), r.2))
-      (contains_cases e ds d c)
-
-  node_of : (ns : List Node) (ds : List Located) → AllZip (IsNodeOf ss) ns ds → (n : Node) → Contains ns n → (d : Located) × Contains ds d × (n.offset ≡ d.item.at)
-  node_of [] [] z n c = absurd (omega (arith, c.1))
-  node_of [] (d ∷ ds) z n c = absurd z
-  node_of (m ∷ ms) [] z n c = absurd z
-  node_of (m ∷ ms) (d ∷ ds) z n c = ⊎_elim
-      (λ (same : m ≡ n). (d, contains_here d ds, ap (λ (x : Node). x.offset) (sym same) ∙ (node_parts ss m d z.0).0))
-      (λ (l : Contains ms n). let r = node_of ms ds z.1 n l in (r.0, contains_later d ds r.0 r.1, r.2))
-      (contains_cases m ms n c)
-
-  nodes_below : (ns : List Node) (ds : List Located) → AllZip (IsNodeOf ss) ns ds → Pairs Below ds → Pairs NodesBelow ns
-  nodes_below [] [] z h = tt
-  nodes_below [] (d ∷ ds) z h = absurd z
-  nodes_below (m ∷ ms) [] z h = absurd z
-  nodes_below (m ∷ ms) (d ∷ ds) z h = (
-    λ n c. let r = node_of ms ds z.1 n c in let lt = h.0 r.0 r.1 in omega (arith, lt, r.2, (node_parts ss m d z.0).0),
-    nodes_below ms ds z.1 h.1,
-  )
-
-pub nodes_rise : (ns : List Node) → Pairs NodesBelow ns → IsNonDecreasingBy (λ n. n.offset) ns
-nodes_rise ns pairs i j n le within = ⊎_elim
-    (λ (lt : i < j). let r = all_pairs NodesBelow ns pairs i j n lt within in omega (arith, r))
-    (λ (ge : j ≤ i). let same : i ≡ j = omega (arith, le, ge) in subst (λ (k : ℕ). (get_or ns i n).offset ≤ (get_or ns k n).offset) same (omega arith))
-    (cases_lt i j)
-
--- ---- Ada
-
-opens_more : (a b c d : Bool) → (a || b || c || (false && d)) ≡ true → (a || b || c || (true && d)) ≡ true
-opens_more true b c d h = refl
-opens_more false true c d h = refl
-opens_more false false true d h = refl
-opens_more false false false d h = absurd (false≢true h)
-
-opened : (tag : ℕ) → opens false tag ≡ true → opens true tag ≡ true
-opened tag h = opens_more (eqb tag namespace) (is_record_tag tag) (eqb tag enumeration) (eqb tag subprogram) h
-
-under : (root v w : Bool) (tag : ℕ) → (v ≡ true → w ≡ true) → is_visited_under (cond root Root (cond v (Seen tag) Other)) false ≡ true → is_visited_under (cond root Root (cond w (Seen tag) Other)) true ≡ true
-under true v w tag up h = refl
-under false true w tag up h = rw (up refl) (opened tag h)
-under false false w tag up h = absurd (false≢true h)
-
--- what is visited is visited in Ada too
-in_ada : (ds : List Item) (n : ℕ) (d : Item) → is_visited_at n false ds d ≡ true → is_visited_at n true ds d ≡ true
-unfolding is_visited_at
-in_ada ds zero d h = absurd (false≢true h)
-in_ada ds (suc n) d h = by (parent_of ds d) (in_ada ds n) h
-  where
-    by : (o : Option Item) → ((e : Item) → is_visited_at n false ds e ≡ true → is_visited_at n true ds e ≡ true) → is_visited_under (parent_as o (λ e. is_visited_at n false ds e)) false ≡ true → is_visited_under (parent_as o (λ e. is_visited_at n true ds e)) true ≡ true
-    by None up h = absurd (false≢true h)
-    by (Some e) up h = under (eqb e.depth 0) (is_visited_at n false ds e) (is_visited_at n true ds e) e.tag (up e) h
-
-or_right : (a : Bool) → (a || true) ≡ true
-or_right true = refl
-or_right false = refl
-
-or_left : (a b : Bool) → a ≡ true → (a || b) ≡ true
-or_left true b h = refl
-or_left false b h = absurd (false≢true h)
-
-ada_by : (p : Program) (own : Option ℕ) (root : Option Item) → is_ada (class_of (unwrap_or (option_or own (language_by_import p root)) 0)) ≡ true → (is_ada (class_of (unwrap_or own 0)) || (is_partial root && is_none own)) ≡ true
-unfolding language_by_import
-ada_by p (Some n) root h = or_left (is_ada (class_of n)) (is_partial root && false) h
-ada_by p None None h = or_left (is_ada (class_of 0)) false h
-ada_by p None (Some r) h =
-    elim (eqb r.tag partial_unit) as (λ b. is_ada (class_of (unwrap_or (cond b (importing_language p r.at) None) 0)) ≡ true → (is_ada (class_of 0) || (b && true)) ≡ true) [
-      | true ↦ λ _. or_right (is_ada (class_of 0))
-      | false ↦ λ l. or_left (is_ada (class_of 0)) false l
-    ] h
-
--- the class of a unit is Ada only where it may be
-may_be : (p : Program) (w : Walked) → is_ada (class_of_unit p w) ≡ true → may_be_ada w ≡ true
-unfolding may_be_ada language_of
-may_be p w h = ada_by p (own_language w) (root_of w) h
-
--- what is visited may be visited
-pub may_be_visited : (p : Program) (w : Walked) (d : Item) → is_visited (is_ada (class_of_unit p w)) (items_of w) d ≡ true → is_visited (may_be_ada w) (items_of w) d ≡ true
-may_be_visited p w d = by (is_ada (class_of_unit p w)) (may_be_ada w) (may_be p w)
-  where
-    by : (a m : Bool) → (a ≡ true → m ≡ true) → is_visited a (items_of w) d ≡ true → is_visited m (items_of w) d ≡ true
-    by true m up h = subst (λ (b : Bool). is_visited b (items_of w) d ≡ true) (sym (up refl)) h
-    by false true up h = in_ada (items_of w) d.depth d h
-    by false false up h = h
+use Rattle.parent_resolve.proofs.NodeLaws.{node_parts, node_unit, node_parent, offset_in, of_node, to_node, nodes_below, nodes_rise}
+use Rattle.parent_resolve.proofs.AdaLaws.{known_class, may_be_visited}
 
 pub none_says : (o : Option ℕ) (r b : Bool) → is_some o ≡ not r → r ≡ b → is_none o ≡ b
 none_says o true b e is = ap not e ∙ is
 none_says o false b e is = ap not e ∙ is
 
--- ---- upwards
+absent : (x : Option ℕ) → is_none x ≡ true → x ≡ None
+absent None e = refl
+absent (Some y) e = absurd (false≢true e)
+
+-- ---- the entry of a node
 
 -- the entry of the node, in a run of a file's units for which the shard stands
 pub record IsEntryIn (s : Shard) (node : Node) (ada : Bool) (d : Located) : Type 0 where
@@ -225,6 +110,62 @@ module _ (s : Shard) (node : Node) (ada : Bool) (d : Located) (h : IsEntryIn s n
       let there : Contains entries (at_home w m) = entry_of h.run w m home.0 mc in
       same_some x (at_home w m) (sym (found_at entries below x xc) ∙ ap (λ (o : ℕ). find (λ e. eqb e.item.at o) entries) same ∙ found_at entries below (at_home w m) there)
 
+  -- ---- what is kept
+
+  numbered : (n : ℕ) × Numbered n h.run
+  numbered =
+      let r = h.is_run in
+      let all : Numbered 0 (r.before ++ (h.run ++ r.after)) = subst (Numbered 0) r.is (program_numbered h.file h.p h.of_file) in
+      let back = numbered_back 0 r.before (h.run ++ r.after) all in
+      (back.0, numbered_front back.0 h.run r.after back.1)
+
+  root_known : root_in node.unit s ≡ Some (root_facts w)
+  root_known =
+      ap (λ (u : ℕ). root_in u s) (node_unit ss node d h.is_node) ∙
+      root_is ss s h.run w.number numbered.0 h.stands numbered.1 ∙
+      ap (option_map root_facts) (find_number numbered.0 h.run w numbered.1 home.0)
+
+  -- the answer for what may be visited is the answer
+  pub by_class : takes_importers_class (root_in node.unit s) ≡ false → (answer : Bool) → answer ≡ is_visited (may_be_ada w) ds d.item → answer ≡ is_visited ada ds d.item
+  by_class own answer is = is ∙ ap (λ (b : Bool). is_visited b ds d.item) (known_class h.p w (sym (ap takes_importers_class root_known) ∙ own) ∙ sym h.class)
+
+  pub root_unvisited : is_none node.parent ≡ true → false ≡ is_visited (may_be_ada w) ds d.item
+  root_unvisited none = sym ((visited_by_parent (may_be_ada w) ds d.item).root (top w ordered d.item home.1 (no_offset (parent_of ds d.item) (sym (absent node.parent none) ∙ node_parent ss node d h.is_node))))
+
+  module _ (some : is_none node.parent ≡ false) where
+    not_root : eqb d.item.depth 0 ≡ false
+    not_root = ne_eqb d.item.depth 0 (λ z. true≢false (ap is_none (sym (ap offset_in (ordered.root d.item home.1 z).1)) ∙ ap is_none (sym (node_parent ss node d h.is_node)) ∙ some))
+
+    own_offset : node.offset ≡ d.item.at
+    own_offset = (node_parts ss node d h.is_node).0
+
+    kept_is : is_kept w d.item ≡ is_visited (may_be_ada w) ds d.item
+    kept_is = ap (λ (b : Bool). b || is_visited (may_be_ada w) ds d.item) not_root
+
+    pub kept_may_be : (k : ℕ) (a : Node) → IsNodeAt s.nodes node.offset k a → true ≡ is_visited (may_be_ada w) ds d.item
+    kept_may_be k a at =
+        let r = of_node ss s.nodes (kept_in h.run) h.stands.nodes k a at.within in
+        let own : IsNodeOf ss a r.0 = subst (λ (n : Node). IsNodeOf ss n r.0) (sym at.is) r.2 in
+        let f = of_filter (λ e. is_kept e.home e.item) entries r.0 r.1 in
+        let same : r.0 ≡ at_home w d.item = once r.0 f.0 d.item home.1 (sym (node_parts ss a r.0 own).0 ∙ at.offset ∙ own_offset) in
+        sym f.1 ∙ ap (λ (e : Located). is_kept e.home e.item) same ∙ kept_is
+
+    pub unkept_may_not : HasNoneAt s.nodes node.offset → false ≡ is_visited (may_be_ada w) ds d.item
+    unkept_may_not none = by (is_visited (may_be_ada w) ds d.item) refl
+      where
+        by : (v : Bool) → is_visited (may_be_ada w) ds d.item ≡ v → false ≡ v
+        by false e = refl
+        by true e =
+            let r = to_node ss s.nodes (kept_in h.run) h.stands.nodes d (to_filter (λ x. is_kept x.home x.item) entries d h.member (kept_is ∙ e)) in
+            absurd (none r.0 node r.1 ((node_parts ss (get_or s.nodes r.0 node) d (r.2 node)).0 ∙ sym own_offset))
+
+    -- so it may be visited where a node has its offset
+    pub kept_by : (nodes : List Node) (o : Option (ℕ × Bor Node)) → nodes ≡ s.nodes → IfSome o (λ x. IsNodeAt nodes node.offset x.0 x.1.now) → (IsNone o → IsNonDecreasingBy (λ n. n.offset) nodes → HasNoneAt nodes node.offset) → is_some o ≡ is_visited (may_be_ada w) ds d.item
+    kept_by nodes None same found none = unkept_may_not (subst (λ (ns : List Node). HasNoneAt ns node.offset) same (none refl (subst (λ (ns : List Node). IsNonDecreasingBy (λ n. n.offset) ns) (sym same) rising)))
+    kept_by nodes (Some x) same found none = kept_may_be x.0 x.1.now (subst (λ (ns : List Node). IsNodeAt ns node.offset x.0 x.1.now) same found)
+
+  -- ---- upwards
+
   module _ (up : Option ℕ) (before : ℕ) (c : Climbs ada s.nodes d up before) where
     abbrev visited : Item → Bool
     visited = is_visited ada ds
@@ -286,11 +227,9 @@ module _ (s : Shard) (node : Node) (ada : Bool) (d : Located) (h : IsEntryIn s n
         pub root_above : is_none a.parent ≡ true → true ≡ visited d.item
         root_above none = by (eqb m.depth 0) (eq-eqb m.depth 0 root) by_mother
           where
-            absent : (x : Option ℕ) → is_none x ≡ true → x ≡ None
-            absent None e = refl
-            absent (Some y) e = absurd (false≢true e)
             root : m.depth ≡ 0
             root = top w ordered m over.member (no_offset (parent_of ds m) (sym (absent a.parent none) ∙ parent_at))
+
             by : (b : Bool) → b ≡ true → visited d.item ≡ is_visited_under (cond b Root (cond (visited m) (Seen m.tag) Other)) ada → true ≡ visited d.item
             by true on e = sym e
             by false on e = absurd (false≢true on)
@@ -335,12 +274,14 @@ module _ (nodes all : List Node) (before at : ℕ) (same : nodes ≡ all) where
   in_front k a h =
       let short = length-take before nodes in
       let within = h.within in
-      let early : k < before = omega (arith, short, within) in
-      (record {
-        within = omega (arith, short, within, ap (λ (ns : List Node). length ns) same);
-        is = h.is ∙ get_or-take before nodes k a early ∙ ap (λ (ns : List Node). get_or ns k a) same;
-        offset = h.offset;
-      }, early)
+      let early : k < before = omega (arith, short, within) in (
+        record {
+          within = omega (arith, short, within, ap (λ (ns : List Node). length ns) same);
+          is = h.is ∙ get_or-take before nodes k a early ∙ ap (λ (ns : List Node). get_or ns k a) same;
+          offset = h.offset;
+        },
+        early,
+      )
 
   pub none_in_front : HasNoneAt (take before nodes) at → (k : ℕ) (n : Node) → k < before → k < length all → (get_or all k n).offset ≡ at → ⊥
   none_in_front none k n early within is =
@@ -349,3 +290,11 @@ module _ (nodes all : List Node) (before at : ℕ) (same : nodes ≡ all) where
 
   pub front_rises : IsNonDecreasingBy (λ n. n.offset) all → IsNonDecreasingBy (λ n. n.offset) (take before nodes)
   front_rises rise = IsNonDecreasingBy-take (λ n. n.offset) before nodes (subst (λ (ns : List Node). IsNonDecreasingBy (λ n. n.offset) ns) (sym same) rise)
+
+-- the same for what may be visited
+pub for_each_kept : (s : Shard) (node : Node) (answer : Bool) → ((ada : Bool) (d : Located) → IsEntryIn s node ada d → answer ≡ is_visited (may_be_ada d.home) (items_of d.home) d.item) → MayBeVisitedBy s node answer
+for_each_kept s node answer go file p run of_file is_run stands d member is_node = go (is_ada (class_of_unit p d.home)) d (record { file = file; p = p; run = run; of_file = of_file; is_run = is_run; stands = stands; member = member; is_node = is_node; class = refl })
+
+-- where the class isn't that of an importing unit the one answer is the other
+pub for_kept : (s : Shard) (node : Node) (ada answer : Bool) → takes_importers_class (root_in node.unit s) ≡ false → MayBeVisitedBy s node answer → IsVisitedBy s node ada answer
+for_kept s node ada answer own kept = for_each s node ada answer (λ d h. by_class s node ada d h own answer (kept h.file h.p h.run h.of_file h.is_run h.stands d h.member h.is_node))

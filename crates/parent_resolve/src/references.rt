@@ -82,12 +82,7 @@ impl<'s, 'f> References<'s, 'f> {
     /// The chain of an entry (DWARF 5, sections 2.13.2 and 3.3.8.1), and the name that the file spells for it: the first on
     /// the chain, else that of the type unit with the entry's own signature (section 7.32). A fault has the place `at`: a
     /// reference that names no entry (code 16), or a chain of more than 8 hops (17).
-    pub fn follow(
-        &mut self,
-        alloc: Global,
-        node: &Node<'f>,
-        at: u64,
-    ) -> Result<Followed<'f>, Stop>
+    pub fn follow(&mut self, alloc: Global, node: &Node<'f>, at: u64) -> Result<Followed<'f>, Stop>
         ensures value { ForEntry self.old node.now (λ p d. GivesFor (IsFollowed p d) result (at_place at (followed_of p d))) }
         ensures kept { self.new ≡ self.old }
     {

@@ -1,16 +1,12 @@
-use Rattle.std.proofs.Common.{◌≡◌, ℕ, List, ◌∷◌, Option, Some, None, Result, Ok, Err, refl, ap, sym, subst, ◌∙◌, arith}
+use Rattle.std.proofs.Common.{◌≡◌, ◌∷◌, Ok, Err, refl, ap, sym, subst, ◌∙◌, arith}
 use Rattle.std.proofs.lemmas.Result.{err_from_is_err_and}
-use Rattle.std.specs.Prelude.{IsOkAnd}
 use Rattle.ix_base.specs.declared.code.TheConstants.{REFERENCE_CHAIN}
-use Rattle.index_model.specs.declared.shard.Node.{Node}
 use Rattle.index_model.specs.Chains.{next_of, chain_of, chain_end}
 use Rattle.index_model.specs.Faults.{program_of}
-use Rattle.index_model.specs.Gives.{GivesFor, StopsAs}
 use Rattle.index_model.specs.Meaning.{at_place}
-use Rattle.index_model.specs.Program.{Program, Located}
 use Rattle.shard_build.specs.Entries.{EntriesOf}
-use Rattle.parent_resolve.specs.Chained.{IsChain, IsNext}
-use Rattle.parent_resolve.proofs.ChainLaws.{SoFar, begins, ends, breaks, too_long, hops_on, gives_for, given_for, was_next, was_none, stops_like, stops_at, gives_stop}
+use Rattle.parent_resolve.specs.Chained.{IsChain}
+use Rattle.parent_resolve.proofs.ChainLaws.{begins, ends, breaks, too_long, hops_on, gives_for, was_next, was_none, stops_like, stops_at, gives_stop}
 use Rattle.parent_resolve.proofs.chain.chain_of.Goals as goal
 
 pub loop-target-init : goal.loop-target-init

@@ -1,15 +1,13 @@
-use Rattle.std.proofs.Common.{◌≡◌, Option, Some, None, Result, Ok, Err, ap, sym, subst, ◌∙◌}
-use Rattle.ix_base.specs.declared.fault.Fault.{Fault}
+use Rattle.std.proofs.Common.{Option, Some, None, ap, sym, subst}
 use Rattle.ix_base.specs.declared.fault.Stop.{Stop}
 use Rattle.index_model.specs.declared.shard.Node.{Node}
 use Rattle.index_model.specs.Gives.{StopsAs}
 use Rattle.index_model.specs.Meaning.{at_place}
 use Rattle.index_model.specs.Chains.{next_of}
-use Rattle.index_model.specs.Program.{Located}
 use Rattle.shard_build.specs.Entries.{IsNodeIn, entry_meant}
 use Rattle.parent_resolve.specs.Chained.{IsNext}
 use Rattle.parent_resolve.proofs.Entries.{home_in}
-use Rattle.parent_resolve.proofs.ChainLaws.{next_none, next_some, next_fault, reference, r, is_reference, says, meant, meant_entry, nothing_meant, gives_for}
+use Rattle.parent_resolve.proofs.ChainLaws.{next_none, next_some, next_fault, r, is_reference, says, meant, meant_entry, nothing_meant, gives_for}
 use Rattle.parent_resolve.proofs.chain.next_of.Goals as goal
 
 pub returns-in_default-clause-value : goal.returns-in_default-clause-value

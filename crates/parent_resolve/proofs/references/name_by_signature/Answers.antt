@@ -1,4 +1,4 @@
-use Rattle.std.proofs.Common.{◌≡◌, ℕ, true, List, Option, Some, None, option_map, Result, Ok, Err, refl, ap, sym, subst, ◌∙◌}
+use Rattle.std.proofs.Common.{ℕ, true, List, Option, Some, None, option_map, refl, ap, sym, subst, ◌∙◌}
 use denote.Ref.{Bor}
 use Rattle.ix_base.specs.declared.code.TheConstants.{BAD_REFERENCE}
 use Rattle.index_model.specs.declared.shard.Next.{Next}
@@ -7,7 +7,6 @@ use Rattle.index_model.specs.Chains.{name_by_signature}
 use Rattle.index_model.specs.Meaning.{at_place}
 use Rattle.index_model.specs.Strings.{own_name}
 use Rattle.shard_build.specs.Entries.{IsNodeIn, entry_meant}
-use Rattle.parent_resolve.specs.declared.signatures.TypeUnit.{TypeUnit}
 use Rattle.parent_resolve.specs.Followed.{IsText}
 use Rattle.parent_resolve.proofs.ChainLaws.{says, meant, nothing_meant, gives_for, stops_at}
 use Rattle.parent_resolve.proofs.SignatureLaws.{Same, type_unit_of, type_place, name_unsigned, name_of_no_unit, name_meant, name_fault}

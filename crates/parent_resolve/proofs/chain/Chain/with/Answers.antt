@@ -1,8 +1,4 @@
-use Rattle.std.proofs.Common.{◌≡◌, ◌||◌, Bool, List, Option, ◌∷◌, [], ◌++◌, ℕ, sym, subst, arith, rules}
-use denote.Ref.{Bor}
-use Rattle.index_model.specs.Program.{Located}
-use Rattle.parent_resolve.specs.declared.chain.Chain.{Chain}
-use Rattle.parent_resolve.specs.Chained.{IsChain}
+use Rattle.std.proofs.Common.{◌≡◌, ◌||◌, rules}
 use Rattle.parent_resolve.proofs.ChainLaws.{one_more}
 use Rattle.parent_resolve.proofs.chain.Chain.with.Goals as goal
 

@@ -1,7 +1,7 @@
-use Rattle.std.proofs.Common.{ℕ, ◌≤◌, length}
+use Rattle.std.proofs.Common.{◌≤◌, length}
 use Rattle.parent_resolve.proofs.VisitLaws.{Climbs, IsEntryIn}
 use Rattle.index_model.specs.Program.{Located}
-use Rattle.parent_resolve.proofs.visits.is_visited.Given as goal
+use Rattle.parent_resolve.proofs.visits.is_visited_upwards.Given as goal
 
 -- the entry is visited if the one at hand is, of which this is the parent; what stands before it is left to be searched
 abbrev pub invariant-loop-parent : goal.invariant-loop-parent
