@@ -50,7 +50,7 @@ impl<'s, 'f> References<'s, 'f> {
         requires { AreShardsOfFile image.now (map arc_value shards.now) }
         ensures { IfOk result (λ r. r ≡ record { image = image.now; shards = map arc_value shards.now }) }
     {
-        let signatures = Signatures::of(alloc, image)?;
+        let signatures = Signatures::of(alloc, image.units())?;
         Ok(References {
             entries: Entries::new(image, shards),
             signatures,

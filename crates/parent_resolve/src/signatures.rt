@@ -2,12 +2,11 @@
 
 ghost use Rattle.std.specs.Prelude.{◌≡◌, ◌≤◌, IfOk, length};
 ghost use Rattle.std.specs.List.Sorted.{IsNonDecreasingBy};
-ghost use Rattle.parent_resolve.specs.Signed.{AreTypeUnitsOf, IsFirstSigned, as_type_unit, first_signed, type_units};
+ghost use Rattle.parent_resolve.specs.Signed.{AreSigned, IsFirstSigned, as_type_unit, first_signed, type_units};
 
 use index_model::{Unit, UnitSort};
 use ix_base::{MAX_UNITS, NoMemory};
 use std::alloc::Global;
-use unit_headers::Image;
 
 /// A type unit, by what a signature is looked up for.
 #[derive(Clone, Copy, Debug, PartialEq, Eq)]
@@ -27,11 +26,12 @@ pub(crate) struct Signatures {
 }
 
 impl Signatures {
-    /// Those of an image.
-    pub(crate) fn of(alloc: Global, image: &Image<'_>) -> Result<Signatures, NoMemory>
-        ensures { IfOk result (λ s. AreTypeUnitsOf image.now s.units.items) }
+    /// Those among these units.
+    pub(crate) fn of(alloc: Global, units: &[Unit]) -> Result<Signatures, NoMemory>
+        requires { length units.now ≤ MAX_UNITS }
+        ensures { IfOk result (λ s. AreSigned units.now s.units.items) }
     {
-        let mut units = type_units(alloc, image.units())?;
+        let mut units = type_units(alloc, units)?;
         units.sort_by_key(|unit| unit.signature)?;
         Ok(Signatures { units })
     }

@@ -11,9 +11,6 @@ returns c =
     let e = c.in_ok-sort_by_key.ensures in
     let stable = e.stable (λ t. t.signature) (always_returns_same _ (λ a r. r ≡ a.0.now.signature) _ (λ a r q k. search (rules, of_calls))) in
     record {
-      of_file = c.units.ensures.of_file;
-      signed = record {
-        rise = IsNonDecreasingBy-from_sort_by_key (λ t. t.signature) _ e.sorted (λ a r q k. search (rules, of_calls));
-        first = λ s. first_stays s _ _ stable ∙ ap (λ (ts : List TypeUnit). first_signed ts s) (c.in_ok-units.ensures ∙ ap type_units c.units.ensures.value);
-      };
+      rise = IsNonDecreasingBy-from_sort_by_key (λ t. t.signature) _ e.sorted (λ a r q k. search (rules, of_calls));
+      first = λ s. first_stays s _ _ stable ∙ ap (λ (ts : List TypeUnit). first_signed ts s) c.in_ok-units.ensures;
     }
