@@ -5,6 +5,8 @@
 mod chain;
 mod followed;
 mod references;
+#[cfg(test)]
+mod rows;
 mod signatures;
 mod visits;
 

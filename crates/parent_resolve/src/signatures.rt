@@ -80,3 +80,46 @@ fn as_type_unit(number: u32, unit: &Unit) -> Option<TypeUnit>
         _ => None,
     }
 }
+
+#[cfg(test)]
+mod tests {
+    use super::*;
+    use index_model::Part;
+
+    // The unit with this number, of 30 bytes.
+    fn unit(number: u32, sort: UnitSort, signature: u64, type_offset: u64) -> Unit {
+        Unit {
+            start: u64::from(number) * 30,
+            part: Part::Info,
+            length: 30,
+            version: 5,
+            wide: false,
+            sort,
+            abbrev: 0,
+            body: 24,
+            signature,
+            type_offset,
+        }
+    }
+
+    // Two type units have the signature 9.
+    #[test]
+    fn the_first_unit_with_a_signature_counts(rt: HostRuntime) -> Result<(), NoMemory> {
+        let units = [
+            unit(0, UnitSort::Compile, 0, 0),
+            unit(1, UnitSort::Unnamed, 9, 0x1a),
+            unit(2, UnitSort::Unnamed, 4, 0x1b),
+            unit(3, UnitSort::Unnamed, 9, 0x1c),
+        ];
+        let signatures = Signatures::of(rt.alloc(), &units)?;
+        let first = TypeUnit {
+            signature: 9,
+            unit: 1,
+            type_offset: 0x1a,
+        };
+        assert_eq!(rt; signatures.find(9), Some(first));
+        assert_eq!(rt; signatures.find(0), None);
+        assert_eq!(rt; signatures.find(5), None);
+        Ok(())
+    }
+}
