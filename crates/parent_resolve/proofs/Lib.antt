@@ -6,3 +6,6 @@ pub mod VisitLaws
 pub mod ChainLaws
 pub mod SignatureLaws
 pub mod FollowLaws
+pub mod PathSteps
+pub mod Outwards
+pub mod Steps

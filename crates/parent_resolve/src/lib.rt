@@ -4,9 +4,11 @@
 
 mod chain;
 mod followed;
+mod paths;
 mod references;
 #[cfg(test)]
 mod rows;
+mod scope;
 mod signatures;
 mod visits;
 

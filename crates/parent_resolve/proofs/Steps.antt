@@ -1,0 +1,91 @@
+-- What is known of one member of a scope path.
+use Rattle.std.proofs.Common.{◌≡◌, ℕ, min, Bool, true, false, cond, eqb, ◌&&◌, ◌||◌, List, Option, Some, None, option_map, Result, Ok, Err, refl, sym, ap, subst, ◌∙◌, arith, ⊎_elim}
+use Rattle.std.specs.Prelude.{Contains, is_some}
+use Rattle.std.proofs.lemmas.Bool.{true≢false, eq-eqb, ne_eqb, cases_eq}
+use Rattle.index_model.specs.declared.shard.Node.{Node}
+use Rattle.index_model.specs.Meaning.{◌>>=◌}
+use Rattle.index_model.specs.Faults.{program_of}
+use Rattle.index_model.specs.Parents.{parent_offset}
+use Rattle.index_model.specs.Program.{Program, Located}
+use Rattle.index_model.specs.Chains.{chain_end, name_with}
+use Rattle.index_model.specs.Names.{component}
+use Rattle.index_model.specs.Attributes.{has_enum_class}
+use Rattle.index_model.specs.Sections.{Section}
+use Rattle.index_model.specs.Tags.{namespace, is_record_tag, enumeration}
+use Rattle.shard_build.specs.Entries.{IsNodeIn}
+use Rattle.index_model.specs.ShardParts.{IsNodeOf}
+use Rattle.parent_resolve.specs.declared.followed.Followed.{Followed}
+use Rattle.parent_resolve.specs.declared.scope.Step.{Step}
+use Rattle.parent_resolve.specs.Followed.{all_entries, followed_of, Named, IsFollowed}
+use Rattle.parent_resolve.specs.Scopes.{Passed, IsStep, followed_at, greatest, part_length, passed_at, root_passed}
+use Rattle.parent_resolve.proofs.Entries.{home_in, unit_in_order}
+use Rattle.parent_resolve.proofs.NodeLaws.{node_parts}
+
+-- the node that stands for what is at an offset
+pub node_there : (ss : List Section) (o : Option Node) (q : Option Located) (n : Node) (m : Located) → IsNodeIn ss o q → o ≡ Some n → q ≡ Some m → IsNodeOf ss n m
+node_there ss o q n m h own found = subst (λ (r : Option Located). IsNodeIn ss (Some n) r) found (subst (λ (r : Option Node). IsNodeIn ss r q) own h)
+
+pub none_from : (o : Option ℕ) → is_some o ≡ false → o ≡ None
+none_from None e = refl
+none_from (Some n) e = absurd (true≢false e)
+
+-- an entry that isn't a root has a parent, and a root has none
+module _ (f : List ℕ) (p : Program) (file : program_of f ≡ Ok p) (d : Located) (c : Contains (all_entries p) d) where
+  pub root_alone : d.item.depth ≡ 0 → parent_offset d ≡ None
+  root_alone zero_ =
+      let h = home_in p d c in
+      ap (option_map (λ (e : Located). e.item.at)) (ap (option_map (λ e. record { home = d.home; item = e })) ((unit_in_order f p file d.home h.0).root d.item h.1 zero_).1)
+
+  pub others_have : parent_offset d ≡ None → d.item.depth ≡ 0
+  others_have none = ⊎_elim
+      (λ (top : d.item.depth ≡ 0). top)
+      (λ (below : d.item.depth ≡ 0 → ⊥).
+      let h = home_in p d c in
+      let m = (unit_in_order f p file d.home h.0).parents d.item h.1 (omega (arith, below)) in
+      let there = ap (option_map (λ (e : Located). e.item.at)) (ap (option_map (λ e. record { home = d.home; item = e })) m.is) in
+      let never : Some m.parent.at ≡ None = sym there ∙ none in
+      absurd cc)
+      (cases_eq d.item.depth 0)
+
+  -- what is passed at a root
+  pub passed_root : parent_offset d ≡ None → passed_at p d ≡ Ok (root_passed d)
+  unfolding passed_at
+  passed_root none = ap (λ (b : Bool). cond b (Ok (root_passed d)) (followed_at p d)) (eq-eqb d.item.depth 0 (others_have none))
+
+  -- and elsewhere
+  pub passed_below : is_some (parent_offset d) ≡ true → passed_at p d ≡ followed_at p d
+  unfolding passed_at
+  passed_below some = ap (λ (b : Bool). cond b (Ok (root_passed d)) (followed_at p d)) (ne_eqb d.item.depth 0 (λ top. true≢false (sym some ∙ ap is_some (root_alone top))))
+
+pub root_step : (p : Program) (d : Located) (s : Step) → s.part ≡ 0 → s.around ≡ None → component (record { entry = d; name = None }) ≡ None → IsStep p s (root_passed d)
+root_step p d s part around none = record { part = part ∙ ap (λ (o : Option (List ℕ)). min greatest (part_length o)) (sym none); around = around }
+
+pub root_gives_none : (d : Located) → component (record { entry = d; name = None }) ≡ None
+unfolding component
+root_gives_none d = by (eqb d.item.tag namespace || is_record_tag d.item.tag || (eqb d.item.tag enumeration && has_enum_class d.item))
+  where
+    nothing : Option (List ℕ)
+    nothing = None
+
+    by : (b : Bool) → cond b nothing nothing ≡ nothing
+    by true = refl
+    by false = refl
+
+module _ (p : Program) (d : Located) where
+  abbrev passed_named : Named → Passed
+  passed_named n = record { member = record { entry = d; name = name_with d n.spelled }; end = Some (chain_end d n.chain) }
+
+  pub followed_wrong : (code : ℕ) → followed_of p d ≡ Err code → followed_at p d ≡ Err code
+  unfolding followed_at
+  followed_wrong code is = ap (λ (r : Result Named ℕ). r >>= λ n. Ok (passed_named n)) is
+
+  pub followed_gives : (f : Followed) (n : Named) → followed_of p d ≡ Ok n → IsFollowed p d f n → (part : ℕ) → part ≡ min greatest (part_length (component (record { entry = d; name = name_with d (option_map (λ t. t.now) f.spelled) }))) →
+      (s : Step) → s.part ≡ part → s.around ≡ f.end.parent → (followed_at p d ≡ Ok (passed_named n)) × IsStep p s (passed_named n)
+  unfolding followed_at
+  followed_gives f n is h part length_ s own around = (
+    ap (λ (r : Result Named ℕ). r >>= λ n. Ok (passed_named n)) is,
+    record {
+      part = own ∙ length_ ∙ ap (λ (o : Option (List ℕ)). min greatest (part_length (component (record { entry = d; name = name_with d o })))) h.spelled;
+      around = (h.there, around ∙ (node_parts p.sections f.end (chain_end d n.chain) h.end).1);
+    },
+  )

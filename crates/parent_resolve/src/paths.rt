@@ -1,0 +1,176 @@
+//! The scope paths of a file's entries (DWARF 5, section 2.13.2).
+//!
+//! Most entries share their lexical parent with others. So the scope of a path is kept by the place of its first member, and
+//! the path around it is followed once.
+
+ghost use Rattle.std.specs.Prelude.{◌≡◌, ◌+◌, ◌<◌, ◌≤◌, map, min, IfOk, IfSome, Ok, Err};
+ghost use Rattle.std.specs.Arc.{arc_value};
+ghost use Rattle.ix_base.specs.declared.code.TheConstants.{REFERENCE_CHAIN};
+ghost use Rattle.ix_base.specs.declared.fault.Stop.TheVariants as stops;
+ghost use Rattle.ix_base.specs.declared.limits.TheConstants.{MAX_PATH_STEPS};
+ghost use Rattle.index_model.specs.Gives.{GivesFor};
+ghost use Rattle.index_model.specs.Meaning.{at_place, fault};
+ghost use Rattle.index_model.specs.Names.{scope_path};
+ghost use Rattle.shard_build.specs.Entries.{AreShardsOfFile};
+ghost use Rattle.parent_resolve.specs.Followed.{followed_of, ForEntry, IsFollowed};
+ghost use Rattle.parent_resolve.specs.Scopes.{followed_at, greatest, passed_at, IsScope, IsStep};
+ghost use Rattle.parent_resolve.specs.Paths.{ForAround, ForMember, IsScopeAround};
+
+use crate::followed::Followed;
+use crate::references::References;
+use crate::scope::{Scope, Step, part_length};
+use index_model::{Node, Shard};
+use indexmap::IndexMap;
+use ix_base::code::REFERENCE_CHAIN;
+use ix_base::{Fault, MAX_PATH_STEPS, NoMemory, Stop};
+use std::alloc::Global;
+use std::marker::Model;
+use std::sync::Arc;
+use unit_headers::Image;
+
+/// The references of a file's entries, and the scopes that are known so far, each by the joint offset of the path's first
+/// member.
+#[derive(Drop)]
+pub(crate) struct Paths<'s, 'f> {
+    references: References<'s, 'f>,
+    known: IndexMap<u64, Scope>,
+}
+
+impl<'s, 'f> Model for Paths<'s, 'f> {
+    ghost use Rattle.shard_build.specs.Entries.{EntriesOf};
+    ghost use Rattle.parent_resolve.specs.Paths.{AreScopes};
+
+    ghost Value = { EntriesOf };
+
+    ghost view = { λ s. s.references };
+
+    ghost invariant = { λ s. AreScopes s.references s.known };
+}
+
+impl<'s, 'f> Paths<'s, 'f> {
+    /// The paths of a file, of which none is known yet.
+    pub(crate) fn new(
+        alloc: Global,
+        image: &'s Image<'f>,
+        shards: &'s [Arc<Shard<'f>>],
+    ) -> Result<Paths<'s, 'f>, NoMemory>
+        requires { AreShardsOfFile image.now (map arc_value shards.now) }
+        ensures { IfOk result (λ r. r ≡ record { image = image.now; shards = map arc_value shards.now }) }
+    {
+        Ok(Paths {
+            references: References::new(alloc, image, shards)?,
+            known: IndexMap::new(alloc),
+        })
+    }
+
+    /// The chain of an entry, and the name that the file spells for it. A fault has the place `at`.
+    pub(crate) fn follow(
+        &mut self,
+        alloc: Global,
+        node: &Node<'f>,
+        at: u64,
+    ) -> Result<Followed<'f>, Stop>
+        ensures value { ForEntry self.old node.now (λ p d. GivesFor (IsFollowed p d) result (at_place at (followed_of p d))) }
+        ensures kept { self.new ≡ self.old }
+    {
+        self.references.follow(alloc, node, at)
+    }
+
+    /// The scope of the path around an entry whose chain ends here. A fault has the place `at`.
+    pub(crate) fn around(&mut self, alloc: Global, end: &Node<'f>, at: u64) -> Result<Scope, Stop>
+        ensures value { ForEntry self.old end.now (λ p e. GivesFor IsScope result (at_place at (scope_path p e))) }
+        ensures kept { self.new ≡ self.old }
+    {
+        match end.parent {
+            Some(parent) => self.around_parent(alloc, parent, at),
+            None => Ok(Scope::EMPTY),
+        }
+    }
+
+    // The scope of the path around an entry with this lexical parent. It is known from then on.
+    fn around_parent(&mut self, alloc: Global, parent: u64, at: u64) -> Result<Scope, Stop>
+        ensures value { ForAround self.old parent (λ p d. GivesFor IsScope result (at_place at (scope_path p d))) }
+        ensures kept { self.new ≡ self.old }
+    {
+        if let Some(scope) = self.known_at(parent) {
+            return Ok(scope);
+        }
+        let scope = self.follow_path(alloc, parent, at)?;
+        self.known.insert(parent, scope)?;
+        Ok(scope)
+    }
+
+    // The scope that is known of the path around an entry with this lexical parent.
+    fn known_at(&self, parent: u64) -> Option<Scope>
+        ensures { IfSome result (IsScopeAround self.now parent) }
+    {
+        self.known.get(&parent).copied()
+    }
+
+    // Follows the path around an entry with this lexical parent, outwards up to a known scope or to the end.
+    fn follow_path(&mut self, alloc: Global, parent: u64, at: u64) -> Result<Scope, Stop>
+        ensures value { ForAround self.old parent (λ p d. GivesFor IsScope result (at_place at (scope_path p d))) }
+        ensures kept { self.new ≡ self.old }
+    {
+        let mut scope = Scope::EMPTY;
+        let mut around = parent;
+        while scope.steps < MAX_PATH_STEPS {
+            if let Some(outer) = self.known_at(around) {
+                return joined(scope, outer, at);
+            }
+            let step = self.step(alloc, around, at)?;
+            scope = scope.with(step.part);
+            match step.around {
+                Some(parent) => around = parent,
+                None => return Ok(scope),
+            }
+        }
+        Err(too_long(at))
+    }
+
+    // The member at the offset. There is one.
+    fn step(&mut self, alloc: Global, offset: u64, at: u64) -> Result<Step, Stop>
+        ensures value { ForMember self.old offset (λ p m. GivesFor (IsStep p) result (at_place at (passed_at p m))) }
+        ensures kept { self.new ≡ self.old }
+    {
+        match self.references.at(alloc, offset)? {
+            Some(member) if member.parent.is_some() => self.step_over(alloc, &member, at),
+            _ => Ok(Step::LAST),
+        }
+    }
+
+    // A member that isn't a root, and what is around its chain's end.
+    fn step_over(&mut self, alloc: Global, member: &Node<'f>, at: u64) -> Result<Step, Stop>
+        ensures value { ForEntry self.old member.now (λ p m. GivesFor (IsStep p) result (at_place at (followed_at p m))) }
+        ensures kept { self.new ≡ self.old }
+    {
+        let followed = self.references.follow(alloc, member, at)?;
+        Ok(Step {
+            part: part_length(member, followed.spelled),
+            around: followed.end.parent,
+        })
+    }
+}
+
+// The scope with the path around its last member, if both together don't have too many steps.
+fn joined(scope: Scope, outer: Scope, at: u64) -> Result<Scope, Stop>
+    requires { scope.steps ≤ MAX_PATH_STEPS }
+    ensures fits { scope.steps + outer.steps ≤ MAX_PATH_STEPS → result ≡ Ok (record { steps = scope.steps + outer.steps; length = min greatest (scope.length + outer.length) }) }
+    ensures long { MAX_PATH_STEPS < scope.steps + outer.steps → result ≡ Err (stops.Fault (fault REFERENCE_CHAIN at)) }
+{
+    if outer.steps <= MAX_PATH_STEPS - scope.steps {
+        Ok(scope.within(outer))
+    } else {
+        Err(too_long(at))
+    }
+}
+
+// The fault of a path with too many steps.
+fn too_long(at: u64) -> Stop
+    ensures { result ≡ stops.Fault (fault REFERENCE_CHAIN at) }
+{
+    Stop::Fault(Fault {
+        code: REFERENCE_CHAIN,
+        at,
+    })
+}

@@ -1,0 +1,119 @@
+//! How far a scope path goes, and how much it puts before a C++ name (DWARF 5, section 2.13.2).
+
+ghost use Rattle.std.specs.Prelude.{◌≡◌, ◌+◌, ◌<◌, ◌≤◌, min, List, option_map};
+ghost use Rattle.index_model.specs.Names.{Member, component};
+ghost use Rattle.index_model.specs.Chains.{name_with};
+ghost use Rattle.index_model.specs.Program.{Located};
+ghost use Rattle.index_model.specs.Sections.{Section};
+ghost use Rattle.index_model.specs.ShardParts.{IsNodeOf};
+ghost use Rattle.parent_resolve.specs.Scopes.{greatest, names_its_members, part_length};
+
+use index_model::Node;
+
+// The tags that name their members (DWARF 5, section 7.5.3).
+const CLASS_TYPE: u64 = 0x02;
+
+const ENUMERATION_TYPE: u64 = 0x04;
+
+const STRUCTURE_TYPE: u64 = 0x13;
+
+const UNION_TYPE: u64 = 0x17;
+
+const INTERFACE_TYPE: u64 = 0x38;
+
+const NAMESPACE: u64 = 0x39;
+
+// Stands behind each component of a scope.
+const SEPARATOR: &[u8] = b"::";
+
+// The name of a namespace that has none.
+const ANONYMOUS: &[u8] = b"(anonymous namespace)";
+
+/// The members of a scope path, the root counted, and the length of what they put before a name, or the greatest `usize`
+/// where it is greater.
+#[derive(Clone, Copy, Debug, PartialEq, Eq)]
+pub(crate) struct Scope {
+    pub(crate) steps: u32,
+    pub(crate) length: usize,
+}
+
+/// One member of a scope path: the length of what it puts before a name, and the joint offset of the lexical parent of its
+/// chain's end. None where the path ends.
+#[derive(Clone, Copy, Debug, PartialEq, Eq)]
+pub(crate) struct Step {
+    pub(crate) part: usize,
+    pub(crate) around: Option<u64>,
+}
+
+impl Step {
+    /// The step to a root.
+    pub(crate) const LAST: Step = Step {
+        part: 0,
+        around: None,
+    };
+}
+
+impl Scope {
+    /// The scope of a path without members.
+    pub(crate) const EMPTY: Scope = Scope {
+        steps: 0,
+        length: 0,
+    };
+
+    /// The scope with one more member, which puts so much before a name.
+    pub(crate) fn with(self, part: usize) -> Scope
+        requires { self.steps < 1024 }
+        ensures steps { result.steps ≡ self.steps + 1 }
+        ensures length { result.length ≡ min greatest (self.length + part) }
+    {
+        Scope {
+            steps: self.steps + 1,
+            length: self.length.saturating_add(part),
+        }
+    }
+
+    /// The scope with the path behind its last member.
+    pub(crate) fn within(self, outer: Scope) -> Scope
+        requires { self.steps + outer.steps ≤ 1024 }
+        ensures steps { result.steps ≡ self.steps + outer.steps }
+        ensures length { result.length ≡ min greatest (self.length + outer.length) }
+    {
+        Scope {
+            steps: self.steps + outer.steps,
+            length: self.length.saturating_add(outer.length),
+        }
+    }
+}
+
+/// The name of an entry for which the file spells this name: a namespace without one is anonymous.
+#[tactic(auto, unfolding(index_model::specs::ShardParts::node_facts))]
+pub(crate) fn name_with<'f>(node: &Node<'f>, spelled: Option<&'f [u8]>) -> Option<&'f [u8]>
+    ensures { (ss : List Section) (d : Located) → IsNodeOf ss node.now d → option_map (λ t. t.now) result ≡ name_with d (option_map (λ t. t.now) spelled.entry) }
+{
+    if spelled.is_none() && node.tag == NAMESPACE {
+        return Some(ANONYMOUS);
+    }
+    spelled
+}
+
+// Whether the entry's name is a component of the names inside it. The enumerators of an unscoped enumeration take its scope.
+fn names_its_members(node: &Node<'_>) -> bool
+    ensures { result ≡ names_its_members node.now.tag node.now.enum_class }
+{
+    match node.tag {
+        NAMESPACE | CLASS_TYPE | STRUCTURE_TYPE | UNION_TYPE | INTERFACE_TYPE => true,
+        ENUMERATION_TYPE => node.enum_class,
+        _ => false,
+    }
+}
+
+/// The length of what an entry puts before a name, if the file spells this name for it.
+#[tactic(auto, unfolding(index_model::specs::ShardParts::node_facts, index_model::specs::Names::component))]
+pub(crate) fn part_length<'f>(node: &Node<'f>, spelled: Option<&'f [u8]>) -> usize
+    ensures { (ss : List Section) (d : Located) → IsNodeOf ss node.now d → result ≡ min greatest (part_length (component (record { entry = d; name = name_with d (option_map (λ t. t.now) spelled.entry) }))) }
+{
+    match name_with(node, spelled) {
+        Some(name) if names_its_members(node) => name.len().saturating_add(SEPARATOR.len()),
+        _ => 0,
+    }
+}
