@@ -9,3 +9,8 @@ pub mod FollowLaws
 pub mod PathSteps
 pub mod Outwards
 pub mod Steps
+pub mod Lengths
+pub mod LinkParts
+pub mod KeptLaws
+pub mod NodeLinks
+pub mod RunLinks

@@ -4,3 +4,6 @@ pub mod Signed
 pub mod Visits
 pub mod Scopes
 pub mod Paths
+pub mod EntryLinks
+pub mod UnitClasses
+pub mod Runs

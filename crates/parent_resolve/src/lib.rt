@@ -3,7 +3,10 @@
 #![tactic(auto)]
 
 mod chain;
+mod classes;
+mod entry;
 mod followed;
+mod links;
 mod paths;
 mod references;
 #[cfg(test)]
@@ -13,4 +16,5 @@ mod signatures;
 mod visits;
 
 pub use followed::Followed;
+pub use links::link;
 pub use references::References;

@@ -1,0 +1,80 @@
+//! What the references of a shard's entries give (DWARF 5, sections 2.13.2 and 3.3.8).
+
+ghost use Rattle.std.specs.Prelude.{◌≡◌, ◌<◌, [], ◌∷◌, length, map};
+ghost use Rattle.std.specs.Arc.{arc_value};
+ghost use Rattle.index_model.specs.Rules.{is_ada};
+ghost use Rattle.index_model.specs.Gives.{GivesFor};
+ghost use Rattle.index_model.specs.Shards.{IsLinked};
+ghost use Rattle.shard_build.specs.Entries.{AreShardsOfFile};
+ghost use Rattle.parent_resolve.specs.Runs.{links_at, ForKept, ForRun, IsLinkedNode};
+
+use crate::classes::Classes;
+use crate::entry::link_entry;
+use crate::paths::Paths;
+use crate::visits::is_visited;
+use entry_rules::{Class, in_table};
+use index_model::{Linked, LinkedEntry, List, Node, Shard};
+use ix_base::Stop;
+use std::alloc::Global;
+use std::sync::Arc;
+use unit_headers::Image;
+
+/// What the references of the visited entries in shard `k` give: for each indexed entry, in section order, its name, its
+/// linkage name, whether it is external, and the length of its qualified name in bytes. The shards are those of consecutive
+/// runs that make up all units of the image's file.
+///
+/// Of each visited entry whose tag an index may list, the chain is followed first, then its signature where no entry of the
+/// chain has a name, then its scope path. The first entry with a fault counts. The fault has the joint offset of this entry,
+/// wherever the reference that is wrong stands: 16 where a reference names no entry, 17 where a chain has more than 8 hops or
+/// a scope path more than 1,024 steps, and 24 where the entry is indexed and its qualified name has more than 16 MiB.
+pub fn link<'f>(
+    alloc: Global,
+    image: &Image<'f>,
+    shards: &[Arc<Shard<'f>>],
+    k: usize,
+) -> Result<Linked<'f>, Stop>
+    requires of_file { AreShardsOfFile image.now (map arc_value shards.now) }
+    requires within { k < length shards.now }
+    ensures { ForRun image.now (map arc_value shards.now) k (λ p links. GivesFor (IsLinked p) result links) }
+{
+    let shard: &Shard<'f> = &shards[k];
+    let mut paths = Paths::new(alloc, image, shards)?;
+    let mut classes = Classes::new(shards);
+    let mut entries = Vec::new(alloc);
+    for node in shard.nodes.as_slice() {
+        if let Some(entry) = link_node(alloc, shard, &mut classes, &mut paths, node)? {
+            entries.push(entry)?;
+        }
+    }
+    Ok(Linked {
+        entries: List::of(entries),
+    })
+}
+
+// What the references of a node's entry give, if they are followed and the entry is indexed.
+fn link_node<'f>(
+    alloc: Global,
+    shard: &Shard<'f>,
+    classes: &mut Classes<'_, 'f>,
+    paths: &mut Paths<'_, 'f>,
+    node: &Node<'f>,
+) -> Result<Option<LinkedEntry<'f>>, Stop>
+    ensures value { paths.old.shards ≡ classes.old → ForKept paths.old shard.now node.now (λ p d. GivesFor (IsLinkedNode p) result (links_at p (d ∷ []))) }
+    ensures classes { classes.new ≡ classes.old }
+    ensures paths { paths.new ≡ paths.old }
+{
+    if !in_table(node.tag) {
+        return Ok(None);
+    }
+    let class = classes.of(node.unit);
+    if !is_visited(shard, node, is_ada(class)) {
+        return Ok(None);
+    }
+    link_entry(alloc, paths, node, class)
+}
+
+fn is_ada(class: Class) -> bool
+    ensures { result ≡ is_ada class }
+{
+    matches!(class, Class::Ada)
+}
