@@ -13,6 +13,8 @@ mod references;
 mod rows;
 mod scope;
 mod signatures;
+#[cfg(test)]
+mod tests;
 mod visits;
 
 pub use followed::Followed;
