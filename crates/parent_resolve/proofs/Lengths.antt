@@ -5,7 +5,7 @@ use Rattle.std.specs.List.{cons_option}
 use Rattle.index_model.specs.declared.rules.Class.{Class}
 use Rattle.index_model.specs.declared.rules.Class.TheVariants.{Cxx}
 use Rattle.index_model.specs.Names.{Member, component, qualified_name, scoped_name}
-use Rattle.qualified_names.proofs.ScopeLaws.{prefix, joined_is, prefix_reverse, scoped_name_is}
+use Rattle.name_forms.proofs.ScopeLaws.{prefix, joined_is, prefix_reverse, scoped_name_is}
 use Rattle.parent_resolve.specs.declared.scope.Scope.{Scope}
 use Rattle.parent_resolve.specs.Scopes.{greatest, part_length, prefix_length, IsScope}
 

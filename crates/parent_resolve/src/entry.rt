@@ -17,7 +17,7 @@ use entry_rules::{Class, Facts, indexed};
 use index_model::{LinkedEntry, Node};
 use ix_base::code::NAME_TOO_LONG;
 use ix_base::{Fault, MAX_QUALIFIED_NAME, Stop};
-use qualified_names::ada_length;
+use name_forms::ada_length;
 use std::alloc::Global;
 
 /// What the references of a visited entry give: its chain, then its signature where its name needs it, then its scope path are

@@ -1,14 +1,4 @@
-//! Qualified names: Ada names as GNAT codes them, and names behind their scopes (DWARF 5, section 2.13.2).
-//!
-//! A name is measured without memory, then written once into room of its known length.
+//! The entries of a run of units with their qualified names, and the main program (DWARF 5, sections 2.13.2, 3.3.1 and 6.1.1).
 #![tactic(auto)]
 
-mod decoding;
-mod pieces;
-mod scope;
-mod shortened;
-#[cfg(test)]
-mod tests;
-
-pub use decoding::{ada, ada_length, ada_tail};
-pub use scope::{scoped, scoped_length};
+pub use name_forms::ada;

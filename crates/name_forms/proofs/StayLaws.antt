@@ -6,10 +6,10 @@ use Rattle.std.proofs.lemmas.Bool.{cases_Bool}
 use Rattle.std.proofs.lemmas.List.{take_all}
 use Rattle.index_model.specs.Sections.{begins_with}
 use Rattle.index_model.specs.AdaNames.{pieces, is_line, is_digit, before_digits, without_number, without_prefix, shortened, is_coded, decoded}
-use Rattle.qualified_names.specs.Pieces.{pointed}
-use Rattle.qualified_names.proofs.CutLaws.{step_on, step_off, one, nothing}
-use Rattle.qualified_names.proofs.LengthLaws.{adds_up, shortened_length, without_number_length}
-use Rattle.qualified_names.proofs.ScopeLaws.{empty}
+use Rattle.name_forms.specs.Pieces.{pointed}
+use Rattle.name_forms.proofs.CutLaws.{step_on, step_off, one, nothing}
+use Rattle.name_forms.proofs.LengthLaws.{adds_up, shortened_length, without_number_length}
+use Rattle.name_forms.proofs.ScopeLaws.{empty}
 
 -- a front as long as the whole is the whole
 whole : (k : ℕ) (xs : List ℕ) → length xs ≤ length (take k xs) → take k xs ≡ xs

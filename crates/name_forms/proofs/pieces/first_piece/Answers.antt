@@ -1,8 +1,8 @@
 use Rattle.std.proofs.Common.{List, ℕ, ◌+◌, ◌∷◌, take, ap, sym, ◌∙◌}
 use Rattle.std.proofs.lemmas.List.{take_rest}
 use Rattle.index_model.specs.AdaNames.{pieces}
-use Rattle.qualified_names.proofs.CutLaws.{found_none, found_some}
-use Rattle.qualified_names.proofs.pieces.first_piece.Goals as goal
+use Rattle.name_forms.proofs.CutLaws.{found_none, found_some}
+use Rattle.name_forms.proofs.pieces.first_piece.Goals as goal
 
 pub returns-in-Some : goal.returns-in-Some
 returns-in-Some c =

@@ -4,9 +4,9 @@ use Rattle.std.specs.Borrow.{Bor}
 use Rattle.std.specs.Iterator.Adapters.{rev_source}
 use Rattle.std.specs.Slice.Iter.{iter_rest}
 use Rattle.std.proofs.lemmas.List.{append_assoc}
-use Rattle.qualified_names.specs.Scoped.{parts}
-use Rattle.qualified_names.proofs.ScopeLaws.{prefix, joined_is, outermost_some, outermost_none, empty}
-use Rattle.qualified_names.proofs.scope.scoped.Goals as goal
+use Rattle.name_forms.specs.Scoped.{parts}
+use Rattle.name_forms.proofs.ScopeLaws.{prefix, joined_is, outermost_some, outermost_none, empty}
+use Rattle.name_forms.proofs.scope.scoped.Goals as goal
 
 pub loop-member-preserved-in-Continue-branch-3 : goal.loop-member-preserved-in-Continue-branch-3
 loop-member-preserved-in-Continue-branch-3 c =

@@ -1,7 +1,7 @@
 use Rattle.std.proofs.Common.{length, Some, None, ap, ◌∙◌}
 use Rattle.index_model.specs.AdaNames.{last_of}
-use Rattle.qualified_names.proofs.LastLaws.{last_is}
-use Rattle.qualified_names.proofs.decoding.last_length.Goals as goal
+use Rattle.name_forms.proofs.LastLaws.{last_is}
+use Rattle.name_forms.proofs.decoding.last_length.Goals as goal
 
 pub returns-in-Some : goal.returns-in-Some
 returns-in-Some c = ap length (last_is c.of.result (Some c.in-Some.piece) c.in-Some.ensures.ran ∙ ap last_of c.of.ensures)

@@ -3,7 +3,7 @@
 ghost use Rattle.std.specs.Prelude.{◌≡◌, ◌++◌, length, true, false, IfOk, OnOk, MatchOption};
 ghost use Rattle.std.specs.List.{list_all};
 ghost use Rattle.index_model.specs.AdaNames.{pieces as pieces_of, decoded, decoded_simple, shortened as shortened_to, is_coded, is_good_byte, is_good_piece, last_of};
-ghost use Rattle.qualified_names.specs.Pieces.{pointed};
+ghost use Rattle.name_forms.specs.Pieces.{pointed};
 
 use crate::pieces::Pieces;
 use crate::shortened::shortened;

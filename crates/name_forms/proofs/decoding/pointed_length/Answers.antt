@@ -1,8 +1,8 @@
 use Rattle.std.proofs.Common.{◌≡◌, ◌≤◌, ◌<◌, ◌^◌, ℕ, List, length, inl, ap, arith, Bor}
 use Rattle.std.proofs.lemmas.Iterator.Consumers.{count_from_yields_List, YieldsList-from_first}
 use Rattle.index_model.specs.AdaNames.{pieces}
-use Rattle.qualified_names.proofs.LengthLaws.{adds_up}
-use Rattle.qualified_names.proofs.decoding.pointed_length.Goals as goal
+use Rattle.name_forms.proofs.LengthLaws.{adds_up}
+use Rattle.name_forms.proofs.decoding.pointed_length.Goals as goal
 
 pub count-requires-clause-fits : goal.count-requires-clause-fits
 count-requires-clause-fits c =

@@ -1,7 +1,7 @@
 //! A name behind the scopes around it, joined by `::`.
 
 ghost use Rattle.std.specs.Prelude.{◌≡◌, length, IfOk, min};
-ghost use Rattle.qualified_names.specs.Scoped.{parts, joined};
+ghost use Rattle.name_forms.specs.Scoped.{parts, joined};
 
 use ix_base::NoMemory;
 use std::alloc::Global;

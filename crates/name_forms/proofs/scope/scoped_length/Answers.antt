@@ -2,10 +2,10 @@ use Rattle.std.proofs.Common.{◌≡◌, ◌∙◌, List, ℕ, ◌+◌, ◌++◌
 use Rattle.std.specs.Prelude.{Option}
 use Rattle.std.specs.Borrow.{Bor}
 use Rattle.std.proofs.lemmas.List.{take_all}
-use Rattle.qualified_names.specs.Scoped.{parts}
-use Rattle.qualified_names.proofs.ScopeLaws.{prefix, joined_is, prefix_reverse, more_some, more_none, saturates}
-use Rattle.qualified_names.proofs.scope.scoped_length.Goals as goal
-use Rattle.qualified_names.proofs.scope.scoped_length.Goals.{in-Some, in_default}
+use Rattle.name_forms.specs.Scoped.{parts}
+use Rattle.name_forms.proofs.ScopeLaws.{prefix, joined_is, prefix_reverse, more_some, more_none, saturates}
+use Rattle.name_forms.proofs.scope.scoped_length.Goals as goal
+use Rattle.name_forms.proofs.scope.scoped_length.Goals.{in-Some, in_default}
 
 pub loop-member-preserved : goal.loop-member-preserved
 loop-member-preserved c =

@@ -1,6 +1,6 @@
 use Rattle.std.proofs.Common.{length, sym, ap, ◌∙◌}
-use Rattle.qualified_names.proofs.StayLaws.{decoded_is, decoded_not, stays}
-use Rattle.qualified_names.proofs.decoding.ada_length.Goals as goal
+use Rattle.name_forms.proofs.StayLaws.{decoded_is, decoded_not, stays}
+use Rattle.name_forms.proofs.decoding.ada_length.Goals as goal
 
 pub returns-in-Some : goal.returns-in-Some
 returns-in-Some c =

@@ -3,7 +3,7 @@
 ghost use Rattle.std.specs.Prelude.{◌≡◌, ◌+◌, ◌∷◌, length};
 ghost use Rattle.std.specs.Iterator.{YieldsFirstRef, item_count};
 ghost use Rattle.index_model.specs.AdaNames.{pieces as pieces_of};
-ghost use Rattle.qualified_names.specs.Pieces.{left};
+ghost use Rattle.name_forms.specs.Pieces.{left};
 
 use memchr::memmem;
 use std::marker::Model;
@@ -19,7 +19,7 @@ pub(crate) struct Pieces<'n> {
 
 impl<'n> Model for Pieces<'n> {
     ghost use Rattle.std.specs.Prelude.{List, ℕ};
-    ghost use Rattle.qualified_names.specs.Pieces.{left};
+    ghost use Rattle.name_forms.specs.Pieces.{left};
 
     ghost Value = { List (List ℕ) };
 

@@ -9,7 +9,7 @@ use Rattle.std.proofs.lemmas.List.{append_assoc, reverse-append}
 use Rattle.std.proofs.lemmas.List.Concat.{flat_map-append}
 use Rattle.std.proofs.lemmas.List.Elements.{filter_map-append}
 use Rattle.index_model.specs.Names.{Member, component, scoped_name}
-use Rattle.qualified_names.specs.Scoped.{parts, joined}
+use Rattle.name_forms.specs.Scoped.{parts, joined}
 
 -- each component with its separator
 abbrev pub prefix : List (List ℕ) → List ℕ

@@ -5,8 +5,8 @@ use Rattle.std.specs.List.{onto_first, suffix_len}
 use Rattle.std.proofs.lemmas.Bool.{cases_Bool}
 use Rattle.index_model.specs.AdaNames.{pieces, is_line, is_digit, before_digits, without_number, without_prefix, shortened}
 use Rattle.index_model.specs.Sections.{begins_with}
-use Rattle.qualified_names.specs.Pieces.{pointed}
-use Rattle.qualified_names.proofs.CutLaws.{step_on, step_off, one, nothing}
+use Rattle.name_forms.specs.Pieces.{pointed}
+use Rattle.name_forms.proofs.CutLaws.{step_on, step_off, one, nothing}
 
 abbrev pub points : List (List ℕ) → List ℕ
 points ps = flat_map (λ piece. codes "." ++ piece) ps
