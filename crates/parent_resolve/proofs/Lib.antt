@@ -14,3 +14,4 @@ pub mod LinkParts
 pub mod KeptLaws
 pub mod NodeLinks
 pub mod RunLinks
+pub mod ComponentLaws

@@ -15,7 +15,7 @@ use Rattle.index_model.specs.Program.{Program, Located, scope_around, item_with_
 use Rattle.index_model.specs.Names.{Member, component, step, path_from, scope_path}
 use Rattle.index_model.proofs.Meanings.{same_some}
 use Rattle.parent_resolve.specs.declared.scope.Scope.{Scope}
-use Rattle.parent_resolve.specs.declared.scope.Step.{Step}
+use Rattle.parent_resolve.specs.declared.members.Step.{Step}
 use Rattle.parent_resolve.specs.Followed.{all_entries}
 use Rattle.parent_resolve.specs.Scopes.{Passed, IsAround, IsScope, IsStep, greatest, part_length, prefix_length, passed_at}
 use Rattle.parent_resolve.proofs.Entries.{entry_found, scope_there}
@@ -65,7 +65,7 @@ scope_with a s part ms m ha hp steps length_ = record {
 abbrev behind : List Member → Result (List Member) ℕ → Result (List Member) ℕ
 behind ms r = r >>= λ others. Ok (ms ++ others)
 
-behind_none : (r : Result (List Member) ℕ) → r ≡ behind [] r
+pub behind_none : (r : Result (List Member) ℕ) → r ≡ behind [] r
 behind_none (Ok ms) = refl
 behind_none (Err e) = refl
 
@@ -84,7 +84,7 @@ pub record Reached (p : Program) (d : Located) (s : Scope) (around : ℕ) : Type
   pub place : parent_offset end ≡ Some around
   pub is : scope_path p d ≡ behind passed (path_from left p end)
 
-pub at_start : (p : Program) (d : Located) (s : Scope) (around : ℕ) → s.steps ≡ 0 → s.length ≡ 0 → Contains (all_entries p) d → parent_offset d ≡ Some around → Reached p d s around
+unfoldable pub at_start : (p : Program) (d : Located) (s : Scope) (around : ℕ) → s.steps ≡ 0 → s.length ≡ 0 → Contains (all_entries p) d → parent_offset d ≡ Some around → Reached p d s around
 at_start p d s around steps length_ c place = record {
   passed = [];
   scope = none_passed s steps length_;
@@ -134,9 +134,9 @@ module _ (p : Program) (d : Located) (s : Scope) (around : ℕ) (r : Reached p d
   pub is_wrong : s.steps < MAX_PATH_STEPS → (code : ℕ) → passed_at p m ≡ Err code → scope_path p d ≡ Err code
   is_wrong lt code is = goes_on (r.left - 1) (one_is_left lt) ∙ ap (λ (t : Result Passed ℕ). behind r.passed (t >>= beyond (onwards_in p (r.left - 1)))) is
 
-  module _ (lt : s.steps < MAX_PATH_STEPS) (x : Passed) (is : passed_at p m ≡ Ok x) (t : Step) (h : IsStep p t x) (next : Scope) (steps : next.steps ≡ s.steps + 1) (length_ : next.length ≡ min greatest (s.length + t.part)) where
+  module _ (lt : s.steps < MAX_PATH_STEPS) (x : Passed) (is : passed_at p m ≡ Ok x) (t : Step) (h : IsStep p t x) (part : ℕ) (given : part ≡ min greatest (part_length (option_map (λ t. t.now) t.component))) (next : Scope) (steps : next.steps ≡ s.steps + 1) (length_ : next.length ≡ min greatest (s.length + part)) where
     wider : IsScope next (r.passed ++ x.member ∷ [])
-    wider = scope_with s next t.part r.passed x.member r.scope h.part steps length_
+    wider = scope_with s next part r.passed x.member r.scope (given ∙ ap (λ (o : Option (List ℕ)). min greatest (part_length o)) h.component) steps length_
 
     -- the path ends with the member
     pub ends_here : t.around ≡ None → (scope_path p d ≡ Ok (r.passed ++ x.member ∷ [])) × IsScope next (r.passed ++ x.member ∷ [])
@@ -154,21 +154,24 @@ module _ (p : Program) (d : Located) (s : Scope) (around : ℕ) (r : Reached p d
             append_none (y ∷ ys) = ap (λ (zs : List Member). y ∷ zs) (append_none ys)
 
     -- it goes on around the member's chain's end
-    pub reaches : (more : ℕ) → t.around ≡ Some more → Reached p d next more
+    pub reaches : (more : ℕ) → t.around ≡ Some more → (onwards : Reached p d next more) × (onwards.passed ≡ r.passed ++ x.member ∷ [])
     reaches more some = by x.end refl h.around
       where
-        by : (end : Option Located) → x.end ≡ end → IsAround p t.around end → Reached p d next more
+        by : (end : Option Located) → x.end ≡ end → IsAround p t.around end → (onwards : Reached p d next more) × (onwards.passed ≡ r.passed ++ x.member ∷ [])
         by None e a = let never : None ≡ Some more = sym a ∙ some in absurd cc
-        by (Some end) e a = record {
-          passed = r.passed ++ x.member ∷ [];
-          scope = wider;
-          left = r.left - 1;
-          sum = omega (arith, lt, r.sum, r.scope.steps, length-append r.passed (x.member ∷ []));
-          end = end;
-          there = a.0;
-          place = sym a.1 ∙ some;
-          is = passes (r.left - 1) (one_is_left lt) x is ∙ ap (λ (o : Option Located). behind (r.passed ++ x.member ∷ []) (step o (onwards_in p (r.left - 1)))) e;
-        }
+        by (Some end) e a = (
+          record {
+            passed = r.passed ++ x.member ∷ [];
+            scope = wider;
+            left = r.left - 1;
+            sum = omega (arith, lt, r.sum, r.scope.steps, length-append r.passed (x.member ∷ []));
+            end = end;
+            there = a.0;
+            place = sym a.1 ∙ some;
+            is = passes (r.left - 1) (one_is_left lt) x is ∙ ap (λ (o : Option Located). behind (r.passed ++ x.member ∷ []) (step o (onwards_in p (r.left - 1)))) e;
+          },
+          refl,
+        )
 
 module _ (p : Program) (d : Located) (s : Scope) (around : ℕ) (r : Reached p d s around) (outer : Scope) (known : List Member) (is : scope_path p r.end ≡ Ok known) (h : IsScope outer known) where
   rest : path_from r.left p r.end ≡ within p r.left known

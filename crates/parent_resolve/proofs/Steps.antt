@@ -1,6 +1,7 @@
 -- What is known of one member of a scope path.
-use Rattle.std.proofs.Common.{◌≡◌, ℕ, min, Bool, true, false, cond, eqb, ◌&&◌, ◌||◌, List, Option, Some, None, option_map, Result, Ok, Err, refl, sym, ap, subst, ◌∙◌, arith, ⊎_elim}
+use Rattle.std.proofs.Common.{◌≡◌, ℕ, Bool, true, false, cond, eqb, ◌&&◌, ◌||◌, List, Option, Some, None, option_map, Result, Ok, Err, refl, sym, ap, subst, ◌∙◌, arith, ⊎_elim}
 use Rattle.std.specs.Prelude.{Contains, is_some}
+use Rattle.std.specs.Borrow.{Bor}
 use Rattle.std.proofs.lemmas.Bool.{true≢false, eq-eqb, ne_eqb, cases_eq}
 use Rattle.index_model.specs.declared.shard.Node.{Node}
 use Rattle.index_model.specs.Meaning.{◌>>=◌}
@@ -15,15 +16,19 @@ use Rattle.index_model.specs.Tags.{namespace, is_record_tag, enumeration}
 use Rattle.shard_build.specs.Entries.{IsNodeIn}
 use Rattle.index_model.specs.ShardParts.{IsNodeOf}
 use Rattle.parent_resolve.specs.declared.followed.Followed.{Followed}
-use Rattle.parent_resolve.specs.declared.scope.Step.{Step}
+use Rattle.parent_resolve.specs.declared.members.Step.{Step}
 use Rattle.parent_resolve.specs.Followed.{all_entries, followed_of, Named, IsFollowed}
-use Rattle.parent_resolve.specs.Scopes.{Passed, IsStep, followed_at, greatest, part_length, passed_at, root_passed}
+use Rattle.parent_resolve.specs.Scopes.{Passed, IsStep, followed_at, passed_at, root_passed}
 use Rattle.parent_resolve.proofs.Entries.{home_in, unit_in_order}
 use Rattle.parent_resolve.proofs.NodeLaws.{node_parts}
 
 -- the node that stands for what is at an offset
 pub node_there : (ss : List Section) (o : Option Node) (q : Option Located) (n : Node) (m : Located) → IsNodeIn ss o q → o ≡ Some n → q ≡ Some m → IsNodeOf ss n m
 node_there ss o q n m h own found = subst (λ (r : Option Located). IsNodeIn ss (Some n) r) found (subst (λ (r : Option Node). IsNodeIn ss r q) own h)
+
+-- there is a node where there is an entry
+pub nothing_there : (ss : List Section) (o : Option Node) (q : Option Located) (m : Located) → IsNodeIn ss o q → o ≡ None → q ≡ Some m → ⊥
+nothing_there ss o q m h own found = subst (λ (r : Option Located). IsNodeIn ss None r) found (subst (λ (r : Option Node). IsNodeIn ss r q) own h)
 
 pub none_from : (o : Option ℕ) → is_some o ≡ false → o ≡ None
 none_from None e = refl
@@ -57,8 +62,8 @@ module _ (f : List ℕ) (p : Program) (file : program_of f ≡ Ok p) (d : Locate
   unfolding passed_at
   passed_below some = ap (λ (b : Bool). cond b (Ok (root_passed d)) (followed_at p d)) (ne_eqb d.item.depth 0 (λ top. true≢false (sym some ∙ ap is_some (root_alone top))))
 
-pub root_step : (p : Program) (d : Located) (s : Step) → s.part ≡ 0 → s.around ≡ None → component (record { entry = d; name = None }) ≡ None → IsStep p s (root_passed d)
-root_step p d s part around none = record { part = part ∙ ap (λ (o : Option (List ℕ)). min greatest (part_length o)) (sym none); around = around }
+pub root_step : (p : Program) (d : Located) (s : Step) → s.component ≡ None → s.around ≡ None → component (record { entry = d; name = None }) ≡ None → IsStep p s (root_passed d)
+root_step p d s own around none = record { component = ap (option_map (λ t. t.now)) own ∙ sym none; around = around }
 
 pub root_gives_none : (d : Located) → component (record { entry = d; name = None }) ≡ None
 unfolding component
@@ -79,13 +84,13 @@ module _ (p : Program) (d : Located) where
   unfolding followed_at
   followed_wrong code is = ap (λ (r : Result Named ℕ). r >>= λ n. Ok (passed_named n)) is
 
-  pub followed_gives : (f : Followed) (n : Named) → followed_of p d ≡ Ok n → IsFollowed p d f n → (part : ℕ) → part ≡ min greatest (part_length (component (record { entry = d; name = name_with d (option_map (λ t. t.now) f.spelled) }))) →
-      (s : Step) → s.part ≡ part → s.around ≡ f.end.parent → (followed_at p d ≡ Ok (passed_named n)) × IsStep p s (passed_named n)
+  pub followed_gives : (f : Followed) (n : Named) → followed_of p d ≡ Ok n → IsFollowed p d f n → (part : Option (Bor (List ℕ))) → option_map (λ t. t.now) part ≡ component (record { entry = d; name = name_with d (option_map (λ t. t.now) f.spelled) }) →
+      (s : Step) → s.component ≡ part → s.around ≡ f.end.parent → (followed_at p d ≡ Ok (passed_named n)) × IsStep p s (passed_named n)
   unfolding followed_at
-  followed_gives f n is h part length_ s own around = (
+  followed_gives f n is h part given s own around = (
     ap (λ (r : Result Named ℕ). r >>= λ n. Ok (passed_named n)) is,
     record {
-      part = own ∙ length_ ∙ ap (λ (o : Option (List ℕ)). min greatest (part_length (component (record { entry = d; name = name_with d o })))) h.spelled;
+      component = ap (option_map (λ t. t.now)) own ∙ given ∙ ap (λ (o : Option (List ℕ)). component (record { entry = d; name = name_with d o })) h.spelled;
       around = (h.there, around ∙ (node_parts p.sections f.end (chain_end d n.chain) h.end).1);
     },
   )

@@ -7,3 +7,4 @@ pub mod Paths
 pub mod EntryLinks
 pub mod UnitClasses
 pub mod Runs
+pub mod Components

@@ -1,5 +1,5 @@
 -- How far a scope path goes, and how much it puts before a C++ name (DWARF 5, 2.13.2).
-use Rattle.std.specs.Prelude.{◌≡◌, ℕ, ◌+◌, Bool, ◌&&◌, ◌||◌, ◌==◌, min, if◌then◌else◌, List, [], ◌∷◌, length, Contains, Option, Some, None, Result, Ok}
+use Rattle.std.specs.Prelude.{◌≡◌, ℕ, ◌+◌, Bool, ◌&&◌, ◌||◌, ◌==◌, min, if◌then◌else◌, List, [], ◌∷◌, length, Contains, Option, Some, None, option_map, Result, Ok}
 use Rattle.index_model.specs.Meaning.{◌>>=◌}
 use Rattle.index_model.specs.Program.{Program, Located}
 use Rattle.index_model.specs.Parents.{parent_offset}
@@ -7,7 +7,7 @@ use Rattle.index_model.specs.Chains.{chain_end, name_with}
 use Rattle.index_model.specs.Names.{Member, component}
 use Rattle.index_model.specs.Tags.{namespace, is_record_tag, enumeration}
 use Rattle.parent_resolve.specs.declared.scope.Scope.{Scope}
-use Rattle.parent_resolve.specs.declared.scope.Step.{Step}
+use Rattle.parent_resolve.specs.declared.members.Step.{Step}
 use Rattle.parent_resolve.specs.Followed.{all_entries, followed_of}
 
 -- the length of a component and of the `::` behind it
@@ -61,7 +61,7 @@ abbrev pub IsAround : Program → Option ℕ → Option Located → Type 0
 IsAround p around None = around ≡ None
 IsAround p around (Some e) = Contains (all_entries p) e × (around ≡ parent_offset e)
 
--- what the member puts before a name, and where the path goes on
+-- what the member gives to names, and where the path goes on
 pub record IsStep (p : Program) (s : Step) (x : Passed) : Type 0 where
-  pub part : s.part ≡ min greatest (part_length (component x.member))
+  pub component : option_map (λ t. t.now) s.component ≡ component x.member
   pub around : IsAround p s.around x.end

@@ -4,9 +4,11 @@
 
 mod chain;
 mod classes;
+mod components;
 mod entry;
 mod followed;
 mod links;
+mod members;
 mod paths;
 mod references;
 #[cfg(test)]

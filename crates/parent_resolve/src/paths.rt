@@ -13,16 +13,16 @@ ghost use Rattle.index_model.specs.Meaning.{at_place, fault};
 ghost use Rattle.index_model.specs.Names.{scope_path};
 ghost use Rattle.shard_build.specs.Entries.{AreShardsOfFile};
 ghost use Rattle.parent_resolve.specs.Followed.{followed_of, ForEntry, IsFollowed};
-ghost use Rattle.parent_resolve.specs.Scopes.{followed_at, greatest, passed_at, IsScope, IsStep};
-ghost use Rattle.parent_resolve.specs.Paths.{ForAround, ForMember, IsScopeAround};
+ghost use Rattle.parent_resolve.specs.Scopes.{greatest, IsScope};
+ghost use Rattle.parent_resolve.specs.Paths.{ForAround, IsScopeAround};
 
 use crate::followed::Followed;
+use crate::members::{step_at, too_long};
 use crate::references::References;
-use crate::scope::{Scope, Step, part_length};
+use crate::scope::{Scope, part_length};
 use index_model::{Node, Shard};
 use indexmap::IndexMap;
-use ix_base::code::REFERENCE_CHAIN;
-use ix_base::{Fault, MAX_PATH_STEPS, NoMemory, Stop};
+use ix_base::{MAX_PATH_STEPS, NoMemory, Stop};
 use std::alloc::Global;
 use std::marker::Model;
 use std::sync::Arc;
@@ -118,37 +118,14 @@ impl<'s, 'f> Paths<'s, 'f> {
             if let Some(outer) = self.known_at(around) {
                 return joined(scope, outer, at);
             }
-            let step = self.step(alloc, around, at)?;
-            scope = scope.with(step.part);
+            let step = step_at(&mut self.references, alloc, around, at)?;
+            scope = scope.with(part_length(step.component));
             match step.around {
                 Some(parent) => around = parent,
                 None => return Ok(scope),
             }
         }
         Err(too_long(at))
-    }
-
-    // The member at the offset. There is one.
-    fn step(&mut self, alloc: Global, offset: u64, at: u64) -> Result<Step, Stop>
-        ensures value { ForMember self.old offset (λ p m. GivesFor (IsStep p) result (at_place at (passed_at p m))) }
-        ensures kept { self.new ≡ self.old }
-    {
-        match self.references.at(alloc, offset)? {
-            Some(member) if member.parent.is_some() => self.step_over(alloc, &member, at),
-            _ => Ok(Step::LAST),
-        }
-    }
-
-    // A member that isn't a root, and what is around its chain's end.
-    fn step_over(&mut self, alloc: Global, member: &Node<'f>, at: u64) -> Result<Step, Stop>
-        ensures value { ForEntry self.old member.now (λ p m. GivesFor (IsStep p) result (at_place at (followed_at p m))) }
-        ensures kept { self.new ≡ self.old }
-    {
-        let followed = self.references.follow(alloc, member, at)?;
-        Ok(Step {
-            part: part_length(member, followed.spelled),
-            around: followed.end.parent,
-        })
     }
 }
 
@@ -163,14 +140,4 @@ fn joined(scope: Scope, outer: Scope, at: u64) -> Result<Scope, Stop>
     } else {
         Err(too_long(at))
     }
-}
-
-// The fault of a path with too many steps.
-fn too_long(at: u64) -> Stop
-    ensures { result ≡ stops.Fault (fault REFERENCE_CHAIN at) }
-{
-    Stop::Fault(Fault {
-        code: REFERENCE_CHAIN,
-        at,
-    })
 }

@@ -37,22 +37,6 @@ pub(crate) struct Scope {
     pub(crate) length: usize,
 }
 
-/// One member of a scope path: the length of what it puts before a name, and the joint offset of the lexical parent of its
-/// chain's end. None where the path ends.
-#[derive(Clone, Copy, Debug, PartialEq, Eq)]
-pub(crate) struct Step {
-    pub(crate) part: usize,
-    pub(crate) around: Option<u64>,
-}
-
-impl Step {
-    /// The step to a root.
-    pub(crate) const LAST: Step = Step {
-        part: 0,
-        around: None,
-    };
-}
-
 impl Scope {
     /// The scope of a path without members.
     pub(crate) const EMPTY: Scope = Scope {
@@ -107,13 +91,25 @@ fn names_its_members(node: &Node<'_>) -> bool
     }
 }
 
-/// The length of what an entry puts before a name, if the file spells this name for it.
+/// What an entry gives to C++ names, if the file spells this name for it.
 #[tactic(auto, unfolding(index_model::specs::ShardParts::node_facts, index_model::specs::Names::component))]
-pub(crate) fn part_length<'f>(node: &Node<'f>, spelled: Option<&'f [u8]>) -> usize
-    ensures { (ss : List Section) (d : Located) → IsNodeOf ss node.now d → result ≡ min greatest (part_length (component (record { entry = d; name = name_with d (option_map (λ t. t.now) spelled.entry) }))) }
+pub(crate) fn component<'f>(node: &Node<'f>, spelled: Option<&'f [u8]>) -> Option<&'f [u8]>
+    ensures { (ss : List Section) (d : Located) → IsNodeOf ss node.now d → option_map (λ t. t.now) result ≡ component (record { entry = d; name = name_with d (option_map (λ t. t.now) spelled.entry) }) }
 {
-    match name_with(node, spelled) {
-        Some(name) if names_its_members(node) => name.len().saturating_add(SEPARATOR.len()),
-        _ => 0,
+    if names_its_members(node) {
+        name_with(node, spelled)
+    } else {
+        None
+    }
+}
+
+/// The length of what a member puts before a name: its component and the `::` behind it. The greatest `usize` where it is
+/// greater.
+pub(crate) fn part_length(component: Option<&[u8]>) -> usize
+    ensures { result ≡ min greatest (part_length (option_map (λ t. t.now) component.entry)) }
+{
+    match component {
+        Some(name) => name.len().saturating_add(SEPARATOR.len()),
+        None => 0,
     }
 }

@@ -29,29 +29,32 @@ pub returns-in_err-step-clause-value : goal.returns-in_err-step-clause-value
 returns-in_err-step-clause-value c p file d dc place =
     let r = c.loop-scope.invariant.reached p file d dc place in
     let here = ap (λ (e : EntriesOf). program_of e.image.file) c.loop-scope.invariant.kept ∙ file in
+    let inside = ap (λ (e : EntriesOf). program_of e.image.file) c.self.view_is ∙ here in
     let m = parent_found c.args.self.now.image.file p file r.end c.loop-scope.around r.there r.place in
     let q = err_from_is_err_and c.from_residual.result c.from_residual.ensures.1 in
-    rw (q.1, q.2) (stops_as c.in_err-step.field-0.0 c.args.at (passed_at p m.0) (scope_path p d) (c.in_err-step.ensures.value p here m.0 m.2) (is_wrong p d c.loop-scope.scope c.loop-scope.around r m.0 m.1 c.loop-scope-test.true))
+    rw (q.1, q.2) (stops_as c.in_err-step.field-0.0 c.args.at (passed_at p m.0) (scope_path p d) (c.in_err-step.ensures.value p inside m.0 m.2) (is_wrong p d c.loop-scope.scope c.loop-scope.around r m.0 m.1 c.loop-scope-test.true))
 
 pub loop-scope-preserved : goal.loop-scope-preserved
 loop-scope-preserved c = record {
-  kept = c.step.ensures.kept ∙ c.loop-scope.invariant.kept;
+  kept = c.step_at.ensures.kept ∙ c.self.view_is ∙ c.loop-scope.invariant.kept;
   within = omega arith;
   reached = λ p file d dc place.
       let r = c.loop-scope.invariant.reached p file d dc place in
       let here = ap (λ (e : EntriesOf). program_of e.image.file) c.loop-scope.invariant.kept ∙ file in
+      let inside = ap (λ (e : EntriesOf). program_of e.image.file) c.self.view_is ∙ here in
       let m = parent_found c.args.self.now.image.file p file r.end c.loop-scope.around r.there r.place in
-      let x = ok_and (IsStep p c.in_ok-step.step) c.args.at (passed_at p m.0) (c.in_ok-step.ensures.value p here m.0 m.2) in
-      reaches p d c.loop-scope.scope c.loop-scope.around r m.0 m.1 c.loop-scope-test.true x.0 x.1 c.in_ok-step.step x.2 c.with-scope.result c.with-scope.ensures.steps c.with-scope.ensures.length c.in-Some-around.parent c.in-Some-around.is;
+      let x = ok_and (IsStep p c.in_ok-step.step) c.args.at (passed_at p m.0) (c.in_ok-step.ensures.value p inside m.0 m.2) in
+      (reaches p d c.loop-scope.scope c.loop-scope.around r m.0 m.1 c.loop-scope-test.true x.0 x.1 c.in_ok-step.step x.2 c.part_length.result c.part_length.ensures c.with-scope.result c.with-scope.ensures.steps c.with-scope.ensures.length c.in-Some-around.parent c.in-Some-around.is).0;
 }
 
 pub returns-in-None-clause-value : goal.returns-in-None-clause-value
 returns-in-None-clause-value c p file d dc place =
     let r = c.loop-scope.invariant.reached p file d dc place in
     let here = ap (λ (e : EntriesOf). program_of e.image.file) c.loop-scope.invariant.kept ∙ file in
+    let inside = ap (λ (e : EntriesOf). program_of e.image.file) c.self.view_is ∙ here in
     let m = parent_found c.args.self.now.image.file p file r.end c.loop-scope.around r.there r.place in
-    let x = ok_and (IsStep p c.in_ok-step.step) c.args.at (passed_at p m.0) (c.in_ok-step.ensures.value p here m.0 m.2) in
-    let e = ends_here p d c.loop-scope.scope c.loop-scope.around r m.0 m.1 c.loop-scope-test.true x.0 x.1 c.in_ok-step.step x.2 c.with-scope.result c.with-scope.ensures.steps c.with-scope.ensures.length c.in-None.is in
+    let x = ok_and (IsStep p c.in_ok-step.step) c.args.at (passed_at p m.0) (c.in_ok-step.ensures.value p inside m.0 m.2) in
+    let e = ends_here p d c.loop-scope.scope c.loop-scope.around r m.0 m.1 c.loop-scope-test.true x.0 x.1 c.in_ok-step.step x.2 c.part_length.result c.part_length.ensures c.with-scope.result c.with-scope.ensures.steps c.with-scope.ensures.length c.in-None.is in
     gives_ok (IsScope c.with-scope.result) c.args.at (scope_path p d) _ e.0 e.1
 
 pub returns-clause-value : goal.returns-clause-value

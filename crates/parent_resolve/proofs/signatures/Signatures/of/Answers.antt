@@ -2,7 +2,7 @@ use Rattle.std.proofs.Common.{◌≡◌, List, ap, ◌∙◌, rules, of_calls}
 use Rattle.std.proofs.lemmas.List.Sorted.{IsNonDecreasingBy-from_sort_by_key}
 use Rattle.std.proofs.lemmas.Fn.{always_returns_same}
 use Rattle.parent_resolve.specs.declared.signatures.TypeUnit.{TypeUnit}
-use Rattle.parent_resolve.specs.Signed.{first_signed, type_units}
+use Rattle.parent_resolve.specs.Signed.{first_signed}
 use Rattle.parent_resolve.proofs.SignedLaws.{first_stays}
 use Rattle.parent_resolve.proofs.signatures.Signatures.of.Goals as goal
 
