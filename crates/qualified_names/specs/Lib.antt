@@ -1,0 +1,5 @@
+pub mod Indexed
+pub mod Nodes
+pub mod Paths
+pub mod Files
+pub mod Sought

@@ -1,4 +1,16 @@
 //! The entries of a run of units with their qualified names, and the main program (DWARF 5, sections 2.13.2, 3.3.1 and 6.1.1).
 #![tactic(auto)]
 
+mod entry;
+mod indexed;
+mod languages;
+mod links;
+mod main_program;
+mod names;
+mod nodes;
+mod run;
+mod sought;
+
+pub use main_program::main_of;
 pub use name_forms::ada;
+pub use run::run_of;

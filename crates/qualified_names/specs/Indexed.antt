@@ -1,0 +1,49 @@
+-- What is known of an indexed entry, by its node and by what its references say.
+use Rattle.std.specs.Prelude.{◌≡◌, true, Contains, Ok}
+use Rattle.index_model.specs.declared.rules.Class.{Class}
+use Rattle.index_model.specs.declared.shard.Node.{Node}
+use Rattle.index_model.specs.Chains.{chain_end}
+use Rattle.index_model.specs.Faults.{program_of}
+use Rattle.index_model.specs.Links.{Link, link_of, is_link_indexed}
+use Rattle.index_model.specs.Program.{Program}
+use Rattle.index_model.specs.ShardParts.{IsNodeOf}
+use Rattle.index_model.specs.Shards.{AreShardsOf, IsLinkedEntryOf}
+use Rattle.shard_build.specs.Entries.{EntriesOf}
+use Rattle.parent_resolve.specs.Followed.{all_entries}
+use Rattle.qualified_names.specs.declared.indexed.Indexed.{Indexed}
+
+-- the entry's link is this one
+pub record IsIndexed (p : Program) (x : Indexed) (k : Link) : Type 0 where
+  pub own : link_of p k.entry ≡ Ok k
+  pub there : Contains (all_entries p) k.entry
+  pub node : IsNodeOf p.sections x.node k.entry
+  pub links : IsLinkedEntryOf p x.links k
+  pub indexed : is_link_indexed k ≡ true
+
+-- whatever the entry's link is
+abbrev pub ForAnyLink : Indexed → (Link → Type 0) → Type 0
+ForAnyLink x Holds = (p : Program) (k : Link) → IsIndexed p x k → Holds k
+
+-- it has one, in a unit of this class
+pub record HasAnyLink (x : Indexed) (class : Class) : Type 0 where
+  pub program : Program
+  pub link : Link
+  pub is : IsIndexed program x link
+  pub class_is : class ≡ link.class
+
+-- whatever its link in the file is
+abbrev pub ForLink : EntriesOf → Indexed → (Program → Link → Type 0) → Type 0
+ForLink e x Holds = (p : Program) → program_of e.image.file ≡ Ok p → AreShardsOf p e.shards → (k : Link) → IsIndexed p x k → Holds p k
+
+-- it has one in the file
+pub record HasLink (e : EntriesOf) (x : Indexed) : Type 0 where
+  pub program : Program
+  pub file : program_of e.image.file ≡ Ok program
+  pub shards : AreShardsOf program e.shards
+  pub link : Link
+  pub is : IsIndexed program x link
+
+-- the node is that of the last entry of the chain
+pub record IsEnd (p : Program) (k : Link) (end : Node) : Type 0 where
+  pub there : Contains (all_entries p) (chain_end k.entry k.chain)
+  pub node : IsNodeOf p.sections end (chain_end k.entry k.chain)

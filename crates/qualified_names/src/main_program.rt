@@ -1,0 +1,101 @@
+//! The main program (DWARF 5, section 3.3.1).
+
+ghost use Rattle.std.specs.Prelude.{◌≡◌, ◌==◌, not, filter, find, length, map, IfOk};
+ghost use Rattle.std.specs.Arc.{arc_value};
+ghost use Rattle.index_model.specs.Languages.{language_of};
+ghost use Rattle.index_model.specs.MainProgram.{main_in, main_of};
+ghost use Rattle.qualified_names.specs.Files.{AreLinkedOfFile, ForLinks};
+ghost use Rattle.qualified_names.specs.Nodes.{all_indexed};
+ghost use Rattle.qualified_names.specs.Sought.{ForAllCounted, is_main_by, IsFound};
+
+use crate::indexed::Indexed;
+use crate::languages::Languages;
+use crate::names::Names;
+use crate::nodes::IndexedNodes;
+use crate::sought::Sought;
+use entry_rules::class;
+use index_model::{Linked, Main, Shard};
+use ix_base::NoMemory;
+use std::alloc::Global;
+use std::sync::Arc;
+use unit_headers::Image;
+
+/// The main program, None where the file has none: of the indexed entries whose unit has a language other than 0 the first that
+/// says itself that it is main, else the first subprogram of C or C++ that isn't static and has the qualified name `main`. The
+/// shards are those of consecutive runs that make up all units of the image's file, and the links are what the references of
+/// these runs give.
+pub fn main_of<'f>(
+    alloc: Global,
+    image: &Image<'f>,
+    shards: &[Arc<Shard<'f>>],
+    linked: &[Arc<Linked<'f>>],
+) -> Result<Option<Main<'f>>, NoMemory>
+    requires { AreLinkedOfFile image.now (map arc_value shards.now) (map arc_value linked.now) }
+    ensures { ForLinks image.now (λ p ks. IfOk result (λ m. m ≡ main_of p ks)) }
+{
+    let mut languages = Languages::new(shards);
+    let Some(found) = main_entry(&mut languages, shards, linked) else {
+        return Ok(None);
+    };
+    let language = languages.of(found.node.unit);
+    let mut names = Names::new(alloc, image, shards)?;
+    let name = names.qualified(alloc, &found, class(language))?;
+    Ok(Some(Main { language, name }))
+}
+
+// The entry of the main program.
+fn main_entry<'f>(
+    languages: &mut Languages<'_, 'f>,
+    shards: &[Arc<Shard<'f>>],
+    linked: &[Arc<Linked<'f>>],
+) -> Option<Indexed<'f>>
+    requires { length shards.now ≡ length linked.now }
+    ensures value { ForAllCounted languages.old (all_indexed (map arc_value shards.now) (map arc_value linked.now)) (λ p ks. IsFound p result (main_in (filter (λ k. not (language_of p k.entry.home == 0)) ks))) }
+    ensures kept { languages.new ≡ languages.old }
+{
+    match first_main(languages, shards, linked, Sought::Said) {
+        Some(found) => Some(found),
+        None => first_main(languages, shards, linked, Sought::Named),
+    }
+}
+
+// The first entry that is told to be main in this way.
+fn first_main<'f>(
+    languages: &mut Languages<'_, 'f>,
+    shards: &[Arc<Shard<'f>>],
+    linked: &[Arc<Linked<'f>>],
+    sought: Sought,
+) -> Option<Indexed<'f>>
+    requires { length shards.now ≡ length linked.now }
+    ensures value { ForAllCounted languages.old (all_indexed (map arc_value shards.now) (map arc_value linked.now)) (λ p ks. IsFound p result (find (is_main_by p sought) ks)) }
+    ensures kept { languages.new ≡ languages.old }
+{
+    for k in 0..shards.len() {
+        let shard = &shards[k];
+        let links = &linked[k];
+        let nodes = IndexedNodes::of(shard, links);
+        if let Some(found) = first_main_in(languages, nodes, sought) {
+            return Some(found);
+        }
+    }
+    None
+}
+
+// The first of these that is told so.
+fn first_main_in<'f>(
+    languages: &mut Languages<'_, 'f>,
+    nodes: IndexedNodes<'_, 'f>,
+    sought: Sought,
+) -> Option<Indexed<'f>>
+    ensures value { ForAllCounted languages.old nodes.entry (λ p ks. IsFound p result (find (is_main_by p sought) ks)) }
+    ensures kept { languages.new ≡ languages.old }
+{
+    let mut left = nodes;
+    while let Some((indexed, others)) = left.split_first() {
+        if sought.tells(languages, &indexed) {
+            return Some(indexed);
+        }
+        left = others;
+    }
+    None
+}

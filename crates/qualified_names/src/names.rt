@@ -1,0 +1,105 @@
+//! The qualified names of indexed entries (DWARF 5, section 2.13.2).
+
+ghost use Rattle.std.specs.Prelude.{◌≡◌, map, option_map, IfOk, Some};
+ghost use Rattle.std.specs.Arc.{arc_value};
+ghost use Rattle.index_model.specs.ShardLanguages.{IsLanguageAt};
+ghost use Rattle.index_model.specs.Links.{name_in, qualified_of};
+ghost use Rattle.index_model.specs.Names.{scoped_name};
+ghost use Rattle.shard_build.specs.Entries.{AreShardsOfFile};
+ghost use Rattle.qualified_names.specs.Indexed.{ForLink, HasLink};
+
+use crate::indexed::Indexed;
+use crate::languages::Languages;
+use crate::links::{Around, end_of, go_around};
+use entry_rules::Class;
+use index_model::{Shard, Text};
+use ix_base::NoMemory;
+use name_forms::{ada, scoped};
+use parent_resolve::References;
+use std::alloc::Global;
+use std::marker::Model;
+use std::sync::Arc;
+use unit_headers::Image;
+
+/// The names of a file's entries, and the languages of its units. The scope of the C++ entry that was named last is at hand.
+#[derive(Drop)]
+pub(crate) struct Names<'s, 'f> {
+    references: References<'s, 'f>,
+    languages: Languages<'s, 'f>,
+    around: Around<'f>,
+}
+
+impl<'s, 'f> Model for Names<'s, 'f> {
+    ghost use Rattle.std.specs.Prelude.{◌≡◌};
+    ghost use Rattle.shard_build.specs.Entries.{EntriesOf};
+    ghost use Rattle.qualified_names.specs.Paths.{AreAround};
+
+    ghost Value = { EntriesOf };
+
+    ghost view = { λ n. n.references };
+
+    ghost invariant = { λ n. (n.languages ≡ n.references.shards) × AreAround n.references n.around.parent n.around.components };
+}
+
+impl<'s, 'f> Names<'s, 'f> {
+    /// The names of a file's entries. The shards are those of consecutive runs that make up all its units.
+    pub(crate) fn new(
+        alloc: Global,
+        image: &'s Image<'f>,
+        shards: &'s [Arc<Shard<'f>>],
+    ) -> Result<Names<'s, 'f>, NoMemory>
+        requires { AreShardsOfFile image.now (map arc_value shards.now) }
+        ensures { IfOk result (λ n. n ≡ record { image = image.now; shards = map arc_value shards.now }) }
+    {
+        Ok(Names {
+            references: References::new(alloc, image, shards)?,
+            languages: Languages::new(shards),
+            around: Around {
+                parent: None,
+                components: Vec::new(alloc),
+            },
+        })
+    }
+
+    /// The language code of the unit with this number, 0 where it has none.
+    pub(crate) fn language(&mut self, unit: u32) -> u16
+        ensures value { IsLanguageAt self.old.shards unit result }
+        ensures kept { self.new ≡ self.old }
+    {
+        self.languages.of(unit)
+    }
+
+    /// The qualified name of an indexed entry, in a unit of this class. Where it is as long as the entry's own name, it is
+    /// that name.
+    pub(crate) fn qualified(
+        &mut self,
+        alloc: Global,
+        entry: &Indexed<'f>,
+        class: Class,
+    ) -> Result<Text<'f>, NoMemory>
+        requires { HasLink self.old entry.now }
+        ensures value { ForLink self.old entry.now (λ p k. class ≡ k.class → IfOk result (λ t. qualified_of k ≡ Some t)) }
+        ensures kept { self.new ≡ self.old }
+    {
+        let name = entry.name();
+        if entry.links.length as usize == name.len() {
+            return Ok(Text::lent(name));
+        }
+        match class {
+            Class::Ada => Ok(Text::owned(ada(alloc, name)?)),
+            // Of the others only C++ changes names.
+            _ => Ok(Text::owned(self.scoped(alloc, entry)?)),
+        }
+    }
+
+    // The name behind the components of its scope.
+    fn scoped(&mut self, alloc: Global, entry: &Indexed<'f>) -> Result<Vec<u8>, NoMemory>
+        requires { HasLink self.old entry.now }
+        ensures value { ForLink self.old entry.now (λ p k. IfOk result (λ v. option_map (scoped_name k.path) (name_in k) ≡ Some v.items)) }
+        ensures kept { self.new ≡ self.old }
+    {
+        let end = end_of(&mut self.references, alloc, entry)?;
+        go_around(&mut self.around, &mut self.references, alloc, &end)?;
+        scoped(alloc, self.around.components.as_slice(), entry.name())
+    }
+}

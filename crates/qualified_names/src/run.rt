@@ -1,0 +1,45 @@
+//! The entries of a run of units (DWARF 5, section 6.1.1.1).
+
+ghost use Rattle.std.specs.Prelude.{◌≡◌, ◌<◌, length, map, IfOk};
+ghost use Rattle.std.specs.Arc.{arc_value};
+ghost use Rattle.index_model.specs.Entries.{entries_of};
+ghost use Rattle.qualified_names.specs.Files.{AreLinkedOfFile, ForLinkedRun};
+
+use crate::entry::push_entries;
+use crate::names::Names;
+use crate::nodes::IndexedNodes;
+use index_model::{Linked, List, Run, Shard};
+use ix_base::NoMemory;
+use std::alloc::Global;
+use std::sync::Arc;
+use unit_headers::Image;
+
+/// The entries of run `k`, in section order, each with its linkage entry behind it. The shards are those of consecutive runs
+/// that make up all units of the image's file, and the links are what the references of these runs give.
+///
+/// The name of an entry is its qualified name, and its simple name are the last `tail` bytes of that. In C++ the components of
+/// the scope path stand before the name, joined by `::`; in Ada the name is decoded; in other languages it is as it is
+/// spelled. A linkage entry has the linkage name of a subprogram or variable, where that isn't the qualified name, and no
+/// simple name. A name that stands in the file as it is isn't copied.
+pub fn run_of<'f>(
+    alloc: Global,
+    image: &Image<'f>,
+    shards: &[Arc<Shard<'f>>],
+    linked: &[Arc<Linked<'f>>],
+    k: usize,
+) -> Result<Run<'f>, NoMemory>
+    requires of_file { AreLinkedOfFile image.now (map arc_value shards.now) (map arc_value linked.now) }
+    requires within { k < length shards.now }
+    ensures { ForLinkedRun image.now (map arc_value shards.now) (map arc_value linked.now) k (λ p ks. IfOk result (λ run. run ≡ entries_of p ks)) }
+{
+    let shard = &shards[k];
+    let links = &linked[k];
+    let mut names = Names::new(alloc, image, shards)?;
+    let mut entries = Vec::with_capacity(alloc, links.entries.as_slice().len())?;
+    let mut left = IndexedNodes::of(shard, links);
+    while let Some((indexed, others)) = left.split_first() {
+        push_entries(&mut entries, &mut names, alloc, &indexed)?;
+        left = others;
+    }
+    Ok(List::of(entries))
+}
