@@ -292,6 +292,36 @@ def range_fault_tables():
     return '\n'.join(['use index_model::Raw;\n', table('FAULTS', doc, RANGE_KIND % 'u8', range_rows()[1])])
 
 
+# ---- links
+
+# a method over three units, beside the rows on references
+SCOPED = ['method_over_three_units_by_name_1_workers']
+
+
+def entries_found(row):
+    """(offset, length of the name) of each entry that is found by its qualified name."""
+    asked = gen_vectors.read(os.path.join(gen_vectors.ROWS, row, 'args')).decode().rstrip('\n').split('\n')
+    out = gen_vectors.read(os.path.join(gen_vectors.ROWS, row, 'stdout')).decode()
+    found = [line.split(' ', 6) for line in out.split('\n')[1:-1]]
+    if asked[-2] != 'name' or not found or any(words[5:] != ['name', asked[-1]] for words in found):
+        sys.exit('%s finds no entry by its name' % row)
+    return [(int(words[1], 16), len(words[6].encode())) for words in found]
+
+
+def link_tables():
+    cases = []
+    for row in rows_of('references') + SCOPED:
+        entries = ['(0x%x, %d)' % entry for entry in entries_found(row)]
+        cases.append([quoted(row), wrapped(gen_vectors.read(row_file(row)), 8), '&[%s]' % ', '.join(entries)])
+    return table('FOUND', 'A file, and of some of its indexed entries the offset and how many bytes the qualified name has.',
+                 '(&str, &[u8], &[(u64, u32)])', cases)
+
+
+def link_fault_tables():
+    cases = [[quoted(row), wrapped(gen_vectors.read(row_file(row)), 8), '(%d, 0x%x)' % refusal(row)] for row in rows_of('reference_faults')]
+    return table('FAULTS', 'A file, and the first fault of its references.', '(&str, &[u8], (u8, u64))', cases)
+
+
 FILES = {
     'elf_sections/src/tests/rows.rt': elf_tables,
     'unit_headers/src/tests/rows.rt': header_tables,
@@ -300,6 +330,8 @@ FILES = {
     'entry_scan/src/walk/tests/fault_rows.rt': walk_fault_tables,
     'range_lists/src/tests/rows.rt': range_tables,
     'range_lists/src/tests/fault_rows.rt': range_fault_tables,
+    'parent_resolve/src/tests/rows.rt': link_tables,
+    'parent_resolve/src/tests/fault_rows.rt': link_fault_tables,
 }
 
 

@@ -15,3 +15,4 @@ pub mod KeptLaws
 pub mod NodeLinks
 pub mod RunLinks
 pub mod ComponentLaws
+pub mod CutFile

@@ -1,30 +1,45 @@
-ghost use Rattle.std.specs.Prelude.{map, IfOk};
+mod fault_rows;
+mod rows;
+
+ghost use Rattle.std.specs.Prelude.{◌≡◌, ◌<◌, ◌≤◌, length, map, IfOk};
 ghost use Rattle.std.specs.Arc.{arc_value};
+ghost use Rattle.ix_base.specs.declared.limits.TheConstants.{MAX_FILE_BYTES};
 ghost use Rattle.shard_build.specs.Entries.{AreShardsOfFile};
 
 use crate::link;
 use crate::rows::{ANONYMOUS_NAMESPACE, ENUMERATIONS, SCOPES_IN_A_CIRCLE, THREE_UNITS};
+use fault_rows::FAULTS;
 use index_model::{Linked, LinkedEntry, Shard};
 use ix_base::code::REFERENCE_CHAIN;
-use ix_base::{Fault, Stop};
+use ix_base::{Fault, MAX_FILE_BYTES, Stop};
+use rows::FOUND;
 use shard_build::scan;
 use std::alloc::Global;
 use std::sync::Arc;
 use std::test::Fail;
 use unit_headers::Image;
 
-// The shard of all units.
-fn whole<'f>(alloc: Global, image: &Image<'f>) -> Result<[Arc<Shard<'f>>; 1], Fail>
-    ensures { IfOk result (λ shards. AreShardsOfFile image.now (map arc_value shards)) }
+// The shards of `count` runs, each of its share of the units that are left; a run may have none.
+fn shards_of<'f>(alloc: Global, image: &Image<'f>, count: u32) -> Result<Vec<Arc<Shard<'f>>>, Fail>
+    requires { 0 < count }
+    ensures of_file { IfOk result (λ shards. AreShardsOfFile image.now (map arc_value shards.items)) }
+    ensures count { IfOk result (λ shards. length shards.items ≡ count) }
 {
-    let count = image.units().len() as u32;
-    let shard = scan(alloc, image, 0, count)?;
-    Ok([Arc::new(alloc, shard)?])
+    let units = image.units().len() as u32;
+    let mut shards = Vec::new(alloc);
+    let mut first = 0;
+    for k in 0..count {
+        let share = (units - first) / (count - k);
+        let shard = scan(alloc, image, first, share)?;
+        shards.push(Arc::new(alloc, shard)?)?;
+        first += share;
+    }
+    Ok(shards)
 }
 
 // What the references of all units give.
 fn linked<'f>(alloc: Global, image: &Image<'f>) -> Result<Linked<'f>, Fail> {
-    let shards = whole(alloc, image)?;
+    let shards = shards_of(alloc, image, 1)?;
     Ok(link(alloc, image, &shards, 0)?)
 }
 
@@ -74,14 +89,97 @@ fn scoped_enumeration_counts(rt: HostRuntime) -> Result<(), Fail> {
 #[test]
 fn scopes_in_a_circle_are_a_fault(rt: HostRuntime) -> Result<(), Fail> {
     let image = Image::open(rt.alloc(), &SCOPES_IN_A_CIRCLE)?;
-    let shards = whole(rt.alloc(), &image)?;
+    let shards = shards_of(rt.alloc(), &image, 1)?;
     let fault = Fault {
         code: REFERENCE_CHAIN,
         at: 0x10,
     };
-    match link(rt.alloc(), &image, &shards, 0) {
-        Err(Stop::Fault(found)) => assert_eq!(rt; found, fault),
-        _ => return Err(Fail::from("no fault")),
+    assert_eq!(rt; first_fault(rt.alloc(), &image, &shards)?, Some(fault));
+    Ok(())
+}
+
+// The first fault of the shards' links, in order.
+fn first_fault<'f>(
+    alloc: Global,
+    image: &Image<'f>,
+    shards: &[Arc<Shard<'f>>],
+) -> Result<Option<Fault>, Fail>
+    requires { AreShardsOfFile image.now (map arc_value shards.now) }
+{
+    for k in 0..shards.len() {
+        match link(alloc, image, shards, k) {
+            Ok(_) => {}
+            Err(Stop::Fault(fault)) => return Ok(Some(fault)),
+            Err(Stop::Memory) => return Err(Fail::from("no memory")),
+        }
+    }
+    Ok(None)
+}
+
+// Whether this is the first fault of the file's links, by one, two and eight shards.
+fn is_first_fault(alloc: Global, file: &[u8], fault: Fault) -> Result<bool, Fail>
+    requires { length file.now ≤ MAX_FILE_BYTES }
+{
+    let image = Image::open(alloc, file)?;
+    for count in [1, 2, 8] {
+        let shards = shards_of(alloc, &image, count)?;
+        if first_fault(alloc, &image, &shards)? != Some(fault) {
+            return Ok(false);
+        }
+    }
+    Ok(true)
+}
+
+#[test]
+fn first_faults_of_references(rt: HostRuntime) -> Result<(), Fail> {
+    for (name, file, (code, at)) in FAULTS {
+        assert!(rt; file.len() as u64 <= MAX_FILE_BYTES);
+        assert!(rt;
+            is_first_fault(rt.alloc(), file, Fault { code, at })?,
+            "{name}"
+        );
+    }
+    Ok(())
+}
+
+// The offset of each linked entry, and the length of its qualified name.
+fn all_linked<'f>(
+    alloc: Global,
+    image: &Image<'f>,
+    shards: &[Arc<Shard<'f>>],
+) -> Result<Vec<(u64, u32)>, Fail>
+    requires { AreShardsOfFile image.now (map arc_value shards.now) }
+{
+    let mut found = Vec::new(alloc);
+    for k in 0..shards.len() {
+        let linked = link(alloc, image, shards, k)?;
+        for entry in linked.entries.as_slice() {
+            found.push((entry.offset, entry.length))?;
+        }
+    }
+    Ok(found)
+}
+
+// Whether these entries are linked, by one, two and eight shards.
+fn are_linked(alloc: Global, file: &[u8], entries: &[(u64, u32)]) -> Result<bool, Fail>
+    requires { length file.now ≤ MAX_FILE_BYTES }
+{
+    let image = Image::open(alloc, file)?;
+    for count in [1, 2, 8] {
+        let shards = shards_of(alloc, &image, count)?;
+        let found = all_linked(alloc, &image, &shards)?;
+        if !entries.iter().all(|entry| found.contains(entry)) {
+            return Ok(false);
+        }
+    }
+    Ok(true)
+}
+
+#[test]
+fn entries_that_are_linked(rt: HostRuntime) -> Result<(), Fail> {
+    for (name, file, entries) in FOUND {
+        assert!(rt; file.len() as u64 <= MAX_FILE_BYTES);
+        assert!(rt; are_linked(rt.alloc(), file, entries)?, "{name}");
     }
     Ok(())
 }
