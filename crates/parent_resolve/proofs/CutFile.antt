@@ -1,11 +1,12 @@
 -- The shards of consecutive runs that make up all units of a file.
-use Rattle.std.proofs.Common.{◌≡◌, ℕ, ◌+◌, ◌-◌, ◌/◌, ◌≤◌, List, [], ◌∷◌, ◌++◌, flat_map, length, take, drop, Result, Ok, Err, refl, sym, ap, subst, ◌∙◌, arith}
+use Rattle.std.proofs.Common.{◌≡◌, ℕ, ◌+◌, ◌*◌, ◌/◌, ◌<◌, ◌≤◌, List, [], ◌∷◌, ◌++◌, flat_map, length, take, drop, Result, Ok, Err, refl, sym, ap, subst, ◌∙◌, arith}
 use Rattle.std.specs.Prelude.{IsOkAnd}
 use Rattle.std.specs.List.{AllZip, enumerate_from}
 use Rattle.std.proofs.lemmas.Grind.{flat_map-append}
 use Rattle.std.proofs.lemmas.List.{append-nil}
 use Rattle.std.proofs.lemmas.List.FromFn.{length-enumerate_from}
-use Rattle.std.proofs.Math.Nat.{div-le_self, div-one}
+use Rattle.std.proofs.lemmas.Nat.{le-div}
+use Rattle.std.proofs.Math.Nat.{div-le_of_le-mul, div-mul-le_self, mul-div_cancel, mul-le-mul_left, mul-le-mul_right, mul-zero, mul_comm, zero-div}
 use Rattle.std.proofs.Math.Seq.{take-add, take-length}
 use Rattle.ix_base.specs.declared.fault.Fault.{Fault}
 use Rattle.index_model.specs.declared.shard.Shard.{Shard}
@@ -53,15 +54,23 @@ zip_more R (u ∷ us) (v ∷ vs) x y h r = (h.0, zip_more R us vs x y h.1 r)
 joined : (runs : List (List Walked)) (run : List Walked) → flat_map (λ r. r) (runs ++ run ∷ []) ≡ flat_map (λ r. r) runs ++ run
 joined runs run = flat_map-append (λ (r : List Walked). r) runs (run ∷ []) ∙ ap (λ (ws : List Walked). flat_map (λ (r : List Walked). r) runs ++ ws) (append-nil run)
 
--- ---- shares
+-- ---- where the runs begin
 
--- a share of what is left goes no further than all
-pub share_fits : (all first parts : ℕ) → first ≤ all → first + (all - first) / parts ≤ all
-share_fits all first parts h = let p = div-le_self (all - first) parts in omega (arith, h, p)
+module _ (units count : ℕ) (some : 0 < count) where
+  pub begins_at_none : units * 0 / count ≡ 0
+  begins_at_none = ap (λ (n : ℕ). n / count) (mul-zero units) ∙ zero-div count
 
--- where one part is left, its share is what is left
-pub last_share : (all first parts : ℕ) → first ≤ all → parts ≡ 1 → first + (all - first) / parts ≡ all
-last_share all first parts h is = let p = div-one (all - first) in rw (is, p) (omega (arith, h))
+  pub begins_within : (k : ℕ) → k ≤ count → units * k / count ≤ units
+  begins_within k h = div-le_of_le-mul count (subst (λ (n : ℕ). n ≤ count * units) (mul_comm k units) (mul-le-mul_right units h))
+
+  pub begins_later : (k : ℕ) → units * k / count ≤ units * (k + 1) / count
+  begins_later k =
+      let more : units * k ≤ units * (k + 1) = mul-le-mul_left units (omega arith) in
+      let below = div-mul-le_self (units * k) count in
+      le-div (units * k / count) (units * (k + 1)) count some (omega (arith, more, below))
+
+  pub begins_at_all : units * count / count ≡ units
+  begins_at_all = mul-div_cancel units some
 
 -- ---- runs
 

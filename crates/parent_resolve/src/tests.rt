@@ -1,7 +1,7 @@
 mod fault_rows;
 mod rows;
 
-ghost use Rattle.std.specs.Prelude.{◌≡◌, ◌<◌, ◌≤◌, length, map, IfOk};
+ghost use Rattle.std.specs.Prelude.{◌≡◌, ◌*◌, ◌/◌, ◌<◌, ◌≤◌, length, map, IfOk};
 ghost use Rattle.std.specs.Arc.{arc_value};
 ghost use Rattle.ix_base.specs.declared.limits.TheConstants.{MAX_FILE_BYTES};
 ghost use Rattle.shard_build.specs.Entries.{AreShardsOfFile};
@@ -19,7 +19,16 @@ use std::sync::Arc;
 use std::test::Fail;
 use unit_headers::Image;
 
-// The shards of `count` runs, each of its share of the units that are left; a run may have none.
+// The number of the unit with which run `k` of `count` begins.
+fn begin(units: u32, count: u32, k: u32) -> u32
+    requires some { 0 < count }
+    requires within { k ≤ count }
+    ensures { result ≡ units * k / count }
+{
+    (u64::from(units) * u64::from(k) / u64::from(count)) as u32
+}
+
+// The shards of `count` runs of about the same length, some of which may have no unit.
 fn shards_of<'f>(alloc: Global, image: &Image<'f>, count: u32) -> Result<Vec<Arc<Shard<'f>>>, Fail>
     requires { 0 < count }
     ensures of_file { IfOk result (λ shards. AreShardsOfFile image.now (map arc_value shards.items)) }
@@ -27,12 +36,11 @@ fn shards_of<'f>(alloc: Global, image: &Image<'f>, count: u32) -> Result<Vec<Arc
 {
     let units = image.units().len() as u32;
     let mut shards = Vec::new(alloc);
-    let mut first = 0;
     for k in 0..count {
-        let share = (units - first) / (count - k);
-        let shard = scan(alloc, image, first, share)?;
+        let first = begin(units, count, k);
+        let end = begin(units, count, k + 1);
+        let shard = scan(alloc, image, first, end - first)?;
         shards.push(Arc::new(alloc, shard)?)?;
-        first += share;
     }
     Ok(shards)
 }
