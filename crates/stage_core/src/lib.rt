@@ -1,0 +1,16 @@
+//! The core of a build: the machine that hands out jobs, takes what they bring and publishes the parts of an index.
+//!
+//! It has no threads. Each call is one event of the machine of index_model (specs/Machine and specs/MachineEvents), so the law
+//! over every list of events of any actors (specs/LawsCore) holds of every `Core`.
+#![tactic(auto)]
+
+mod brought;
+mod lost;
+mod output;
+mod place;
+mod progress;
+mod slots;
+mod task;
+
+pub use output::{Cache, Output, Parts, Summary};
+pub use task::{Input, Task};
