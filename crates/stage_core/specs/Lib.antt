@@ -3,3 +3,8 @@ pub mod Brought
 pub mod Place
 pub mod Slots
 pub mod Progress
+pub mod Inputs
+pub mod Tasks
+pub mod Cut
+pub mod Stopping
+pub mod Build

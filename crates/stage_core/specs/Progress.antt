@@ -1,12 +1,11 @@
 -- What contracts see of the progress: the state of the machine.
-use Rattle.std.specs.Prelude.{map, filter_map}
-use Rattle.index_model.specs.Machine.{State, End, Going, Stopped, Refused}
-use Rattle.index_model.specs.MachineEvents.{made_in}
+use Rattle.std.specs.Prelude.{◌≡◌, true, map}
+use Rattle.index_model.specs.Machine.{State, End, Going, Stopped, Refused, is_going}
 use Rattle.index_model.specs.Outputs.{Made}
 use Rattle.stage_core.specs.declared.progress.End.{End as EndKept}
 use Rattle.stage_core.specs.declared.progress.End.TheVariants as ends
 use Rattle.stage_core.specs.declared.progress.Progress.TheInside.{Inside}
-use Rattle.stage_core.specs.Slots.{slots_seen}
+use Rattle.stage_core.specs.Slots.{slots_seen, made_of_slots, NoneLost}
 
 -- whether jobs go on
 abbrev pub end_seen : EndKept → End
@@ -17,8 +16,12 @@ end_seen (ends.Refused f) = Refused f
 -- the state
 abbrev pub progress_seen : Inside → State Made
 progress_seen p = record {
-  closed = map (λ slots. filter_map made_in (slots_seen slots.value.items)) p.closed.items;
+  closed = map (λ slots. made_of_slots slots.value.items) p.closed.items;
   drawn = p.drawn;
   brought = slots_seen p.brought.items;
   end = end_seen p.end;
 }
+
+-- while jobs go on, nothing that the jobs of the open kind made is lost
+abbrev pub LosesNothing : Inside → Type 0
+LosesNothing p = is_going (end_seen p.end) ≡ true → NoneLost p.brought.items

@@ -5,12 +5,17 @@
 #![tactic(auto)]
 
 mod brought;
+mod build;
 mod lost;
+mod made;
+mod opening;
 mod output;
 mod place;
 mod progress;
 mod slots;
+mod stock;
 mod task;
+mod tasks;
 
 pub use output::{Cache, Output, Parts, Summary};
 pub use task::{Input, Task};

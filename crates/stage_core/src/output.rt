@@ -1,9 +1,14 @@
 //! What jobs bring, and what is published of it.
 
+ghost use Rattle.std.specs.Prelude.{◌≡◌, option_map, IfOk};
+ghost use Rattle.std.specs.Arc.{arc_value};
+ghost use Rattle.stage_core.specs.Outputs.{parts_seen};
+
 use address_map::AddressMap;
 use index_model::{Entry, Linked, List, Main, Run, Shard};
 use ix_base::Fault;
 use query_engine::Table;
+use std::alloc::AllocError;
 use std::sync::Arc;
 
 /// Main, and the unit at each address.
@@ -33,6 +38,34 @@ pub struct Parts<'f> {
     pub cache: Option<Arc<Cache>>,
     /// The first fault of a refused file.
     pub fault: Option<Fault>,
+}
+
+impl<'f> Parts<'f> {
+    /// The same parts, shared once more. Takes no memory.
+    ///
+    /// # Errors
+    ///
+    /// Where a part has as many owners as can be counted.
+    pub fn share(&self) -> Result<Parts<'f>, AllocError>
+        ensures { IfOk result (λ p. parts_seen p ≡ parts_seen self.now) }
+    {
+        Ok(Parts {
+            summary: share(&self.summary)?,
+            table: share(&self.table)?,
+            cache: share(&self.cache)?,
+            fault: self.fault,
+        })
+    }
+}
+
+/// The same part, shared once more.
+pub(crate) fn share<T>(part: &Option<Arc<T>>) -> Result<Option<Arc<T>>, AllocError>
+    ensures { IfOk result (λ o. option_map arc_value o ≡ option_map arc_value part.now) }
+{
+    match part {
+        Some(part) => Ok(Some(Arc::try_clone(part)?)),
+        None => Ok(None),
+    }
 }
 
 /// What a job brings.

@@ -1,17 +1,18 @@
 //! How far the jobs are: the state of the machine.
 
-ghost use Rattle.std.specs.Prelude.{◌≡◌, ◌<◌, ◌++◌, ◌∷◌, [], suc, length, map, filter_map, replicate, option_map, is_none, not, OnOk, OnErr, IfOk};
+ghost use Rattle.std.specs.Prelude.{◌≡◌, ◌<◌, ◌||◌, ◌++◌, ◌∷◌, [], suc, true, length, filter_map, replicate, is_none, not, OnOk, OnErr, IfOk, None};
 ghost use Rattle.std.specs.List.{list_any};
 ghost use Rattle.index_model.specs.Machine.{Going, Stopped, Refused, is_going, is_stopped};
-ghost use Rattle.index_model.specs.MachineEvents.{is_running, with_output, least_fault, made_in};
+ghost use Rattle.index_model.specs.MachineEvents.{is_memory, is_running, with_output, least_fault, made_in};
 ghost use Rattle.index_model.specs.Parts.{fault_at_end};
-ghost use Rattle.stage_core.specs.Brought.{brought_seen};
-ghost use Rattle.stage_core.specs.Slots.{slots_seen};
+ghost use Rattle.stage_core.specs.Brought.{brought_seen, is_lost};
+ghost use Rattle.stage_core.specs.Slots.{slots_seen, NoneLost};
+ghost use Rattle.stage_core.specs.Stopping.{stopped_if};
 ghost use Rattle.stage_core.specs.Place.{place_seen};
 
 use crate::brought::Brought;
 use crate::place::Place;
-use crate::slots::{Slots, is_whole, least_fault};
+use crate::slots::{Slots, is_whole, least_fault, vacant};
 use ix_base::Fault;
 use std::alloc::{AllocError, Global};
 use std::marker::Model;
@@ -42,22 +43,28 @@ impl<'f> Model for Progress<'f> {
 
     ghost Value = { State Made };
 
-    ghost use Rattle.stage_core.specs.Progress.{progress_seen};
+    ghost use Rattle.stage_core.specs.Progress.{progress_seen, LosesNothing};
 
     ghost view = { progress_seen };
+
+    ghost invariant = { LosesNothing };
 }
 
 impl<'f> Progress<'f> {
-    /// The kind behind no closed ones is open. None of its jobs is drawn.
-    pub fn start(alloc: Global, brought: Slots<'f>) -> Progress<'f>
-        ensures { result ≡ record { closed = []; drawn = 0; brought = slots_seen brought.entry.items; end = Going } }
+    /// The first kind is open, with so many jobs. None of them is drawn.
+    ///
+    /// # Errors
+    ///
+    /// Where memory was refused.
+    pub fn start(alloc: Global, jobs: u32) -> Result<Progress<'f>, AllocError>
+        ensures { IfOk result (λ p. p ≡ record { closed = []; drawn = 0; brought = replicate jobs None; end = Going }) }
     {
-        Progress {
+        Ok(Progress {
             closed: Vec::new(alloc),
             drawn: 0,
-            brought,
+            brought: vacant(alloc, jobs)?,
             end: End::Going,
-        }
+        })
     }
 
     /// No jobs, for a file that is refused from the start.
@@ -120,17 +127,21 @@ impl<'f> Progress<'f> {
             && matches!(self.brought.get(place.number), Some(None))
     }
 
-    /// The job with this number of the open kind is finished.
+    /// The job with this number of the open kind is finished. Want of memory stops the machine.
     pub fn bring(&mut self, number: usize, brought: Brought<'f>)
         requires { number < length self.old.brought }
-        ensures { self.new ≡ with_output self.old number (brought_seen brought.entry) }
+        ensures { self.new ≡ stopped_if (with_output self.old number (brought_seen brought.entry)) (is_memory (brought_seen brought.entry) || is_lost brought.entry) }
     {
+        if brought.wants_memory() {
+            self.end = End::Stopped;
+        }
         self.brought[number] = Some(brought);
     }
 
     /// What the jobs of the open kind brought.
     pub fn brought(&self) -> &[Option<Brought<'f>>]
-        ensures { slots_seen result.now ≡ self.now.brought }
+        ensures brought { slots_seen result.now ≡ self.now.brought }
+        ensures kept { is_going self.now.end ≡ true → NoneLost result.now }
     {
         &self.brought
     }
@@ -163,16 +174,18 @@ impl<'f> Progress<'f> {
         self.end = End::Refused(fault);
     }
 
-    /// The open kind closes, and the next one opens with these slots. Answers what the jobs brought.
+    /// The open kind closes, and the next one opens with so many jobs. Answers what the jobs brought.
     ///
     /// # Errors
     ///
     /// Where memory was refused nothing has changed.
-    pub fn close(&mut self, next: Slots<'f>) -> Result<Slots<'f>, AllocError>
+    pub fn close(&mut self, alloc: Global, jobs: u32) -> Result<Slots<'f>, AllocError>
         ensures brought { IfOk result (λ slots. slots_seen slots.items ≡ self.old.brought) }
-        ensures closed { OnOk result (self.new ≡ record self.old { closed = self.old.closed ++ filter_map made_in self.old.brought ∷ []; drawn = 0; brought = slots_seen next.entry.items }) }
+        ensures kept { IfOk result (λ slots. is_going self.old.end ≡ true → NoneLost slots.items) }
+        ensures closed { OnOk result (self.new ≡ record self.old { closed = self.old.closed ++ filter_map made_in self.old.brought ∷ []; drawn = 0; brought = replicate jobs None }) }
         ensures same { OnErr result (self.new ≡ self.old) }
     {
+        let next = vacant(alloc, jobs)?;
         self.closed.push(Snapshot::of(&self.brought))?;
         self.drawn = 0;
         Ok(mem::replace(&mut self.brought, next))

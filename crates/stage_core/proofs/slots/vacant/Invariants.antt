@@ -3,4 +3,7 @@ use Rattle.stage_core.specs.Slots.{slots_seen}
 use Rattle.stage_core.proofs.slots.vacant.Given as goal
 
 abbrev pub invariant-loop-job : goal.invariant-loop-job
-invariant-loop-job l = slots_seen l.slots.items ≡ replicate l._job None
+invariant-loop-job l = record {
+  vacant : l.slots.items ≡ replicate l._job None;
+  seen : slots_seen l.slots.items ≡ replicate l._job None;
+}

@@ -1,0 +1,5 @@
+mod ListLaws
+mod TaskLaws
+mod SlotLaws
+mod CutLaws
+mod ProgressLaws

@@ -1,0 +1,9 @@
+use Rattle.std.proofs.Common.{map}
+use Rattle.std.specs.Arc.{arc_value}
+use Rattle.index_model.specs.declared.job.Job.TheVariants.{Name}
+use Rattle.stage_core.specs.Inputs.{LinksOf}
+use Rattle.stage_core.specs.Tasks.{AreTasks}
+use Rattle.stage_core.proofs.tasks.name_tasks.Given as goal
+
+abbrev pub invariant-loop-run : goal.invariant-loop-run
+invariant-loop-run l = AreTasks l.tasks.items l.run (λ k. record { job = Name k; given = LinksOf (map arc_value (arc_value l.shards).items) (map arc_value (arc_value l.linked).items) })

@@ -1,0 +1,114 @@
+//! A build: its state, the tasks that are left and what has been published.
+
+ghost use Rattle.std.specs.Prelude.{◌≡◌, ◌<◌, true, false, is_none, length, option_map, if◌then◌else◌};
+ghost use Rattle.std.specs.List.{list_any};
+ghost use Rattle.index_model.specs.Machine.{Refused, Stopped, place_of_job, is_going};
+ghost use Rattle.index_model.specs.MachineEvents.{after_draw, after_finish, decided, next_job};
+ghost use Rattle.stage_core.specs.Build.{Fits, IsOpen, SameSubject, subject_of, plan_of_build};
+ghost use Rattle.stage_core.specs.Inputs.{handed};
+ghost use Rattle.stage_core.specs.Outputs.{output_seen};
+ghost use Rattle.stage_core.specs.Tasks.{task_seen};
+
+use crate::brought::Brought;
+use crate::output::{Output, Parts};
+use crate::place::place_of;
+use crate::progress::Progress;
+use crate::stock::Stock;
+use crate::task::Task;
+use crate::tasks::Tasks;
+use index_model::{CacheKind, Job};
+use ix_base::Fault;
+use std::alloc::Global;
+
+/// A build of an index of a file, whose units are cut into so many runs.
+#[derive(Drop)]
+pub(crate) struct Build<'f> {
+    pub file: &'f [u8],
+    pub runs: u32,
+    pub cache: CacheKind,
+    pub progress: Progress<'f>,
+    pub stock: Stock<'f>,
+    pub tasks: Tasks<'f>,
+    pub parts: Parts<'f>,
+}
+
+impl<'f> Build<'f> {
+    /// Draws the next job.
+    pub fn draw(&mut self) -> Option<Task<'f>>
+        requires { Fits self.old }
+        ensures state { self.new.progress ≡ after_draw self.old.progress }
+        ensures task { option_map task_seen result ≡ option_map (handed (subject_of self.old) self.old.progress) (next_job (plan_of_build self.old) self.old.progress) }
+        ensures fits { Fits self.new }
+        ensures subject { SameSubject self.old self.new }
+    {
+        let task = self.tasks.pop_front()?;
+        self.progress.draw();
+        Some(task)
+    }
+
+    /// Takes what a job brought. Answers whether memory was refused here.
+    pub fn finish(&mut self, alloc: Global, job: Job, output: Output<'f>) -> bool
+        requires { Fits self.old }
+        ensures state { self.new.progress ≡ after_finish (plan_of_build self.old) self.old.progress (place_of_job job) (output_seen output.entry) result }
+        ensures fits { Fits self.new }
+        ensures subject { SameSubject self.old self.new }
+    {
+        let place = place_of(job);
+        if !self.progress.is_running(place) {
+            return false;
+        }
+        let brought = Brought::share(alloc, output);
+        let lost = brought.is_lost();
+        self.progress.bring(place.number, brought);
+        if self.progress.is_stopped() {
+            self.tasks.clear();
+            return lost;
+        }
+        self.decide(alloc)
+    }
+
+    // The open kind closes, unless one of its jobs isn't finished. Answers whether memory was refused.
+    fn decide(&mut self, alloc: Global) -> bool
+        requires { IsOpen self.old }
+        ensures state { self.new.progress ≡ (if result then record self.old.progress { end = Stopped } else decided (plan_of_build self.old) self.old.progress) }
+        ensures fits { Fits self.new }
+        ensures subject { SameSubject self.old self.new }
+    {
+        if !self.progress.is_whole() {
+            return false;
+        }
+        if let Some(fault) = self.progress.least_fault() {
+            self.refuse(fault);
+            return false;
+        }
+        if self.open_next(alloc).is_err() {
+            self.stop();
+            return true;
+        }
+        false
+    }
+
+    // The file is refused with the first fault of its jobs.
+    fn refuse(&mut self, fault: Fault)
+        requires open { IsOpen self.old }
+        requires whole { list_any is_none self.old.progress.brought ≡ false }
+        ensures state { self.new.progress ≡ record self.old.progress { end = Refused fault } }
+        ensures fits { Fits self.new }
+        ensures subject { SameSubject self.old self.new }
+    {
+        self.progress.refuse(fault);
+        self.parts.fault = Some(fault);
+        self.tasks.clear();
+    }
+
+    // Want of memory stops the build.
+    fn stop(&mut self)
+        requires { IsOpen self.old }
+        ensures state { self.new.progress ≡ record self.old.progress { end = Stopped } }
+        ensures fits { Fits self.new }
+        ensures subject { SameSubject self.old self.new }
+    {
+        self.progress.stop();
+        self.tasks.clear();
+    }
+}

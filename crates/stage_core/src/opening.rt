@@ -1,0 +1,152 @@
+//! One kind closes and the next opens. All memory is taken before anything changes.
+
+ghost use Rattle.std.specs.Prelude.{◌≡◌, map, filter_map, length, OnOk, OnErr};
+ghost use Rattle.std.specs.Arc.{arc_value};
+ghost use Rattle.index_model.specs.declared.job.Job.TheVariants.{Scan, Link};
+ghost use Rattle.stage_core.specs.Build.{IsOpen, OpensNext};
+ghost use Rattle.stage_core.specs.Inputs.{shard_in, linked_in as link_in, made_by_kind, LinksOf};
+ghost use Rattle.stage_core.specs.Tasks.{AreTasks};
+
+use crate::build::Build;
+use crate::output::share;
+use crate::slots::{cache_in, linked_in, move_runs, shards_in, summary_in, table_in};
+use crate::stock::Stock;
+use crate::task::{Input, Task};
+use crate::tasks::{Shards, Tasks, link_tasks, name_tasks, only_task, place_task};
+use index_model::Job;
+use std::alloc::{AllocError, Global};
+use std::collections::VecDeque;
+use std::sync::Arc;
+
+impl<'f> Build<'f> {
+    /// The kind behind the open one opens. All jobs of the open kind are finished, and none brought a fault.
+    ///
+    /// # Errors
+    ///
+    /// Where memory was refused nothing has changed.
+    pub(crate) fn open_next(&mut self, alloc: Global) -> Result<(), AllocError>
+        requires { IsOpen self.old }
+        ensures opens { OnOk result (OpensNext self.old self.new) }
+        ensures same { OnErr result (self.new ≡ self.old) }
+    {
+        match &self.stock {
+            Stock::Scan => self.open_links(alloc),
+            Stock::Link(shards) => {
+                let shards = Arc::try_clone(shards)?;
+                self.open_main(alloc, shards)
+            }
+            Stock::Main(shards, linked) => {
+                let tasks = name_tasks(alloc, self.runs, shards, linked)?;
+                self.open_names(alloc, tasks)
+            }
+            Stock::Name => self.open_merge(alloc),
+            Stock::Merge => self.open_write(alloc),
+            Stock::Write => self.close_last(alloc),
+            Stock::Nothing => unreachable!(),
+        }
+    }
+
+    // Link opens.
+    fn open_links(&mut self, alloc: Global) -> Result<(), AllocError>
+        requires open { IsOpen self.old }
+        requires kind { length self.old.progress.closed ≡ 0 }
+        ensures opens { OnOk result (OpensNext self.old self.new) }
+        ensures same { OnErr result (self.new ≡ self.old) }
+    {
+        let shards = Arc::new(alloc, shards_in(alloc, self.progress.brought())?)?;
+        let tasks = link_tasks(alloc, self.runs, &shards)?;
+        let _brought = self.progress.close(alloc, self.runs)?;
+        self.tasks = tasks;
+        self.stock = Stock::Link(shards);
+        Ok(())
+    }
+
+    // Main opens.
+    fn open_main(&mut self, alloc: Global, shards: Shards<'f>) -> Result<(), AllocError>
+        requires open { IsOpen self.old }
+        requires kind { length self.old.progress.closed ≡ 1 }
+        requires shards { map arc_value (arc_value shards).items ≡ filter_map shard_in (made_by_kind self.old.progress (Scan 0)) }
+        ensures opens { OnOk result (OpensNext self.old self.new) }
+        ensures same { OnErr result (self.new ≡ self.old) }
+    {
+        let linked = Arc::new(alloc, linked_in(alloc, self.progress.brought())?)?;
+        let input = Input::Links(Arc::try_clone(&shards)?, Arc::try_clone(&linked)?);
+        let job = Job::Main;
+        let tasks = only_task(alloc, Task { job, input })?;
+        let _brought = self.progress.close(alloc, 1)?;
+        self.tasks = tasks;
+        self.stock = Stock::Main(shards, linked);
+        Ok(())
+    }
+
+    // Name opens with these tasks, and the summary is published.
+    fn open_names(&mut self, alloc: Global, tasks: Tasks<'f>) -> Result<(), AllocError>
+        requires open { IsOpen self.old }
+        requires kind { length self.old.progress.closed ≡ 2 }
+        requires tasks { AreTasks tasks.items self.old.runs
+            (λ k. record { job = Job.Name k; given = LinksOf (filter_map shard_in (made_by_kind self.old.progress (Scan 0))) (filter_map link_in (made_by_kind self.old.progress (Link 0))) }) }
+        ensures opens { OnOk result (OpensNext self.old self.new) }
+        ensures same { OnErr result (self.new ≡ self.old) }
+    {
+        let summary = summary_in(self.progress.brought())?;
+        let _brought = self.progress.close(alloc, self.runs)?;
+        self.parts.summary = summary;
+        self.tasks = tasks;
+        self.stock = Stock::Name;
+        Ok(())
+    }
+
+    // Merge opens.
+    fn open_merge(&mut self, alloc: Global) -> Result<(), AllocError>
+        requires open { IsOpen self.old }
+        requires kind { length self.old.progress.closed ≡ 3 }
+        ensures opens { OnOk result (OpensNext self.old self.new) }
+        ensures same { OnErr result (self.new ≡ self.old) }
+    {
+        let mut runs = Vec::with_capacity(alloc, self.progress.brought().len())?;
+        let mut tasks = VecDeque::with_capacity(alloc, 1)?;
+        let mut brought = self.progress.close(alloc, 1)?;
+        move_runs(&mut brought, &mut runs);
+        let job = Job::Merge;
+        let input = Input::Runs(runs);
+        place_task(&mut tasks, Task { job, input });
+        self.tasks = tasks;
+        self.stock = Stock::Merge;
+        Ok(())
+    }
+
+    // Write opens, and the table is published.
+    fn open_write(&mut self, alloc: Global) -> Result<(), AllocError>
+        requires open { IsOpen self.old }
+        requires kind { length self.old.progress.closed ≡ 4 }
+        ensures opens { OnOk result (OpensNext self.old self.new) }
+        ensures same { OnErr result (self.new ≡ self.old) }
+    {
+        let table = table_in(self.progress.brought())?;
+        let mut published = self.parts.share()?;
+        published.table = share(&table)?;
+        let job = Job::Write;
+        let input = Input::Published(published, self.cache);
+        let tasks = only_task(alloc, Task { job, input })?;
+        let _brought = self.progress.close(alloc, 1)?;
+        self.parts.table = table;
+        self.tasks = tasks;
+        self.stock = Stock::Write;
+        Ok(())
+    }
+
+    // The last kind closes, and the index is published.
+    fn close_last(&mut self, alloc: Global) -> Result<(), AllocError>
+        requires open { IsOpen self.old }
+        requires kind { length self.old.progress.closed ≡ 5 }
+        ensures opens { OnOk result (OpensNext self.old self.new) }
+        ensures same { OnErr result (self.new ≡ self.old) }
+    {
+        let cache = cache_in(self.progress.brought())?;
+        let _brought = self.progress.close(alloc, 0)?;
+        self.parts.cache = cache;
+        self.tasks.clear();
+        self.stock = Stock::Nothing;
+        Ok(())
+    }
+}
