@@ -3,3 +3,4 @@ mod TaskLaws
 mod SlotLaws
 mod CutLaws
 mod ProgressLaws
+mod StateLaws
