@@ -4,3 +4,5 @@ mod SlotLaws
 mod CutLaws
 mod ProgressLaws
 mod StateLaws
+mod OpeningLaws
+mod KindLaws

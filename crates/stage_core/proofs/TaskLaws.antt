@@ -22,3 +22,6 @@ one_more_task tasks n t f are is = record {
         ap (option_map task_seen) (ap (λ (k : ℕ). slice_get (tasks ++ t ∷ []) k) e ∙ get_behind tasks [] t) ∙ ap Some (is ∙ ap f (sym n_is))
   ];
 }
+
+pub one_task : (tasks : List Task) (t : Task) → tasks ≡ t ∷ [] → AreTasks tasks 1 (λ _. task_seen t)
+one_task tasks t is = rw is (one_more_task [] 0 t (λ _. task_seen t) (no_tasks (λ _. task_seen t)) refl)
