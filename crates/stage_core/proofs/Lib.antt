@@ -6,3 +6,4 @@ mod ProgressLaws
 mod StateLaws
 mod OpeningLaws
 mod KindLaws
+mod FinishLaws

@@ -8,3 +8,7 @@ pub mod Tasks
 pub mod Cut
 pub mod Stopping
 pub mod Build
+pub mod Machines
+pub mod Cores
+pub mod Abouts
+pub mod Following

@@ -1,10 +1,11 @@
 //! A build: its state, the tasks that are left and what has been published.
 
-ghost use Rattle.std.specs.Prelude.{◌≡◌, ◌<◌, true, false, is_none, length, option_map, if◌then◌else◌};
+ghost use Rattle.std.specs.Prelude.{◌≡◌, ◌<◌, true, false, is_none, length, option_map, IfOk, if◌then◌else◌};
 ghost use Rattle.std.specs.List.{list_any};
-ghost use Rattle.index_model.specs.Machine.{Refused, Stopped, place_of_job, is_going};
+ghost use Rattle.index_model.specs.Machine.{Refused, Stopped, place_of_job, is_going, level, stage, plan_for, machine_start, refused_start};
 ghost use Rattle.index_model.specs.MachineEvents.{after_draw, after_finish, decided, next_job};
 ghost use Rattle.stage_core.specs.Build.{Fits, IsOpen, SameSubject, subject_of, plan_of_build};
+ghost use Rattle.stage_core.specs.Cut.{units_in};
 ghost use Rattle.stage_core.specs.Inputs.{handed};
 ghost use Rattle.stage_core.specs.Outputs.{output_seen};
 ghost use Rattle.stage_core.specs.Tasks.{task_seen};
@@ -15,10 +16,16 @@ use crate::place::place_of;
 use crate::progress::Progress;
 use crate::stock::Stock;
 use crate::task::Task;
-use crate::tasks::Tasks;
+use crate::tasks::{Tasks, scan_tasks};
 use index_model::{CacheKind, Job};
 use ix_base::Fault;
-use std::alloc::Global;
+use std::alloc::{AllocError, Global};
+use std::collections::VecDeque;
+
+// The stage of a refused file.
+const REFUSED: u8 = 4;
+// The stage once memory was wanted.
+const STOPPED: u8 = 5;
 
 /// A build of an index of a file, whose units are cut into so many runs.
 #[derive(Drop)]
@@ -33,6 +40,55 @@ pub(crate) struct Build<'f> {
 }
 
 impl<'f> Build<'f> {
+    /// A build of a file with so many units, all of whose Scan jobs can be drawn.
+    pub fn start(
+        alloc: Global,
+        file: &'f [u8],
+        units: u32,
+        runs: u32,
+        cache: CacheKind,
+    ) -> Result<Build<'f>, AllocError>
+        requires { length (units_in file.now) ≡ units }
+        ensures file { IfOk result (λ b. b.file ≡ file.entry) }
+        ensures runs { IfOk result (λ b. b.runs ≡ runs) }
+        ensures cache { IfOk result (λ b. b.cache ≡ cache) }
+        ensures state { IfOk result (λ b. b.progress ≡ machine_start (plan_for runs)) }
+        ensures fits { IfOk result Fits }
+    {
+        let progress = Progress::start(alloc, runs)?;
+        let tasks = scan_tasks(alloc, units, runs)?;
+        Ok(Build {
+            file,
+            runs,
+            cache,
+            progress,
+            stock: Stock::Scan,
+            tasks,
+            parts: Parts::none(),
+        })
+    }
+
+    /// A build without jobs, of a file that is refused from the start.
+    pub fn refused(alloc: Global, file: &'f [u8], fault: Fault, cache: CacheKind) -> Build<'f>
+        ensures file { result.file ≡ file.entry }
+        ensures runs { result.runs ≡ 0 }
+        ensures cache { result.cache ≡ cache }
+        ensures state { result.progress ≡ refused_start fault }
+        ensures fits { Fits result }
+    {
+        let mut parts = Parts::none();
+        parts.fault = Some(fault);
+        Build {
+            file,
+            runs: 0,
+            cache,
+            progress: Progress::refused(alloc, fault),
+            stock: Stock::Scan,
+            tasks: VecDeque::new(alloc),
+            parts,
+        }
+    }
+
     /// Draws the next job.
     pub fn draw(&mut self) -> Option<Task<'f>>
         requires { Fits self.old }
@@ -44,6 +100,33 @@ impl<'f> Build<'f> {
         let task = self.tasks.pop_front()?;
         self.progress.draw();
         Some(task)
+    }
+
+    /// The level that the last of the closed kinds brought.
+    pub fn level(&self) -> u8
+        requires { Fits self.now }
+        ensures { result ≡ level (plan_of_build self.now) self.now.progress }
+    {
+        match self.stock {
+            Stock::Scan | Stock::Link(_) | Stock::Main(..) => 0,
+            Stock::Name | Stock::Merge => 1,
+            Stock::Write => 2,
+            Stock::Nothing => 3,
+        }
+    }
+
+    /// The stage: 4 where the file is refused and 5 where the machine is stopped, else the level.
+    pub fn stage(&self) -> u8
+        requires { Fits self.now }
+        ensures { result ≡ stage (plan_of_build self.now) self.now.progress }
+    {
+        if self.progress.is_stopped() {
+            return STOPPED;
+        }
+        if self.progress.is_going() {
+            return self.level();
+        }
+        REFUSED
     }
 
     /// Takes what a job brought. Answers whether memory was refused here.

@@ -7,15 +7,19 @@
 mod brought;
 mod build;
 mod lost;
+mod machine;
 mod made;
 mod opening;
 mod output;
 mod place;
 mod progress;
 mod slots;
+mod stages;
 mod stock;
 mod task;
 mod tasks;
 
+pub use machine::Core;
 pub use output::{Cache, Output, Parts, Summary};
+pub use stages::About;
 pub use task::{Input, Task};

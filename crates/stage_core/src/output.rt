@@ -1,6 +1,6 @@
 //! What jobs bring, and what is published of it.
 
-ghost use Rattle.std.specs.Prelude.{◌≡◌, option_map, IfOk};
+ghost use Rattle.std.specs.Prelude.{◌≡◌, option_map, IfOk, None};
 ghost use Rattle.std.specs.Arc.{arc_value};
 ghost use Rattle.stage_core.specs.Outputs.{parts_seen};
 
@@ -41,6 +41,18 @@ pub struct Parts<'f> {
 }
 
 impl<'f> Parts<'f> {
+    /// Nothing has been published.
+    pub(crate) fn none() -> Parts<'f>
+        ensures { parts_seen result ≡ record { summary = None; table = None; cache = None; fault = None } }
+    {
+        Parts {
+            summary: None,
+            table: None,
+            cache: None,
+            fault: None,
+        }
+    }
+
     /// The same parts, shared once more. Takes no memory.
     ///
     /// # Errors
