@@ -7,3 +7,5 @@ mod StateLaws
 mod OpeningLaws
 mod KindLaws
 mod FinishLaws
+mod UnitCount
+mod CoreLaws

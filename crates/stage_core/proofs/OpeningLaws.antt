@@ -70,6 +70,16 @@ pub record OpensAs (s : Subject) (plan : List Row) (closed : List (List Made)) (
   pub parts : parts_seen b.parts ≡ parts (fresh closed n)
   pub stock : IsStock (fresh closed n) b.stock
 
+-- a build in which nothing of a kind is drawn fits
+pub fits_as : (b : Build) (closed : List (List Made)) (n : ℕ) → fresh closed n ≡ b.progress → OpensAs (subject_of b) (plan_of_build b) closed n b → Fits b
+fits_as b closed n e as_ = record {
+  tasks = subst (λ (u : State Made). (i : ℕ) → option_map task_seen (slice_get b.tasks.items i) ≡ option_map (handed (subject_of b) u) (next_job (plan_of_build b) (drawn_on u i))) e as_.tasks;
+  parts = subst (λ (u : State Made). parts_seen b.parts ≡ parts u) e as_.parts;
+  slots = subst (λ (u : State Made). is_going u.end ≡ true → length u.brought ≡ jobs_at (plan_of_build b) (length u.closed)) e (λ _. length-replicate n None ∙ sym as_.jobs);
+  whole = subst (λ (u : State Made). (f : Fault) → u.end ≡ Refused f → list_any is_none u.brought ≡ false) e (λ f no. absurd cc);
+  stock = subst (λ (u : State Made). IsStock u b.stock) e as_.stock;
+}
+
 -- the kinds that are closed now
 abbrev pub closed_now : State Made → List (List Made)
 closed_now t = t.closed ++ filter_map made_in t.brought ∷ []
@@ -85,11 +95,5 @@ opens_next a b n open_ is as_ =
     record {
       state = sym e ∙ ap (fresh closed) (sym as_.jobs);
       same = record { file = refl; runs = refl; cache = refl };
-      fits = record {
-        tasks = subst (λ (u : State Made). (i : ℕ) → option_map task_seen (slice_get b.tasks.items i) ≡ option_map (handed (subject_of a) u) (next_job (plan_of_build a) (drawn_on u i))) e as_.tasks;
-        parts = subst (λ (u : State Made). parts_seen b.parts ≡ parts u) e as_.parts;
-        slots = subst (λ (u : State Made). is_going u.end ≡ true → length u.brought ≡ jobs_at (plan_of_build a) (length u.closed)) e (λ _. length-replicate n None ∙ sym as_.jobs);
-        whole = subst (λ (u : State Made). (f : Fault) → u.end ≡ Refused f → list_any is_none u.brought ≡ false) e (λ f no. absurd cc);
-        stock = subst (λ (u : State Made). IsStock u b.stock) e as_.stock;
-      };
+      fits = fits_as (record a { progress = b.progress; stock = b.stock; tasks = b.tasks; parts = b.parts }) closed n e (record { jobs = as_.jobs; tasks = as_.tasks; parts = as_.parts; stock = as_.stock });
     }

@@ -1,0 +1,8 @@
+use Rattle.stage_core.proofs.CoreLaws.{sound_is_right}
+use Rattle.stage_core.proofs.machine.Core.parts.Goals as goal
+
+pub returns-in_err-parts-clause-right : goal.returns-in_err-parts-clause-right
+returns-in_err-parts-clause-right c = sound_is_right c.self.inside c.args.self.now c.self.view_is c.self.invariant
+
+pub returns-clause-right : goal.returns-clause-right
+returns-clause-right c = sound_is_right c.self.inside c.args.self.now c.self.view_is c.self.invariant
