@@ -1,6 +1,5 @@
 -- What holds of a core.
-use Rattle.std.proofs.Common.{◌≡◌, ◌<◌, ◌≤◌, ℕ, Bool, List, [], ◌∷◌, length, Option, Some, None, refl, ap, sym, subst, ◌∙◌, arith}
-use Rattle.std.specs.Prelude.{option_map}
+use Rattle.std.proofs.Common.{◌≡◌, ◌<◌, ℕ, Bool, List, [], Some, refl, ap, sym, subst, ◌∙◌}
 use Rattle.std.specs.List.{enumerate_from}
 use Rattle.ix_base.specs.declared.fault.Fault.{Fault}
 use Rattle.index_model.specs.declared.job.CacheKind.{CacheKind}
@@ -9,16 +8,14 @@ use Rattle.index_model.specs.declared.unit.Unit.{Unit as UnitHeader}
 use Rattle.index_model.specs.Faults.{first_fault}
 use Rattle.index_model.specs.LawsCore.{plan_of, StateIsRight, IsState, HasRuns, BeginsAt, with_jobs, with_fault}
 use Rattle.index_model.specs.Machine.{Row, IsCut, Output, State, plan_for, place_of_job, machine_start, refused_start}
-use Rattle.index_model.specs.MachineEvents.{Draw, Finish, after_draw, after_finish, after_events, next_job}
+use Rattle.index_model.specs.MachineEvents.{Draw, Finish, after_draw, after_finish, after_events}
 use Rattle.index_model.specs.Outputs.{Subject, Made, IsOutputOf}
-use Rattle.index_model.specs.Queries.{Query}
 use Rattle.index_model.proofs.CoreRight.{core_is_right, states_go_on}
 use Rattle.stage_core.specs.declared.build.Build.{Build}
 use Rattle.stage_core.specs.declared.machine.Core.TheInside.{Inside}
-use Rattle.stage_core.specs.Build.{Fits, SameSubject, subject_of, plan_of_build}
+use Rattle.stage_core.specs.Build.{SameSubject, subject_of, plan_of_build}
 use Rattle.stage_core.specs.Cores.{core_seen, IsSound}
 use Rattle.stage_core.specs.Cut.{cut, units_in, HasUnits}
-use Rattle.stage_core.specs.Inputs.{Handed, handed}
 use Rattle.stage_core.specs.Machines.{Machine}
 use Rattle.stage_core.proofs.CutLaws.{length_cut, is_cut}
 use Rattle.stage_core.proofs.UnitCount.{units_are}

@@ -1,6 +1,6 @@
 -- The cut makes up all items, and its runs are even.
-use Rattle.std.proofs.Common.{◌≡◌, ◌⊎◌, ◌<◌, ◌≤◌, ◌+◌, ◌-◌, ◌*◌, ◌/◌, ◌%◌, ℕ, zero, suc, List, [], ◌∷◌, ◌++◌, length, take, drop, Some, refl, ap, sym, subst, ◌∙◌, arith, length-drop, length-take, length-append, append_assoc, append-nil, inl, inr}
-use Rattle.std.specs.Prelude.{flat_map, slice_get, unwrap_or, All, Contains}
+use Rattle.std.proofs.Common.{◌≡◌, ◌⊎◌, ◌<◌, ◌≤◌, ◌+◌, ◌-◌, ◌*◌, ◌/◌, ◌%◌, ℕ, zero, suc, List, [], ◌∷◌, ◌++◌, length, take, drop, Some, refl, ap, sym, subst, ◌∙◌, arith, length-drop, length-take, length-append, append-nil, inl, inr}
+use Rattle.std.specs.Prelude.{flat_map, slice_get, unwrap_or, All}
 use Rattle.std.proofs.Math.Nat.{mul-le-mul_left, div-le_self}
 use Rattle.std.proofs.Math.Seq.{take-length}
 use Rattle.std.proofs.lemmas.List.Elements.{All-contains}

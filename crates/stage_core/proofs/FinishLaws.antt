@@ -1,21 +1,20 @@
 -- A running job is finished.
-use Rattle.std.proofs.Common.{◌≡◌, ◌<◌, ◌+◌, ℕ, Bool, true, false, ◌&&◌, cond, ltb, List, [], length, Option, Some, None, option_map, refl, ap, sym, subst, ◌∙◌, arith, length-set}
-use Rattle.std.specs.Prelude.{slice_get, slice_set, is_none}
-use Rattle.std.specs.List.{list_any}
+use Rattle.std.proofs.Common.{◌≡◌, ◌+◌, ℕ, Bool, true, false, ◌&&◌, cond, ltb, List, [], length, Option, Some, None, option_map, refl, ap, sym, subst, ◌∙◌, arith, length-set}
+use Rattle.std.specs.Prelude.{slice_get}
 use Rattle.std.proofs.lemmas.Option.{slice_get_within}
 use Rattle.ix_base.specs.declared.fault.Fault.{Fault}
 use Rattle.ix_base.specs.Reading.{◌>>=◌ as ◌>>=?◌}
 use Rattle.index_model.specs.Machine.{JobPlace, job_at, Output, State, End, Going, Stopped, Refused, is_going, is_stopped}
 use Rattle.index_model.specs.MachineEvents.{next_job, is_running, with_output}
 use Rattle.index_model.specs.Outputs.{Made}
-use Rattle.index_model.specs.Parts.{Parts, parts, fault_at_end}
+use Rattle.index_model.specs.Parts.{parts, fault_at_end}
 use Rattle.stage_core.specs.declared.build.Build.{Build}
 use Rattle.stage_core.specs.declared.task.Task.{Task}
 use Rattle.stage_core.specs.Build.{Fits, IsOpen, subject_of, plan_of_build, drawn_on}
 use Rattle.stage_core.specs.Inputs.{handed}
 use Rattle.stage_core.specs.Stopping.{stopped_if}
 use Rattle.stage_core.specs.Tasks.{task_seen}
-use Rattle.stage_core.proofs.StateLaws.{same_input, all_same, same_stock, Runs, runs, goes_on}
+use Rattle.stage_core.proofs.StateLaws.{same_input, all_same, same_stock, runs, goes_on}
 
 not_refused : (a : Build) (place : JobPlace) → Fits a → is_running a.progress place ≡ true → (f : Fault) → a.progress.end ≡ Refused f → ⊥
 not_refused a place fits running f is = let whole = fits.whole f is in let some = (runs a.progress place running).unfinished in cc

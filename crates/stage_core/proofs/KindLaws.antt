@@ -1,18 +1,15 @@
 -- What opens behind each kind.
-use Rattle.std.proofs.Common.{◌≡◌, ◌<◌, ◌≤◌, ◌+◌, ℕ, zero, suc, true, List, [], ◌∷◌, ◌++◌, length, map, filter_map, Option, Some, None, refl, ap, sym, subst, ◌∙◌, arith}
+use Rattle.std.proofs.Common.{◌≡◌, ℕ, true, List, [], ◌∷◌, ◌++◌, length, filter_map, refl, ap, ◌∙◌, arith}
 use Rattle.std.specs.Prelude.{slice_get}
-use Rattle.std.specs.Arc.{arc_value}
 use Rattle.index_model.specs.declared.job.Job.TheVariants.{Scan, Link, Main, Name, Merge, Write}
 use Rattle.index_model.specs.declared.shard.Shard.{Shard}
 use Rattle.index_model.specs.declared.shard.Linked.{Linked}
-use Rattle.index_model.specs.declared.entry.Entry.{Entry}
-use Rattle.index_model.specs.Machine.{plan_for, State, End, Going, Stopped, Refused, is_going}
+use Rattle.index_model.specs.Machine.{plan_for, State, End, Going, is_going}
 use Rattle.index_model.specs.Outputs.{Subject, Made}
-use Rattle.index_model.specs.Parts.{Parts, parts, summary_in, table_in, index_in}
+use Rattle.index_model.specs.Parts.{parts, summary_in, table_in, index_in}
 use Rattle.stage_core.specs.declared.build.Build.{Build}
-use Rattle.stage_core.specs.declared.stock.Stock.TheVariants as stocks
 use Rattle.stage_core.specs.Build.{IsStock}
-use Rattle.stage_core.specs.Inputs.{Handed, ScansOf, LinksOf, RunsOf, PublishedOf, handed, shard_in, linked_in, run_in, made_by_kind}
+use Rattle.stage_core.specs.Inputs.{LinksOf, RunsOf, PublishedOf, handed, shard_in, linked_in, run_in, made_by_kind}
 use Rattle.stage_core.specs.Outputs.{parts_seen}
 use Rattle.stage_core.specs.Tasks.{AreTasks}
 use Rattle.stage_core.proofs.OpeningLaws.{fresh, going_is, OpensAs, tasks_fit, other_tasks}

@@ -1,27 +1,23 @@
 -- The kind behind the open one opens.
-use Rattle.std.proofs.Common.{◌≡◌, ◌<◌, ◌≤◌, ◌+◌, ℕ, zero, suc, true, false, cond, ltb, List, [], ◌∷◌, ◌++◌, length, map, filter_map, replicate, Option, Some, None, option_map, refl, ap, sym, subst, ◌∙◌, arith, inl, inr}
+use Rattle.std.proofs.Common.{◌≡◌, ◌<◌, ◌≤◌, ◌+◌, ℕ, true, false, ltb, List, [], ◌∷◌, ◌++◌, length, filter_map, replicate, Option, Some, None, option_map, refl, ap, sym, subst, ◌∙◌, arith, inl, inr}
 use Rattle.std.specs.Prelude.{slice_get, is_none}
 use Rattle.std.specs.List.{list_any}
-use Rattle.std.specs.Arc.{arc_value}
-use Rattle.std.proofs.lemmas.Bool.{cases_lt, ltb-false}
+use Rattle.std.proofs.lemmas.Bool.{cases_lt}
 use Rattle.std.proofs.lemmas.Bool.Decides.{nat_tests}
 use Rattle.std.proofs.lemmas.List.{length-replicate}
 use Rattle.std.proofs.lemmas.Option.{slice_get_past}
 use Rattle.ix_base.specs.declared.fault.Fault.{Fault}
-use Rattle.ix_base.specs.Reading.{◌>>=◌ as ◌>>=?◌}
 use Rattle.index_model.specs.declared.job.Job.{Job}
-use Rattle.index_model.specs.declared.job.Job.TheVariants.{Scan, Link, Main, Name, Merge, Write}
-use Rattle.index_model.specs.Machine.{Row, JobPlace, job_at, jobs_at, plan_for, Output, State, End, Going, Stopped, Refused, is_going}
+use Rattle.index_model.specs.Machine.{Row, job_at, jobs_at, Output, State, End, Going, Stopped, Refused, is_going}
 use Rattle.index_model.specs.MachineEvents.{next_job, made_in}
 use Rattle.index_model.specs.Outputs.{Subject, Made}
-use Rattle.index_model.specs.Parts.{Parts, parts}
+use Rattle.index_model.specs.Parts.{parts}
 use Rattle.stage_core.specs.declared.build.Build.{Build}
 use Rattle.stage_core.specs.declared.task.Task.{Task}
-use Rattle.stage_core.specs.Build.{Fits, IsOpen, OpensNext, SameSubject, IsStock, subject_of, plan_of_build, drawn_on}
+use Rattle.stage_core.specs.Build.{Fits, IsOpen, OpensNext, IsStock, subject_of, plan_of_build, drawn_on}
 use Rattle.stage_core.specs.Inputs.{Handed, handed}
 use Rattle.stage_core.specs.Outputs.{parts_seen}
 use Rattle.stage_core.specs.Tasks.{task_seen, AreTasks}
-use Rattle.stage_core.proofs.StateLaws.{same_input, all_same}
 
 -- a kind of n jobs is open behind the closed ones, and none of them is drawn
 abbrev pub fresh : List (List Made) → ℕ → State Made

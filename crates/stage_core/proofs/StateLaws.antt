@@ -1,5 +1,5 @@
 -- What is drawn next, and what jobs are given.
-use Rattle.std.proofs.Common.{◌≡◌, ◌<◌, ◌+◌, ℕ, zero, suc, Bool, true, false, ◌&&◌, cond, ltb, eqb, List, [], ◌∷◌, length, Option, Some, None, IsSome, option_map, refl, ap, sym, ◌∙◌, arith, add-zero}
+use Rattle.std.proofs.Common.{◌≡◌, ◌<◌, ℕ, zero, suc, Bool, true, false, ◌&&◌, cond, ltb, eqb, List, [], ◌∷◌, length, Option, Some, None, IsSome, option_map, refl, ap, arith, add-zero}
 use Rattle.std.specs.Prelude.{slice_get, is_none}
 use Rattle.std.specs.List.{list_any}
 use Rattle.std.proofs.lemmas.Bool.{ltb-true}
@@ -11,7 +11,7 @@ use Rattle.index_model.specs.Machine.{Row, JobPlace, job_at, jobs_at, Output, St
 use Rattle.index_model.specs.MachineEvents.{has_next, next_job, after_draw, is_running, is_open}
 use Rattle.index_model.specs.Outputs.{Subject, Made}
 use Rattle.index_model.proofs.MachineOnce.{both, open_not_done}
-use Rattle.stage_core.specs.Inputs.{Handed, input_of, handed}
+use Rattle.stage_core.specs.Inputs.{handed}
 use Rattle.stage_core.specs.declared.stock.Stock.{Stock}
 use Rattle.stage_core.specs.declared.stock.Stock.TheVariants as stocks
 use Rattle.stage_core.specs.Build.{drawn_on, IsStock}
@@ -43,6 +43,7 @@ module _ {A : Type 0} (f : Job → A) (plan : List Row) where
       there : (o : Option Job) → IsSome o → option_map f o ≡ None → ⊥
       there None some e = absurd cc
       there (Some job) some e = absurd cc
+
       by : (b : Bool) → has_next t ≡ b → option_map f (cond b (Some (record { kind = length t.closed; number = t.drawn })) None >>=? job_at plan) ≡ None → b ≡ false
       by false is e = refl
       by true is e =

@@ -1,5 +1,5 @@
 -- There are no more units than can be numbered.
-use Rattle.std.proofs.Common.{◌≡◌, ◌<◌, ◌≤◌, ◌+◌, ℕ, zero, suc, Bool, true, false, subst, cond, eqb, ltb, List, [], ◌∷◌, ◌++◌, length, Result, Ok, refl, ap, sym, ◌∙◌, arith, length-append}
+use Rattle.std.proofs.Common.{◌≡◌, ◌<◌, ◌≤◌, ◌+◌, ℕ, zero, suc, Bool, true, false, subst, cond, eqb, ltb, List, [], ◌∷◌, ◌++◌, length, Result, Ok, refl, ap, sym, arith, length-append}
 use Rattle.std.specs.Prelude.{codes}
 use Rattle.std.proofs.lemmas.Bool.{ltb-true}
 use Rattle.ix_base.specs.declared.fault.Fault.{Fault}
@@ -10,11 +10,11 @@ use Rattle.index_model.specs.declared.unit.Part.{Part}
 use Rattle.index_model.specs.declared.unit.Part.TheVariants.{Info, Types}
 use Rattle.index_model.specs.declared.unit.Unit.{Unit as UnitHeader}
 use Rattle.index_model.specs.Meaning.{◌>>=◌, fault}
-use Rattle.index_model.specs.Sections.{Section, sections_of, section_bytes}
+use Rattle.index_model.specs.Sections.{Section, section_bytes}
 use Rattle.index_model.specs.Tiling.{up_to}
 use Rattle.index_model.specs.Units.{next_unit, head, units_of}
 use Rattle.index_model.proofs.Meanings.{bind_ok, some_ok, holds_ok, same_ok}
-use Rattle.stage_core.specs.Cut.{units_in, ok_or_none, HasUnits}
+use Rattle.stage_core.specs.Cut.{units_in, HasUnits}
 
 numbered : (section : Part) (base k : ℕ) (i : Input) (x : UnitHeader × Input) → next_unit section base k i ≡ Ok x → k < MAX_UNITS
 unfolding next_unit
@@ -72,6 +72,7 @@ few_units ss us is =
     size : (xs : List UnitHeader) → Few 0 xs → length xs ≤ MAX_UNITS
     size [] none = omega arith
     size xs (some within) = omega (arith, within)
+
     by : (xs ys : List UnitHeader) → xs ++ ys ≡ us → Few 0 xs → Few (length xs) ys → length us ≤ MAX_UNITS
     by xs [] e few others = omega (arith, ap length (sym e), length-append xs [], size xs few)
     by xs (y ∷ ys) e few (some within) = omega (arith, ap length (sym e), length-append xs (y ∷ ys), within)

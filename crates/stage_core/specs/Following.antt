@@ -1,10 +1,7 @@
 -- What follows a machine by one event.
-use Rattle.std.proofs.Common.{◌≡◌, ℕ, List, [], ◌∷◌, refl}
-use Rattle.index_model.specs.LawsCore.{IsState, plan_of}
-use Rattle.index_model.specs.Machine.{State}
-use Rattle.index_model.specs.MachineEvents.{Event, Draw, Finish, after_event}
-use Rattle.index_model.specs.Outputs.{Subject, Made}
-use Rattle.index_model.specs.Queries.{Query}
+use Rattle.std.proofs.Common.{◌≡◌, refl}
+use Rattle.index_model.specs.LawsCore.{IsState}
+use Rattle.index_model.specs.MachineEvents.{Draw, Finish}
 use Rattle.index_model.specs.Stages.{IsReachable, same as same_stage}
 use Rattle.index_model.proofs.CoreRight.{states_go_on, stages_follow}
 use Rattle.stage_core.specs.Machines.{Machine, ByOneEvent, same, draws, finishes, Follows, stage_of}

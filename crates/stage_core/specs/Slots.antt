@@ -1,5 +1,5 @@
 -- What contracts see of the slots of a kind.
-use Rattle.std.specs.Prelude.{◌≡◌, Bool, true, false, List, map, filter_map, Option, Some, None, option_map, All}
+use Rattle.std.specs.Prelude.{◌≡◌, Bool, false, List, map, filter_map, Option, Some, None, option_map, All}
 use Rattle.ix_base.specs.Reading.{◌>>=◌ as ◌>>=?◌}
 use Rattle.index_model.specs.Machine.{Output}
 use Rattle.index_model.specs.MachineEvents.{made_in}

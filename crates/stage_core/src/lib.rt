@@ -18,6 +18,8 @@ mod stages;
 mod stock;
 mod task;
 mod tasks;
+#[cfg(test)]
+mod tests;
 
 pub use machine::Core;
 pub use output::{Cache, Output, Parts, Summary};

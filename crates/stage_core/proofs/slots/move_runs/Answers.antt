@@ -1,6 +1,5 @@
-use Rattle.std.proofs.Common.{◌≡◌, ◌<◌, ◌≤◌, ◌+◌, ◌++◌, false, List, [], length, filter_map, drop, Option, Some, None, Vec, vec_len, vec_capacity, sym, ap, ◌∙◌, arith, length-set, append-nil}
+use Rattle.std.proofs.Common.{◌≡◌, ◌<◌, ◌+◌, ◌++◌, false, List, length, filter_map, drop, Some, None, sym, ap, ◌∙◌, arith, length-set, append-nil}
 use Rattle.std.specs.Prelude.{slice_set}
-use Rattle.std.specs.Option.{option_to_list}
 use Rattle.std.proofs.lemmas.List.Elements.{All-set}
 use Rattle.index_model.specs.declared.entry.Entry.{Entry}
 use Rattle.stage_core.specs.Inputs.{run_in}

@@ -1,4 +1,4 @@
-use Rattle.std.proofs.Common.{◌≤◌, ◌-◌, ◌/◌, refl, sym, ap, arith}
+use Rattle.std.proofs.Common.{◌-◌, ◌/◌, refl, sym, ap, arith}
 use Rattle.stage_core.proofs.CutLaws.{cut_more, left_part}
 use Rattle.stage_core.proofs.tasks.scan_tasks.Goals as goal
 

@@ -1,4 +1,4 @@
-use Rattle.std.proofs.Common.{◌≡◌, ◌||◌, Bool, true, ap, sym, ◌∙◌}
+use Rattle.std.proofs.Common.{◌≡◌, ◌||◌, Bool, true, sym, ◌∙◌}
 use Rattle.index_model.specs.Machine.{JobPlace}
 use Rattle.index_model.specs.MachineEvents.{is_memory, is_running}
 use Rattle.stage_core.specs.declared.build.Build.{Build}

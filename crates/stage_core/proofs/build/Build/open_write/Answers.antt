@@ -1,4 +1,4 @@
-use Rattle.std.proofs.Common.{◌≡◌, List, [], ◌∷◌, Option, length, filter_map, option_map, refl, ap, ◌∙◌, arith, length-append}
+use Rattle.std.proofs.Common.{◌≡◌, List, [], ◌∷◌, Option, filter_map, option_map, ap, ◌∙◌, arith, length-append}
 use Rattle.std.specs.Prelude.{slice_get}
 use Rattle.index_model.specs.Machine.{Output}
 use Rattle.index_model.specs.MachineEvents.{made_in}
@@ -29,12 +29,12 @@ returns-clause-opens c =
     let table : option_map arc_value c.in_ok-table.table ≡ table_in (slice_get ms 0) = c.in_ok-table.ensures ∙ ap (λ (xs : List Made). table_in (slice_get xs 0)) made in
     let before = c.requires.open.fits.parts ∙ parts_going a.progress c.requires.open.going in
     let published =
-          ap (λ (o : Option (List Entry)). record (parts_seen a.parts) { table = o }) table ∙
-          ap (λ (p : Parts). record p { table = table_in (slice_get ms 0) }) before in
+    ap (λ (o : Option (List Entry)). record (parts_seen a.parts) { table = o }) table ∙
+    ap (λ (p : Parts). record p { table = table_in (slice_get ms 0) }) before in
     let handed_out =
-          ap (λ (o : Option (List Entry)). record (parts_seen c.in_ok-published.published) { table = o }) (c.in_ok-published-2.ensures ∙ table) ∙
-          ap (λ (p : Parts). record p { table = table_in (slice_get ms 0) }) (c.in_ok-published.ensures ∙ before) in
+    ap (λ (o : Option (List Entry)). record (parts_seen c.in_ok-published.published) { table = o }) (c.in_ok-published-2.ensures ∙ table) ∙
+    ap (λ (p : Parts). record p { table = table_in (slice_get ms 0) }) (c.in_ok-published.ensures ∙ before) in
     let tasks =
-          other_tasks c.in_ok-tasks.tasks.items 1 _ (λ _. record { job = Write; given = PublishedOf new a.cache }) (λ i. ap (λ (p : Parts). record { job = Write; given = PublishedOf p a.cache }) handed_out)
-          c.in_ok-tasks.ensures in
+    other_tasks c.in_ok-tasks.tasks.items 1 _ (λ _. record { job = Write; given = PublishedOf new a.cache }) (λ i. ap (λ (p : Parts). record { job = Write; given = PublishedOf p a.cache }) handed_out)
+    c.in_ok-tasks.ensures in
     opens_next a b 1 c.requires.open c.in_ok-_brought.ensures.closed (write_opens (subject_of a) a.runs ms b a.progress.closed c.requires.kind tasks published (omega (arith, length-append a.progress.closed (ms ∷ []), c.requires.kind)))

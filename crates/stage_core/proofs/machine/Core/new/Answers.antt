@@ -1,8 +1,8 @@
-use Rattle.std.proofs.Common.{◌≡◌, ◌<◌, ℕ, length, ap, subst, sym, ◌∙◌, arith}
+use Rattle.std.proofs.Common.{◌<◌, ℕ, length, ap, subst, sym, ◌∙◌, arith}
 use Rattle.std.specs.List.{enumerate_from}
 use Rattle.index_model.specs.Machine.{IsCut, plan_for, machine_start}
 use Rattle.stage_core.specs.declared.build.Build.{Build}
-use Rattle.stage_core.specs.Build.{subject_of, plan_of_build}
+use Rattle.stage_core.specs.Build.{subject_of}
 use Rattle.stage_core.specs.Cut.{HasUnits}
 use Rattle.stage_core.proofs.CoreLaws.{new_cut, new_state, new_is_sound}
 use Rattle.stage_core.proofs.UnitCount.{few_units, units_are}

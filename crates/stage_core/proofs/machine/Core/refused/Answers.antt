@@ -1,8 +1,6 @@
-use Rattle.std.proofs.Common.{◌≡◌, [], Some, ap, ◌∙◌}
+use Rattle.std.proofs.Common.{◌≡◌, Some, ap, ◌∙◌}
 use Rattle.index_model.specs.Faults.{first_fault}
-use Rattle.index_model.specs.Machine.{refused_start}
 use Rattle.stage_core.specs.declared.build.Build.{Build}
-use Rattle.stage_core.specs.Machines.{Machine}
 use Rattle.stage_core.proofs.CoreLaws.{refused_machine, refused_seen, refused_is_sound}
 use Rattle.stage_core.proofs.machine.Core.refused.Goals as goal
 
