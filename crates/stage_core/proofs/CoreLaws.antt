@@ -16,7 +16,7 @@ use Rattle.stage_core.specs.declared.machine.Core.TheInside.{Inside}
 use Rattle.stage_core.specs.Build.{SameSubject, subject_of, plan_of_build}
 use Rattle.stage_core.specs.Cores.{core_seen, IsSound}
 use Rattle.stage_core.specs.Cut.{cut, units_in, HasUnits}
-use Rattle.stage_core.specs.Machines.{Machine}
+use Rattle.stage_core.specs.Machines.{Machine, ByOneEvent, same as same_machine, draws, finishes, Follows}
 use Rattle.stage_core.proofs.CutLaws.{length_cut, is_cut}
 use Rattle.stage_core.proofs.UnitCount.{units_are}
 
@@ -93,3 +93,17 @@ refused_seen b fault none is =
 
 pub refused_is_sound : (b : Build) (fault : Fault) → first_fault b.file.now ≡ Some fault → b.progress ≡ refused_start fault → IsState (subject_of b) b.progress
 refused_is_sound b fault first is = subst (λ (t : State Made). IsState (subject_of b) t) (sym is) (begun (subject_of b) (refused_start fault) (with_fault fault first))
+
+-- ---- what follows
+
+abbrev pub machine_of : Build → Machine
+machine_of b = record { subject = subject_of b; state = b.progress }
+
+pub drawn_follows : (a b : Build) → IsState (subject_of a) a.progress → b.progress ≡ after_draw a.progress → SameSubject a b → Follows (machine_of a) (machine_of b)
+drawn_follows a b reached is same = record { reached = reached; event = subst (λ (n : Machine). ByOneEvent (machine_of a) n) (sym (drawn_seen a b is same)) draws }
+
+pub finished_follows : (a b : Build) (job : Job) (output : Output Made) (refused : Bool) → IsOutputOf (subject_of a) job output → IsState (subject_of a) a.progress → b.progress ≡ after_finish (plan_of_build a) a.progress (place_of_job job) output refused → SameSubject a b → Follows (machine_of a) (machine_of b)
+finished_follows a b job output refused meets reached is same = record { reached = reached; event = subst (λ (n : Machine). ByOneEvent (machine_of a) n) (sym (finished_seen a b job output refused is same)) (finishes job output refused meets) }
+
+pub sound_follows : (c : Inside) (m : Machine) → core_seen c ≡ m → IsSound c → Follows m m
+sound_follows c m is sound = subst (λ (m : Machine). Follows m m) is (record { reached = sound.reached; event = same_machine })

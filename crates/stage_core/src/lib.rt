@@ -21,7 +21,7 @@ mod tasks;
 #[cfg(test)]
 mod tests;
 
-pub use machine::Core;
+pub use machine::{Core, core_is_right};
 pub use output::{Cache, Output, Parts, Summary};
 pub use stages::About;
 pub use task::{Input, Task};

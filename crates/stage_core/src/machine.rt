@@ -10,6 +10,7 @@ ghost use Rattle.index_model.specs.Outputs.{IsOutputOf};
 ghost use Rattle.index_model.specs.Parts.{parts};
 ghost use Rattle.stage_core.specs.Cut.{HasUnits};
 ghost use Rattle.stage_core.specs.Inputs.{handed};
+ghost use Rattle.stage_core.specs.Machines.{Follows};
 ghost use Rattle.stage_core.specs.Outputs.{output_seen, parts_seen};
 ghost use Rattle.stage_core.specs.Tasks.{task_seen};
 
@@ -81,6 +82,7 @@ impl<'f> Core<'f> {
     pub fn draw(&mut self) -> Option<Task<'f>>
         ensures state { self.new ≡ record self.old { state = after_draw self.old.state } }
         ensures task { option_map task_seen result ≡ option_map (handed self.old.subject self.old.state) (next_job (plan_of self.old.subject) self.old.state) }
+        ensures follows { Follows self.old self.new }
     {
         self.build.draw()
     }
@@ -89,7 +91,8 @@ impl<'f> Core<'f> {
     /// is already finished, changes nothing. Answers whether memory was refused here; the stage is 5 then.
     pub fn finish(&mut self, alloc: Global, job: Job, output: Output<'f>) -> bool
         requires { IsOutputOf self.old.subject job (output_seen output) }
-        ensures { self.new ≡ record self.old { state = after_finish (plan_of self.old.subject) self.old.state (place_of_job job) (output_seen output.entry) result } }
+        ensures state { self.new ≡ record self.old { state = after_finish (plan_of self.old.subject) self.old.state (place_of_job job) (output_seen output.entry) result } }
+        ensures follows { Follows self.old self.new }
     {
         self.build.finish(alloc, job, output)
     }
@@ -121,4 +124,13 @@ impl<'f> Core<'f> {
         let parts = self.build.parts.share()?;
         Ok(parts)
     }
+}
+
+/// Each core is right: what it has published is what its file means, its fault is the first of the file, and each look has the
+/// file's reply at the stage. A core that stays as it is follows itself.
+pub fn core_is_right(core: &Core<'_>)
+    ensures right { StateIsRight core.now.subject core.now.state }
+    ensures follows { Follows core.now core.now }
+{
+    let _ = &core.build;
 }

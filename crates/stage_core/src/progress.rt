@@ -4,7 +4,6 @@ ghost use Rattle.std.specs.Prelude.{◌≡◌, ◌<◌, ◌||◌, ◌++◌, ◌�
 ghost use Rattle.std.specs.List.{list_any};
 ghost use Rattle.index_model.specs.Machine.{Going, Stopped, Refused, is_going, is_stopped};
 ghost use Rattle.index_model.specs.MachineEvents.{is_memory, is_running, with_output, least_fault, made_in};
-ghost use Rattle.index_model.specs.Parts.{fault_at_end};
 ghost use Rattle.stage_core.specs.Brought.{brought_seen, is_lost};
 ghost use Rattle.stage_core.specs.Slots.{slots_seen, NoneLost};
 ghost use Rattle.stage_core.specs.Stopping.{stopped_if};
@@ -91,23 +90,6 @@ impl<'f> Progress<'f> {
         ensures { result ≡ is_stopped self.now.end }
     {
         matches!(self.end, End::Stopped)
-    }
-
-    /// The fault of a refused file.
-    pub fn fault(&self) -> Option<Fault>
-        ensures { result ≡ fault_at_end self.now.end }
-    {
-        match self.end {
-            End::Refused(fault) => Some(fault),
-            End::Going | End::Stopped => None,
-        }
-    }
-
-    /// How many kinds are closed.
-    pub fn closed(&self) -> usize
-        ensures { result ≡ length self.now.closed }
-    {
-        self.closed.len()
     }
 
     /// The next job of the open kind is drawn.

@@ -75,15 +75,36 @@ fn draws(build: &mut Build<'_>, job: Job) -> bool
     }
 }
 
+// Draws a job, and doesn't look at it.
+fn draw(build: &mut Build<'_>)
+    requires { Fits build.old }
+    ensures { Fits build.new }
+{
+    let _task = build.draw();
+}
+
+fn finish<'f>(alloc: Global, build: &mut Build<'f>, job: Job, output: Output<'f>)
+    requires { Fits build.old }
+    ensures { Fits build.new }
+{
+    build.finish(alloc, job, output);
+}
+
+fn stage(build: &Build<'_>) -> u8
+    requires { Fits build.now }
+{
+    build.stage()
+}
+
 // Both Scan jobs, the second of which is finished first.
 fn pass_scans(alloc: Global, build: &mut Build<'_>)
     requires { Fits build.old }
     ensures { Fits build.new }
 {
-    let _first = build.draw();
-    let _second = build.draw();
-    build.finish(alloc, Job::Scan(1), shard(alloc, 1));
-    build.finish(alloc, Job::Scan(0), shard(alloc, 0));
+    draw(build);
+    draw(build);
+    finish(alloc, build, Job::Scan(1), shard(alloc, 1));
+    finish(alloc, build, Job::Scan(0), shard(alloc, 0));
 }
 
 // Both Link jobs, the second of which is finished first.
@@ -91,10 +112,10 @@ fn pass_links(alloc: Global, build: &mut Build<'_>)
     requires { Fits build.old }
     ensures { Fits build.new }
 {
-    let _first = build.draw();
-    let _second = build.draw();
-    build.finish(alloc, Job::Link(1), linked(alloc));
-    build.finish(alloc, Job::Link(0), linked(alloc));
+    draw(build);
+    draw(build);
+    finish(alloc, build, Job::Link(1), linked(alloc));
+    finish(alloc, build, Job::Link(0), linked(alloc));
 }
 
 fn pass_main(alloc: Global, build: &mut Build<'_>) -> Result<(), NoMemory>
@@ -102,8 +123,8 @@ fn pass_main(alloc: Global, build: &mut Build<'_>) -> Result<(), NoMemory>
     ensures { Fits build.new }
 {
     let output = summary(alloc)?;
-    let _task = build.draw();
-    build.finish(alloc, Job::Main, output);
+    draw(build);
+    finish(alloc, build, Job::Main, output);
     Ok(())
 }
 
@@ -114,10 +135,10 @@ fn pass_names(alloc: Global, build: &mut Build<'_>) -> Result<(), NoMemory>
 {
     let first = run(alloc, b"first".as_slice())?;
     let second = run(alloc, b"second".as_slice())?;
-    let _first = build.draw();
-    let _second = build.draw();
-    build.finish(alloc, Job::Name(1), second);
-    build.finish(alloc, Job::Name(0), first);
+    draw(build);
+    draw(build);
+    finish(alloc, build, Job::Name(1), second);
+    finish(alloc, build, Job::Name(0), first);
     Ok(())
 }
 
@@ -130,8 +151,8 @@ fn pass_merge<R: Threads + Sync>(
     ensures { Fits build.new }
 {
     let output = table(rt, alloc)?;
-    let _task = build.draw();
-    build.finish(alloc, Job::Merge, output);
+    draw(build);
+    finish(alloc, build, Job::Merge, output);
     Ok(())
 }
 
@@ -160,23 +181,43 @@ fn begins_with(task: &Task<'_>, name: &[u8]) -> bool {
     }
 }
 
+// Whether the next job has the shards of the runs in their order.
+fn draws_shards_in_order(build: &mut Build<'_>) -> bool
+    requires { Fits build.old }
+    ensures { Fits build.new }
+{
+    match build.draw() {
+        Some(task) => has_shards_in_order(&task),
+        None => false,
+    }
+}
+
+// Whether the next job has runs, the first of which begins with this name.
+fn draws_runs_from(build: &mut Build<'_>, name: &[u8]) -> bool
+    requires { Fits build.old }
+    ensures { Fits build.new }
+{
+    match build.draw() {
+        Some(task) => begins_with(&task, name),
+        None => false,
+    }
+}
+
 #[test]
 fn inputs_are_in_the_order_of_the_jobs(rt: HostRuntime) -> Result<(), Fail> {
     let alloc = rt.alloc();
     let mut build = two_runs(alloc)?;
     pass_scans(alloc, &mut build);
-    let task = build.draw().ok_or("a Link job")?;
-    assert!(rt; has_shards_in_order(&task));
+    assert!(rt; draws_shards_in_order(&mut build));
     assert!(rt; draws(&mut build, Job::Link(1)));
     assert!(rt; !draws(&mut build, Job::Main));
-    build.finish(alloc, Job::Link(1), linked(alloc));
-    build.finish(alloc, Job::Link(0), linked(alloc));
-    assert_eq!(rt; build.stage(), 0);
+    finish(alloc, build, Job::Link(1), linked(alloc));
+    finish(alloc, build, Job::Link(0), linked(alloc));
+    assert_eq!(rt; stage(&build), 0);
     pass_main(alloc, &mut build)?;
-    assert_eq!(rt; build.stage(), 1);
+    assert_eq!(rt; stage(&build), 1);
     pass_names(alloc, &mut build)?;
-    let task = build.draw().ok_or("Merge")?;
-    assert!(rt; begins_with(&task, b"first".as_slice()));
+    assert!(rt; draws_runs_from(&mut build, b"first".as_slice()));
     Ok(())
 }
 
@@ -187,11 +228,11 @@ fn first_fault_is_that_of_the_least_job(rt: HostRuntime) -> Result<(), Fail> {
     assert!(rt; draws(&mut build, Job::Scan(0)));
     assert!(rt; draws(&mut build, Job::Scan(1)));
     let late = Fault { code: 11, at: 40 };
-    build.finish(alloc, Job::Scan(1), Output::Fault(late));
-    assert_eq!(rt; build.stage(), 0);
+    finish(alloc, build, Job::Scan(1), Output::Fault(late));
+    assert_eq!(rt; stage(&build), 0);
     let early = Fault { code: 19, at: 7 };
-    build.finish(alloc, Job::Scan(0), Output::Fault(early));
-    assert_eq!(rt; build.stage(), 4);
+    finish(alloc, build, Job::Scan(0), Output::Fault(early));
+    assert_eq!(rt; stage(&build), 4);
     assert_eq!(rt; build.parts.fault, Some(early));
     Ok(())
 }
@@ -204,9 +245,8 @@ fn want_of_memory_keeps_what_was_published(rt: HostRuntime) -> Result<(), Fail> 
     pass_links(alloc, &mut build);
     pass_main(alloc, &mut build)?;
     assert!(rt; draws(&mut build, Job::Name(0)));
-    build.finish(alloc, Job::Name(0), Output::Memory);
-    assert_eq!(rt; build.stage(), 5);
-    assert_eq!(rt; build.level(), 1);
+    finish(alloc, build, Job::Name(0), Output::Memory);
+    assert_eq!(rt; stage(&build), 5);
     assert!(rt; build.parts.summary.is_some());
     assert!(rt; !draws(&mut build, Job::Name(1)));
     Ok(())
@@ -221,11 +261,11 @@ fn last_kind_brings_the_index(rt: HostRuntime) -> Result<(), Fail> {
     pass_main(alloc, &mut build)?;
     pass_names(alloc, &mut build)?;
     pass_merge(&rt, alloc, &mut build)?;
-    assert_eq!(rt; build.stage(), 2);
+    assert_eq!(rt; stage(&build), 2);
     assert!(rt; draws(&mut build, Job::Write));
-    build.finish(alloc, Job::Write, cache(alloc));
-    build.finish(alloc, Job::Write, Output::Memory);
-    assert_eq!(rt; build.stage(), 3);
+    finish(alloc, build, Job::Write, cache(alloc));
+    finish(alloc, build, Job::Write, Output::Memory);
+    assert_eq!(rt; stage(&build), 3);
     assert!(rt; build.parts.cache.is_some());
     Ok(())
 }
