@@ -211,8 +211,8 @@ fn inputs_are_in_the_order_of_the_jobs(rt: HostRuntime) -> Result<(), Fail> {
     assert!(rt; draws_shards_in_order(&mut build));
     assert!(rt; draws(&mut build, Job::Link(1)));
     assert!(rt; !draws(&mut build, Job::Main));
-    finish(alloc, build, Job::Link(1), linked(alloc));
-    finish(alloc, build, Job::Link(0), linked(alloc));
+    finish(alloc, &mut build, Job::Link(1), linked(alloc));
+    finish(alloc, &mut build, Job::Link(0), linked(alloc));
     assert_eq!(rt; stage(&build), 0);
     pass_main(alloc, &mut build)?;
     assert_eq!(rt; stage(&build), 1);
@@ -228,10 +228,10 @@ fn first_fault_is_that_of_the_least_job(rt: HostRuntime) -> Result<(), Fail> {
     assert!(rt; draws(&mut build, Job::Scan(0)));
     assert!(rt; draws(&mut build, Job::Scan(1)));
     let late = Fault { code: 11, at: 40 };
-    finish(alloc, build, Job::Scan(1), Output::Fault(late));
+    finish(alloc, &mut build, Job::Scan(1), Output::Fault(late));
     assert_eq!(rt; stage(&build), 0);
     let early = Fault { code: 19, at: 7 };
-    finish(alloc, build, Job::Scan(0), Output::Fault(early));
+    finish(alloc, &mut build, Job::Scan(0), Output::Fault(early));
     assert_eq!(rt; stage(&build), 4);
     assert_eq!(rt; build.parts.fault, Some(early));
     Ok(())
@@ -245,7 +245,7 @@ fn want_of_memory_keeps_what_was_published(rt: HostRuntime) -> Result<(), Fail> 
     pass_links(alloc, &mut build);
     pass_main(alloc, &mut build)?;
     assert!(rt; draws(&mut build, Job::Name(0)));
-    finish(alloc, build, Job::Name(0), Output::Memory);
+    finish(alloc, &mut build, Job::Name(0), Output::Memory);
     assert_eq!(rt; stage(&build), 5);
     assert!(rt; build.parts.summary.is_some());
     assert!(rt; !draws(&mut build, Job::Name(1)));
@@ -263,8 +263,8 @@ fn last_kind_brings_the_index(rt: HostRuntime) -> Result<(), Fail> {
     pass_merge(&rt, alloc, &mut build)?;
     assert_eq!(rt; stage(&build), 2);
     assert!(rt; draws(&mut build, Job::Write));
-    finish(alloc, build, Job::Write, cache(alloc));
-    finish(alloc, build, Job::Write, Output::Memory);
+    finish(alloc, &mut build, Job::Write, cache(alloc));
+    finish(alloc, &mut build, Job::Write, Output::Memory);
     assert_eq!(rt; stage(&build), 3);
     assert!(rt; build.parts.cache.is_some());
     Ok(())
