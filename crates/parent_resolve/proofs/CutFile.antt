@@ -14,7 +14,6 @@ use Rattle.index_model.specs.declared.unit.Unit.{Unit as UnitHeader}
 use Rattle.index_model.specs.Faults.{scanned, scan_of, program_of}
 use Rattle.index_model.specs.Meaning.{◌>>=◌, each}
 use Rattle.index_model.specs.Program.{Walked}
-use Rattle.index_model.specs.Sections.{Section}
 use Rattle.index_model.specs.Shards.{StandsFor}
 use Rattle.unit_headers.specs.Images.{Image, image_of}
 use Rattle.unit_headers.proofs.Images.{parts_of}
