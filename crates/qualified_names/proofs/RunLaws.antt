@@ -1,6 +1,6 @@
 -- The entries of a run, link by link, and the indexed entries of a whole file.
-use Rattle.std.proofs.Common.{◌≡◌, ℕ, List, [], ◌∷◌, ◌++◌, append_assoc, append-nil, flat_map, length, unwrap_or, Option, Some, Result, Ok, refl, sym, ap, subst, ◌∙◌, arith}
-use Rattle.std.specs.Prelude.{slice_get}
+use Rattle.std.proofs.Common.{◌≡◌, ℕ, List, [], ◌∷◌, ◌++◌, append_assoc, append-nil, flat_map, length, unwrap_or, Option, Some, Result, Ok, Err, refl, sym, ap, subst, ◌∙◌, arith}
+use Rattle.std.specs.Prelude.{slice_get, IsOkAnd}
 use Rattle.std.specs.List.{AllZip}
 use Rattle.std.proofs.lemmas.List.Concat.{flat_map-append}
 use Rattle.ix_base.specs.declared.fault.Fault.{Fault}
@@ -13,9 +13,10 @@ use Rattle.index_model.specs.Faults.{program_of, links_of}
 use Rattle.index_model.specs.Links.{Link, followed, indexed_in, links_in}
 use Rattle.index_model.specs.Meaning.{◌>>=◌, each}
 use Rattle.index_model.specs.Program.{Walked, Program}
-use Rattle.index_model.specs.Shards.{AreShardsOf, IsLinkedEntryOf}
+use Rattle.index_model.specs.Shards.{AreShardsOf, IsLinked, IsLinkedEntryOf, StandsFor}
 use Rattle.index_model.proofs.Meanings.{same_ok}
 use Rattle.index_model.proofs.ShardRoots.{joined}
+use Rattle.shard_build.specs.Entries.{AreShardsOfFile}
 use Rattle.parent_resolve.proofs.RunLinks.{RunAt, each_append, run_at}
 use Rattle.range_lists.specs.Units.{AreLinkedOf, IsLinkedRun}
 use Rattle.range_lists.proofs.Runs.{zip_length}
@@ -129,3 +130,18 @@ module _ (image : Image) (shards : List Shard) (linked : List Linked) (r : AreLi
   file_zip p file ks is =
       let same = same_ok r.program p (sym r.is ∙ file) in
       (same, subst (λ (q : Program). links_of q ≡ Ok ks → AllZip (IsIndexed q) (all_indexed shards linked) (indexed_in ks)) same (zip_here ks) is)
+
+-- a file whose units one shard stands for
+pub one_run : (image : Image) (shards : List Shard) (l : Linked) → length shards ≡ 1 → (r : AreShardsOfFile image shards) → IsOkAnd (links_in r.program (unwrap_or (slice_get r.are.runs 0) [])) (IsLinked r.program l) → AreLinkedOfFile image shards (l ∷ [])
+one_run image shards l single r given = record { program = r.program; is = r.is; are = r.are; links = by shards single r.are.runs r.are.stand given }
+  where
+    told : (run : List Walked) (m : Result (List Link) Fault) → links_in r.program run ≡ m → IsOkAnd m (IsLinked r.program l) → IsLinkedRun r.program l run
+    told run (Ok ks) e h = record { links = ks; given = e; is = h }
+    told run (Err f) e h = absurd h
+
+    by : (ss : List Shard) → length ss ≡ 1 → (runs : List (List Walked)) → AllZip (StandsFor r.program.sections) ss runs → IsOkAnd (links_in r.program (unwrap_or (slice_get runs 0) [])) (IsLinked r.program l) → AllZip (IsLinkedRun r.program) (l ∷ []) runs
+    by [] n runs z h = absurd (omega (arith, n))
+    by (s ∷ []) n [] z h = absurd z
+    by (s ∷ []) n (run ∷ []) z h = (told run (links_in r.program run) refl h, tt)
+    by (s ∷ []) n (run ∷ next ∷ runs) z h = absurd z.1
+    by (s ∷ t ∷ ss) n runs z h = absurd (omega (arith, n))
