@@ -1,0 +1,15 @@
+pub mod Lists
+pub mod Next
+pub mod Walks
+pub mod Given
+pub mod ScanJob
+pub mod LinkJob
+pub mod RangeLoop
+pub mod Built
+pub mod MainJob
+pub mod Picks
+pub mod Owners
+pub mod NameJob
+pub mod Counts
+pub mod MergeJob
+pub mod Performs
