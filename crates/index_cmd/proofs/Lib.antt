@@ -1,4 +1,7 @@
 mod Digits
 mod FileReads
 mod Joined
-mod Said
+mod Looks
+mod Steps
+mod Outcomes
+mod AskLaws

@@ -1,5 +1,5 @@
 -- The words and commands of the code as those of the grammar.
-use Rattle.std.specs.Prelude.{ℕ, List, map, String}
+use Rattle.std.specs.Prelude.{◌<◌, ◌≤◌, ℕ, List, map, String, ⊤}
 use Rattle.std.specs.String.{string_bytes}
 use Rattle.index_cmd.specs.declared.words.Command.{Command}
 use Rattle.index_cmd.specs.declared.words.Command.TheVariants as code
@@ -21,3 +21,14 @@ abbrev pub seen_command : Command → grammar.Wanted
 seen_command code.Help = grammar.Help
 seen_command code.Version = grammar.Version
 seen_command (code.Ask a) = grammar.Ask (seen_ask a)
+
+-- 1 to 64 workers
+pub record IsWorkers (workers : ℕ) : Type 0 where
+  pub some : 0 < workers
+  pub few : workers ≤ 64
+
+-- a command that asks for workers asks for so many
+abbrev pub HasWorkers : Command → Type 0
+HasWorkers code.Help = ⊤
+HasWorkers code.Version = ⊤
+HasWorkers (code.Ask a) = IsWorkers a.workers

@@ -2,16 +2,14 @@
 #![tactic(auto)]
 
 mod about;
-mod attributes;
-mod entries;
+mod ask;
+mod build;
 mod file;
+mod line;
+mod look;
 mod number;
-mod query;
-mod reply;
 mod status;
-mod texts;
 mod top;
-mod unit_scan;
 mod words;
 
 pub use top::run;

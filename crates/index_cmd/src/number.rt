@@ -1,6 +1,7 @@
 //! Decimal numbers in words.
 
-ghost use Rattle.std.specs.Prelude.{◌≡◌};
+ghost use Rattle.std.specs.Prelude.{◌≡◌, ◌≤◌};
+ghost use Rattle.std.specs.Option.{ForSome};
 ghost use Rattle.index_cmd.specs.Numbers.{digits_value, has_leading_zero, number_between};
 
 /// The number that the digits stand for; None where there are none, another byte stands among them, or the number
@@ -30,7 +31,8 @@ fn has_leading_zero(text: &[u8]) -> bool
 
 /// A number from `low` to `high` in decimal digits without a sign or a leading zero.
 pub(crate) fn number(text: &[u8], low: u32, high: u32) -> Option<u32>
-    ensures { result ≡ number_between low high text.now }
+    ensures value { result ≡ number_between low high text.now }
+    ensures within { ForSome result (λ n. (low ≤ n) × (n ≤ high)) }
 {
     let value = digits(text)?;
     if has_leading_zero(text) || value < low || value > high {

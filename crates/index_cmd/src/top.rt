@@ -5,47 +5,106 @@ ghost use Rattle.ix_base.specs.declared.limits.TheConstants.{MAX_FILE_BYTES};
 ghost use Rattle.index_model.specs.Texts.{line};
 ghost use Rattle.outside.specs.Counts.{Rose};
 ghost use Rattle.outside.specs.Files.{SameFiles};
+ghost use Rattle.outside.specs.Written.{Appends, AppendsPrefix};
 ghost use Rattle.index_cmd.specs.FilesRead.{HoldsMore};
-ghost use Rattle.index_cmd.specs.Replies.{wanted_of, AsksFile, IsAnswer, IsRefusal, IsStatus, Writes, WritesPrefix};
+ghost use Rattle.index_cmd.specs.Requests.{request_of, AsksFile};
+ghost use Rattle.index_cmd.specs.Replies.{Causes, Ends, IsAnswer, IsComplete, IsRefusal, IsStatus, SaysRequest, Writes, WritesPrefix, Wrote};
 ghost use Rattle.index_cmd.specs.SeenWords.{words_of};
+ghost use Rattle.index_cmd.specs.declared.status.Status.TheVariants as statuses;
 
-use crate::reply::reply_to;
+use crate::about::{HELP, VERSION};
+use crate::ask::ask;
 use crate::status::Status;
+use crate::words::{Command, parse_command};
 use outside::{Failed, Shelf, Sink, write_all};
 use std::alloc::Global;
 use std::thread::Threads;
 
-/// Does what the words after the program's name ask for: reads the file from the shelf, writes the answer to the sink, and
-/// gives the status.
+/// Does what the words after the program's name ask for: reads the file from the shelf, builds its index, writes the answer to
+/// the sink, and gives the status. The bytes don't depend on the number of workers.
 pub fn run<R: Threads + Sync, F: Shelf, K: Sink>(
-    _rt: &R,
+    rt: &R,
     alloc: Global,
     words: &[String],
     shelf: &mut F,
     out: &mut K,
 ) -> u8
-    ensures answered { result ≡ 0 → Writes (K.written out.old) (K.written out.new) (IsAnswer (wanted_of (words_of words.now))) }
-    ensures refused { result ≡ 1 → Writes (K.written out.old) (K.written out.new) IsRefusal }
-    ensures usage { result ≡ 2 → wanted_of (words_of words.now) ≡ None }
+    // The answer of the definitions over the file's bytes, which have no fault; or the file's first fault.
+    ensures answered { result ≡ 0 → Writes (K.written out.old) (K.written out.new) (IsAnswer (request_of (words_of words.now)) (F.files shelf.old)) }
+    ensures refused { result ≡ 1 → Writes (K.written out.old) (K.written out.new) (IsRefusal (request_of (words_of words.now)) (F.files shelf.old)) }
+
+    // The causes of the other statuses. Want of memory has none.
+    ensures usage { result ≡ 2 → request_of (words_of words.now) ≡ None }
     ensures read_fault { result ≡ 3 → Rose (F.read_faults shelf.old) (F.read_faults shelf.new) }
     ensures write_fault { result ≡ 5 → Rose (K.write_faults out.old) (K.write_faults out.new) }
-    ensures file_too_big { result ≡ 10 → AsksFile (wanted_of (words_of words.now)) (λ file. HoldsMore (F.files shelf.old) file MAX_FILE_BYTES) }
-    ensures outside_grammar { wanted_of (words_of words.now) ≡ None → (result ≡ 2) ⊎ (result ≡ 5) ⊎ (result ≡ 7) }
+    ensures file_too_big { result ≡ 10 → AsksFile (request_of (words_of words.now)) (λ file. HoldsMore (F.files shelf.old) file MAX_FILE_BYTES) }
+    ensures outside_grammar { request_of (words_of words.now) ≡ None → (result ≡ 2) ⊎ (result ≡ 5) ⊎ (result ≡ 7) }
     ensures statuses { IsStatus result }
 
+    // Where the file is within the limit and nothing outside failed, a file without a fault is answered and one with a fault is
+    // refused, but for want of memory.
+    ensures complete { IsComplete (request_of (words_of words.now)) (F.files shelf.old) (Rose (F.read_faults shelf.old) (F.read_faults shelf.new)) (Rose (K.write_faults out.old) (K.write_faults out.new)) result }
+
     // The line that goes with a status is the only thing that is written.
-    ensures usage_line { result ≡ 2 → Writes (K.written out.old) (K.written out.new) (λ text. text ≡ line (codes "usage" ∷ [])) }
-    ensures read_fault_line { result ≡ 3 → Writes (K.written out.old) (K.written out.new) (λ text. text ≡ line (codes "read" ∷ codes "fault" ∷ [])) }
-    ensures no_memory_line { result ≡ 7 → Writes (K.written out.old) (K.written out.new) (λ text. text ≡ line (codes "no" ∷ codes "memory" ∷ [])) }
-    ensures file_too_big_line { result ≡ 10 → Writes (K.written out.old) (K.written out.new) (λ text. text ≡ line (codes "file" ∷ codes "too" ∷ codes "big" ∷ [])) }
-    ensures prefix { result ≡ 5 → WritesPrefix (K.written out.old) (K.written out.new) (wanted_of (words_of words.now)) }
+    ensures usage_line { result ≡ 2 → Appends (K.written out.old) (K.written out.new) (line (codes "usage" ∷ [])) }
+    ensures read_fault_line { result ≡ 3 → Appends (K.written out.old) (K.written out.new) (line (codes "read" ∷ codes "fault" ∷ [])) }
+    ensures no_memory_line { result ≡ 7 → Appends (K.written out.old) (K.written out.new) (line (codes "no" ∷ codes "memory" ∷ [])) }
+    ensures file_too_big_line { result ≡ 10 → Appends (K.written out.old) (K.written out.new) (line (codes "file" ∷ codes "too" ∷ codes "big" ∷ [])) }
+    ensures prefix { result ≡ 5 → WritesPrefix (request_of (words_of words.now)) (F.files shelf.old) (K.written out.old) (K.written out.new) }
 
     // Nothing is stored.
     ensures kept { SameFiles (F.files shelf.old) (F.files shelf.new) }
 {
-    let reply = reply_to(alloc, words, shelf);
-    match write_all(out, reply.text.bytes()) {
-        Ok(()) => reply.status.code(),
-        Err(Failed) => Status::WriteFault.code(),
+    let status = command(rt, alloc, words, shelf, out);
+    end(out, status).code()
+}
+
+// Does it, but for the line of a status that isn't a result.
+fn command<R: Threads + Sync, F: Shelf, K: Sink>(
+    rt: &R,
+    alloc: Global,
+    words: &[String],
+    shelf: &mut F,
+    out: &mut K,
+) -> Status
+    ensures wrote { Wrote (SaysRequest (request_of (words_of words.now)) (F.files shelf.old)) result (K.written out.old) (K.written out.new) }
+    ensures causes { Causes (request_of (words_of words.now)) (F.files shelf.old) (Rose (F.read_faults shelf.old) (F.read_faults shelf.new)) (Rose (K.write_faults out.old) (K.write_faults out.new)) result }
+    ensures kept { SameFiles (F.files shelf.old) (F.files shelf.new) }
+    ensures counts { K.write_faults out.old ≤ K.write_faults out.new }
+{
+    match parse_command(words) {
+        None => Status::Usage,
+        Some(Command::Help) => say(out, Status::Answered, HELP.as_bytes()),
+        Some(Command::Version) => say(out, Status::Answered, VERSION.as_bytes()),
+        Some(Command::Ask(words)) => ask(rt, alloc, &words, shelf, out),
+    }
+}
+
+// Writes the line of a status that isn't a result.
+fn end<K: Sink>(out: &mut K, status: Status) -> Status
+    ensures ends { Ends status (K.written out.old) (K.written out.new) (Rose (K.write_faults out.old) (K.write_faults out.new)) result }
+    ensures counts { K.write_faults out.old ≤ K.write_faults out.new }
+{
+    match status {
+        Status::Answered | Status::Refused | Status::WriteFault => status,
+        Status::Usage => say(out, status, b"usage\n"),
+        Status::ReadFault => say(out, status, b"read fault\n"),
+        Status::NoMemory => say(out, status, b"no memory\n"),
+        Status::FileTooBig => say(out, status, b"file too big\n"),
+    }
+}
+
+// The status, once the text is written.
+fn say<K: Sink>(out: &mut K, status: Status, text: &[u8]) -> Status
+    requires { status ≡ statuses.WriteFault → ⊥ }
+    ensures said { result ≡ status → Appends (K.written out.old) (K.written out.new) text.now }
+    ensures either { (result ≡ status) ⊎ (result ≡ statuses.WriteFault) }
+    ensures fault { result ≡ statuses.WriteFault → Rose (K.write_faults out.old) (K.write_faults out.new) }
+    ensures left { result ≡ statuses.WriteFault → AppendsPrefix (K.written out.old) (K.written out.new) text.now }
+    ensures counts { K.write_faults out.old ≤ K.write_faults out.new }
+{
+    match write_all(out, text) {
+        Ok(()) => status,
+        Err(Failed) => Status::WriteFault,
     }
 }

@@ -1,8 +1,9 @@
 //! The words of a command line.
 
 ghost use Rattle.std.specs.Prelude.{◌≡◌, option_map};
+ghost use Rattle.std.specs.Option.{ForSome};
 ghost use Rattle.index_cmd.specs.Words.{is_file_name, workers_and_others, workers_before, about, ask_of, command_of};
-ghost use Rattle.index_cmd.specs.SeenWords.{seen_split, seen_ask, seen_command, words_of};
+ghost use Rattle.index_cmd.specs.SeenWords.{seen_split, seen_ask, seen_command, words_of, HasWorkers, IsWorkers};
 
 use crate::number::number;
 
@@ -36,7 +37,8 @@ const MAX_WORKERS: u32 = 64;
 
 /// The command that the words after the program's name ask for; None where they aren't in the grammar.
 pub(crate) fn parse_command(words: &[String]) -> Option<Command<'_>>
-    ensures { option_map seen_command result ≡ command_of (words_of words.now) }
+    ensures value { option_map seen_command result ≡ command_of (words_of words.now) }
+    ensures workers { ForSome result HasWorkers }
 {
     let (word, others) = words.split_first()?;
     if word.as_str() == "ask" {
@@ -63,7 +65,8 @@ fn about(word: &str) -> Option<Command<'_>>
 }
 
 fn parse_ask(words: &[String]) -> Option<Ask<'_>>
-    ensures { option_map seen_ask result ≡ ask_of (words_of words.now) }
+    ensures value { option_map seen_ask result ≡ ask_of (words_of words.now) }
+    ensures workers { ForSome result (λ x. IsWorkers x.workers) }
 {
     let Split { workers, others } = split_workers(words)?;
     let (file, query) = others.split_first()?;
@@ -78,7 +81,8 @@ fn parse_ask(words: &[String]) -> Option<Ask<'_>>
 }
 
 fn split_workers(words: &[String]) -> Option<Split<'_>>
-    ensures { option_map seen_split result ≡ workers_and_others (words_of words.now) }
+    ensures value { option_map seen_split result ≡ workers_and_others (words_of words.now) }
+    ensures workers { ForSome result (λ x. IsWorkers x.workers) }
 {
     match words.split_first() {
         Some((word, others)) if word.as_str() == "--workers" => workers_before(others),
@@ -90,7 +94,8 @@ fn split_workers(words: &[String]) -> Option<Split<'_>>
 }
 
 fn workers_before(words: &[String]) -> Option<Split<'_>>
-    ensures { option_map seen_split result ≡ workers_before (words_of words.now) }
+    ensures value { option_map seen_split result ≡ workers_before (words_of words.now) }
+    ensures workers { ForSome result (λ x. IsWorkers x.workers) }
 {
     let (word, others) = words.split_first()?;
     let workers = number(word.as_bytes(), 1, MAX_WORKERS)?;

@@ -1,22 +1,84 @@
-use Rattle.std.proofs.Common.{◌∙◌, sym, subst, ℕ, List}
-use Rattle.outside.specs.Written.{Appends}
-use Rattle.index_cmd.specs.declared.status.Status.TheVariants.{WriteFault}
-use Rattle.index_cmd.specs.Replies.{wanted_of, IsStatus}
+use Rattle.std.proofs.Common.{◌≡◌, Option, List, ℕ, ◌≤◌, Some, refl, sym, ap, subst, ◌∙◌}
+use Rattle.outside.specs.Counts.{Rose}
+use Rattle.outside.specs.Files.{Files}
+use Rattle.outside.proofs.CountLaws.{rose-then, then-rose}
+use Rattle.index_cmd.specs.Replies.{IsComplete, IsStatus}
+use Rattle.index_cmd.specs.Requests.{Request, request_of}
 use Rattle.index_cmd.specs.SeenWords.{words_of}
-use Rattle.index_cmd.proofs.Said.{is_refusal, read_rose, outside_grammar, is_status}
+use Rattle.index_cmd.specs.declared.status.Status.TheVariants.{Usage, ReadFault, NoMemory, FileTooBig}
+use Rattle.index_cmd.proofs.Outcomes.{Outcome, outcome, answered, refused, failed, lined, asks, is_status, outside_grammar, complete}
+use Rattle.index_cmd.proofs.top.run.Given.{Over}
+use Rattle.index_cmd.proofs.top.run.Goals.{After-code}
 use Rattle.index_cmd.proofs.top.run.Goals as goal
 
-pub returns-in-Ok-clause-refused : goal.returns-in-Ok-clause-refused
-returns-in-Ok-clause-refused g c = λ e. (c.reply_to-reply.result.text, is_refusal (wanted_of (words_of c.args.words.now)) (g.F.Shelf.files c.args.shelf.now) (g.F.Shelf.read_faults c.args.shelf.now) (g.F.Shelf.read_faults c.reply_to-reply.new.shelf) c.reply_to-reply.result.text c.reply_to-reply.result.status c.reply_to-reply.ensures.says (sym c.code.ensures ∙ e), subst (λ (bytes : List ℕ). Appends (g.K.Sink.written c.args.out.now) (g.K.Sink.written c.write_all.new.out) bytes) c.bytes.ensures c.in-Ok.ensures.ok)
+module _ (g : Over) (c : After-code g) where
+  abbrev request : Option Request
+  request = request_of (words_of c.args.words.now)
 
-pub returns-in-Ok-clause-read_fault : goal.returns-in-Ok-clause-read_fault
-returns-in-Ok-clause-read_fault g c = λ e. read_rose (wanted_of (words_of c.args.words.now)) (g.F.Shelf.files c.args.shelf.now) (g.F.Shelf.read_faults c.args.shelf.now) (g.F.Shelf.read_faults c.reply_to-reply.new.shelf) c.reply_to-reply.result.text c.reply_to-reply.result.status c.reply_to-reply.ensures.says (sym c.code.ensures ∙ e)
+  abbrev told : Option Files
+  told = g.F.Shelf.files c.args.shelf.now
 
-pub returns-in-Ok-clause-outside_grammar : goal.returns-in-Ok-clause-outside_grammar
-returns-in-Ok-clause-outside_grammar g c = λ e. rw c.code.ensures (outside_grammar (wanted_of (words_of c.args.words.now)) (g.F.Shelf.files c.args.shelf.now) (g.F.Shelf.read_faults c.args.shelf.now) (g.F.Shelf.read_faults c.reply_to-reply.new.shelf) c.reply_to-reply.result.text c.reply_to-reply.result.status c.reply_to-reply.ensures.says e)
+  abbrev reads : Type 0
+  reads = Rose (g.F.Shelf.read_faults c.args.shelf.now) (g.F.Shelf.read_faults c.command-status.new.shelf)
 
-pub returns-in-Ok-clause-statuses : goal.returns-in-Ok-clause-statuses
-returns-in-Ok-clause-statuses g c = let P : ℕ → Type 0 = λ n. IsStatus n in subst P (sym c.code.ensures) (is_status c.reply_to-reply.result.status)
+  abbrev first : ℕ
+  first = g.K.Sink.write_faults c.args.out.now
+
+  abbrev middle : ℕ
+  middle = g.K.Sink.write_faults c.command-status.new.out
+
+  abbrev last : ℕ
+  last = g.K.Sink.write_faults c.end.new.out
+
+  abbrev old : Option (List ℕ)
+  old = g.K.Sink.written c.args.out.now
+
+  abbrev new : Option (List ℕ)
+  new = g.K.Sink.written c.end.new.out
+
+  came : Outcome request told reads (Rose first last) old new c.end.result
+  came = outcome request told reads (Rose first middle) (Rose middle last) (Rose first last)
+      (λ r. rose-then first middle last r c.end.ensures.counts) (λ r. then-rose first middle last c.command-status.ensures.counts r)
+      c.command-status.result c.end.result old (g.K.Sink.written c.command-status.new.out) new c.command-status.ensures.wrote c.command-status.ensures.causes c.end.ensures.ends
+
+pub returns-clause-answered : goal.returns-clause-answered
+returns-clause-answered g c is = answered (request g c) (told g c) (reads g c) (Rose (first g c) (last g c)) (old g c) (new g c) c.end.result (came g c) (sym c.code.ensures ∙ is)
+
+pub returns-clause-refused : goal.returns-clause-refused
+returns-clause-refused g c is = refused (request g c) (told g c) (reads g c) (Rose (first g c) (last g c)) (old g c) (new g c) c.end.result (came g c) (sym c.code.ensures ∙ is)
+
+pub returns-clause-usage : goal.returns-clause-usage
+returns-clause-usage g c is = (lined (request g c) (told g c) (reads g c) (Rose (first g c) (last g c)) (old g c) (new g c) c.end.result Usage _ (came g c) (sym c.code.ensures ∙ is) refl).0
+
+pub returns-clause-read_fault : goal.returns-clause-read_fault
+returns-clause-read_fault g c is = asks (request g c) (reads g c) (lined (request g c) (told g c) (reads g c) (Rose (first g c) (last g c)) (old g c) (new g c) c.end.result ReadFault _ (came g c) (sym c.code.ensures ∙ is) refl).0
+
+pub returns-clause-write_fault : goal.returns-clause-write_fault
+returns-clause-write_fault g c is = (failed (request g c) (told g c) (reads g c) (Rose (first g c) (last g c)) (old g c) (new g c) c.end.result (came g c) (sym c.code.ensures ∙ is)).0
+
+pub returns-clause-file_too_big : goal.returns-clause-file_too_big
+returns-clause-file_too_big g c is = (lined (request g c) (told g c) (reads g c) (Rose (first g c) (last g c)) (old g c) (new g c) c.end.result FileTooBig _ (came g c) (sym c.code.ensures ∙ is) refl).0
+
+pub returns-clause-outside_grammar : goal.returns-clause-outside_grammar
+returns-clause-outside_grammar g c none = rw c.code.ensures (outside_grammar (request g c) (told g c) (reads g c) (Rose (first g c) (last g c)) (old g c) (new g c) c.end.result (came g c) none)
 
 pub returns-clause-statuses : goal.returns-clause-statuses
-returns-clause-statuses g c = let P : ℕ → Type 0 = λ n. IsStatus n in subst P (sym c.code-in-Err.ensures) (is_status WriteFault)
+returns-clause-statuses g c = subst IsStatus (sym c.code.ensures) (is_status c.end.result)
+
+pub returns-clause-complete : goal.returns-clause-complete
+returns-clause-complete g c = subst (λ (n : ℕ). IsComplete (request g c) (told g c) (reads g c) (Rose (first g c) (last g c)) n) (sym c.code.ensures) (complete (request g c) (told g c) (reads g c) (Rose (first g c) (last g c)) (old g c) (new g c) c.end.result (came g c))
+
+pub returns-clause-usage_line : goal.returns-clause-usage_line
+returns-clause-usage_line g c is = (lined (request g c) (told g c) (reads g c) (Rose (first g c) (last g c)) (old g c) (new g c) c.end.result Usage _ (came g c) (sym c.code.ensures ∙ is) refl).1
+
+pub returns-clause-read_fault_line : goal.returns-clause-read_fault_line
+returns-clause-read_fault_line g c is = (lined (request g c) (told g c) (reads g c) (Rose (first g c) (last g c)) (old g c) (new g c) c.end.result ReadFault _ (came g c) (sym c.code.ensures ∙ is) refl).1
+
+pub returns-clause-no_memory_line : goal.returns-clause-no_memory_line
+returns-clause-no_memory_line g c is = (lined (request g c) (told g c) (reads g c) (Rose (first g c) (last g c)) (old g c) (new g c) c.end.result NoMemory _ (came g c) (sym c.code.ensures ∙ is) refl).1
+
+pub returns-clause-file_too_big_line : goal.returns-clause-file_too_big_line
+returns-clause-file_too_big_line g c is = (lined (request g c) (told g c) (reads g c) (Rose (first g c) (last g c)) (old g c) (new g c) c.end.result FileTooBig _ (came g c) (sym c.code.ensures ∙ is) refl).1
+
+pub returns-clause-prefix : goal.returns-clause-prefix
+returns-clause-prefix g c is = (failed (request g c) (told g c) (reads g c) (Rose (first g c) (last g c)) (old g c) (new g c) c.end.result (came g c) (sym c.code.ensures ∙ is)).1

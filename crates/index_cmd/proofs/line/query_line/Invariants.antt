@@ -1,7 +1,7 @@
 use Rattle.std.proofs.Common.{◌≡◌, take}
 use Rattle.index_cmd.specs.Words.{query_text}
 use Rattle.index_cmd.specs.SeenWords.{words_of}
-use Rattle.index_cmd.proofs.query.query_text.Given as goal
+use Rattle.index_cmd.proofs.line.query_line.Given as goal
 
 -- the words so far are joined
 abbrev pub invariant-loop-i : goal.invariant-loop-i

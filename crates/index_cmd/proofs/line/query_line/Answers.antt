@@ -3,8 +3,8 @@ use Rattle.std.proofs.lemmas.List.{take_all}
 use Rattle.index_cmd.specs.Words.{query_text}
 use Rattle.index_cmd.specs.SeenWords.{words_of}
 use Rattle.index_cmd.proofs.Joined.{none_before, first_word, next_word, behind_a_space, at_front}
-use Rattle.index_cmd.proofs.query.query_text.Goals as goal
-use Rattle.index_cmd.proofs.query.query_text.Goals.{then-i-gt0+in_ok-push, else-i-gt0}
+use Rattle.index_cmd.proofs.line.query_line.Goals as goal
+use Rattle.index_cmd.proofs.line.query_line.Goals.{then-i-gt0+in_ok-push, else-i-gt0}
 
 pub loop-i-preserved : goal.loop-i-preserved
 loop-i-preserved c =

@@ -1,0 +1,252 @@
+-- The answer of a file by what its core publishes.
+use Rattle.std.proofs.Common.{◌≡◌, ℕ, zero, suc, ◌+◌, ◌<◌, ◌≤◌, Bool, true, false, ltb, leb, List, [], ◌∷◌, length, map, filter, get_or, Option, Some, None, Result, Ok, Err, refl, sym, ap, subst, ◌∙◌, arith, inl, inr, ⊎_elim}
+use Rattle.std.specs.Prelude.{All, Contains, OnOk, OnErr, option_map, option_and_then}
+use Rattle.std.specs.List.{enumerate_from}
+use Rattle.std.proofs.lemmas.Bool.{le-leb}
+use Rattle.std.proofs.lemmas.Bool.Decides.{nat_tests}
+use Rattle.std.proofs.lemmas.List.Elements.{Contains-get_or}
+use mathlib.Core.Logic.{◌⊎◌}
+use Rattle.ix_base.specs.declared.fault.Fault.{Fault}
+use Rattle.unit_headers.specs.Images.{Image, image_of}
+use Rattle.unit_headers.proofs.Images.{parts_of}
+use Rattle.index_model.specs.declared.entry.Entry.{Entry}
+use Rattle.index_model.specs.declared.job.CacheKind.{CacheKind}
+use Rattle.index_model.specs.declared.job.CacheKind.TheVariants.{Gdb8}
+use Rattle.index_model.specs.declared.unit.Unit.{Unit as UnitHeader}
+use Rattle.index_model.specs.Answers.{Answer, Entries, InUnit, MainIs, CacheIs, Reply, Answered as Replied, Refused as Refuses, Pending, Stopped, places, is_named, is_simply_named, entries_in, answer_to, reply_of, reply_at}
+use Rattle.index_model.specs.Cache.{size_in}
+use Rattle.index_model.specs.Faults.{Built, built_of, program_of, first_fault}
+use Rattle.index_model.specs.LawsCore.{StateIsRight, plan_of}
+use Rattle.index_model.specs.Machine.{stage}
+use Rattle.index_model.specs.Meaning.{◌>>=◌, wrong_in}
+use Rattle.index_model.specs.Parts.{Parts, parts, reply_by}
+use Rattle.index_model.specs.Queries.{Query, AskName, AskSimple, AskAddress, AskMain, AskCache, need_of, query_of}
+use Rattle.index_model.specs.Sections.{Section, sections_of}
+use Rattle.index_model.specs.Texts.{text_of_answer, text_of_fault, text_of_reply}
+use Rattle.index_model.specs.Units.{units_of}
+use Rattle.index_model.proofs.Meanings.{same_some, contains_here, contains_later, contains_cases}
+use Rattle.index_model.proofs.Pairs.{of_map, of_filter}
+use Rattle.query_text.specs.Places.{PlacesFit, PlacesFitAnswer}
+use Rattle.stage_core.specs.Machines.{Machine, stage_of}
+use Rattle.index_cmd.specs.Builds.{IsBuildOf}
+use Rattle.outside.specs.Files.{Files}
+use Rattle.index_cmd.specs.FilesRead.{Holds}
+use Rattle.index_cmd.specs.Words.{Asked, query_text}
+use Rattle.index_cmd.specs.Requests.{Request, OfFile, offer, offered, asked, IsOffered}
+use Rattle.index_cmd.specs.Replies.{Causes, CausesOfResult, SaysFile, SaysReply, SaysRequest, Wrote, status_after, IsAnswerOf, IsRefusalOf}
+use Rattle.index_cmd.specs.declared.status.Status.{Status}
+use Rattle.index_cmd.specs.declared.status.Status.TheVariants.{Answered, Refused, Usage, ReadFault, WriteFault, NoMemory, FileTooBig}
+use Rattle.outside.specs.Written.{Appends, AppendsPrefix}
+use Rattle.outside.specs.declared.shelf.Failed.{Failed}
+
+-- ---- places of answers
+
+below_count : (n : ℕ) (es : List Entry) (e : ℕ × Entry) → Contains (enumerate_from n es) e → e.0 < n + length es
+below_count n [] e c = absurd (omega (arith, c.1))
+below_count n (x ∷ xs) e c = ⊎_elim
+    (λ (same : (n, x) ≡ e). let at : n ≡ e.0 = ap (λ (y : ℕ × Entry). y.0) same in omega (arith, at))
+    (λ (later : Contains (enumerate_from (n + 1) xs) e). omega (arith, below_count (n + 1) xs e later))
+    (contains_cases (n, x) (enumerate_from (n + 1) xs) e c)
+
+places_fit : (test : Entry → Bool) (es : List Entry) → All (λ k. k < length es) (places test es)
+places_fit test es i d lt =
+    let m = of_map (λ (e : ℕ × Entry). e.0) (filter (λ (e : ℕ × Entry). test e.1) (enumerate_from 0 es)) (get_or (places test es) i d) (Contains-get_or (places test es) i d lt) in
+    let f = of_filter (λ (e : ℕ × Entry). test e.1) (enumerate_from 0 es) m.0 m.1 in
+    omega (arith, below_count 0 es m.0 f.0, m.2)
+
+answer_fits : (b : Built) (size : _) (q : Query) → PlacesFitAnswer (answer_to b size q)
+unfolding answer_to
+answer_fits b size (AskName n) = places_fit (is_named n) (entries_in b)
+answer_fits b size (AskSimple n) = places_fit (is_simply_named n) (entries_in b)
+answer_fits b size (AskAddress a) = tt
+answer_fits b size AskMain = tt
+answer_fits b size AskCache = tt
+
+-- ---- replies
+
+offered_need : (q : Query) → IsOffered q → need_of q ≤ 2
+offered_need (AskName n) o = omega arith
+offered_need (AskSimple n) o = omega arith
+offered_need (AskAddress a) o = omega arith
+offered_need AskMain o = omega arith
+offered_need AskCache o = absurd (cc o)
+
+not_below : (n need : ℕ) → need ≤ n → ltb n need ≡ false
+not_below n need le = grind (arith, nat_tests)
+
+above : (n m : ℕ) → m < n → leb n m ≡ false
+above n m lt = grind (arith, nat_tests)
+
+-- a reply that a file gives, or that nothing can be said
+pub data IsFileReply (file : List ℕ) (q : Query) : Reply → Type 0 where
+  gives : (b : Built) → built_of file ≡ Ok b → IsFileReply file q (Replied (answer_to b (size_in Gdb8 (Ok b)) q))
+  wrong : (f : Fault) → first_fault file ≡ Some f → IsFileReply file q (Refuses f)
+  halted : IsFileReply file q Stopped
+
+module _ (file : List ℕ) (q : Query) where
+  by_result : (r : Result Built Fault) → built_of file ≡ r → IsFileReply file q (reply_of r (size_in Gdb8 r) q)
+  by_result (Ok b) is = gives b is
+  by_result (Err f) is = wrong f (ap wrong_in is)
+
+  by_stage : (n : ℕ) → need_of q ≤ n → (b : Bool) → leb n 4 ≡ b → IsFileReply file q (reply_at (built_of file) (size_in Gdb8 (built_of file)) q n)
+  unfolding reply_at
+  by_stage n need true is = rw (not_below n (need_of q) need, is) (by_result (built_of file) refl)
+  by_stage n need false is = rw (not_below n (need_of q) need, is) halted
+
+  pub reply_fits : (r : Reply) → IsFileReply file q r → PlacesFit r
+  reply_fits r (gives b is) = answer_fits b (size_in Gdb8 (Ok b)) q
+  reply_fits r (wrong f is) = tt
+  reply_fits r halted = tt
+
+  -- what is written of it is what the file means
+  says : (r : Reply) → IsFileReply file q r → (status : Status) (text : List ℕ) → SaysReply r status text → SaysFile file q status text
+  says r (gives b is) Answered text h = record { built = b; accepted = is; text_is = h }
+  says r (gives b is) Refused text h = absurd h
+  says r (gives b is) Usage text h = absurd h
+  says r (gives b is) ReadFault text h = absurd h
+  says r (gives b is) WriteFault text h = absurd h
+  says r (gives b is) NoMemory text h = absurd h
+  says r (gives b is) FileTooBig text h = absurd h
+  says r (wrong f is) Refused text h = record { fault = f; first = is; text_is = h }
+  says r (wrong f is) Answered text h = absurd h
+  says r (wrong f is) Usage text h = absurd h
+  says r (wrong f is) ReadFault text h = absurd h
+  says r (wrong f is) WriteFault text h = absurd h
+  says r (wrong f is) NoMemory text h = absurd h
+  says r (wrong f is) FileTooBig text h = absurd h
+  says r halted status text h = absurd h
+
+  -- the status says the same
+  pub wrote_of : (r : Reply) → IsFileReply file q r → (status : Status) (old new : Option (List ℕ)) → Wrote (SaysReply r) status old new → Wrote (SaysFile file q) status old new
+  wrote_of r is Answered old new w = (w.0, says r is Answered w.0 w.1, w.2)
+  wrote_of r is Refused old new w = (w.0, says r is Refused w.0 w.1, w.2)
+  wrote_of r is WriteFault old new w = (w.0, w.1, says r is w.0 w.1 w.2, w.3)
+  wrote_of r is Usage old new w = w
+  wrote_of r is ReadFault old new w = w
+  wrote_of r is NoMemory old new w = w
+  wrote_of r is FileTooBig old new w = w
+
+-- ---- by a core
+
+module _ (image : Image) (m : Machine) (q : Query) (build : IsBuildOf image m) (offers : IsOffered q) (ended : 2 ≤ stage_of m) (right : StateIsRight m.subject m.state) where
+  pub file_is : image.file ≡ m.subject.file
+  file_is = (parts_of m.subject.file image build.image_is).file
+
+  abbrev r : Reply
+  r = reply_at (built_of m.subject.file) (size_in m.subject.cache (built_of m.subject.file)) q (stage_of m)
+
+  -- the parts of the core have the reply of the file
+  pub core_reply : IsFileReply image.file q r
+  core_reply =
+      subst (λ (kind : CacheKind). IsFileReply image.file q (reply_at (built_of m.subject.file) (size_in kind (built_of m.subject.file)) q (stage_of m))) (sym build.cache)
+      (subst (λ (file : List ℕ). IsFileReply image.file q (reply_at (built_of file) (size_in Gdb8 (built_of file)) q (stage_of m))) file_is
+      (by_stage image.file q (stage_of m) (omega (arith, offered_need q offers, ended)) (leb (stage_of m) 4) refl))
+
+  -- it is what the parts reply
+  pub core_looks : reply_by (parts m.state) q (stage_of m) ≡ Some r
+  core_looks = right.looks q
+
+-- ---- a file that has no image
+
+module _ (file : List ℕ) (f : Fault) where
+  abbrev made : List Section → List UnitHeader → Image
+  made ss us = record { file = file; sections = ss; units = us }
+
+  abbrev failing : Result Image Fault
+  failing = Err f
+
+  no_units : (ss : List Section) (r : Result (List UnitHeader) Fault) → units_of ss ≡ r → (r >>= λ us. Ok (made ss us)) ≡ failing → sections_of file ≡ Ok ss → first_fault file ≡ Some f
+  unfolding built_of program_of
+  no_units ss (Ok us) is e sections = absurd (cc e)
+  no_units ss (Err g) is e sections = rw (sections, is) (cc e)
+
+  no_image : (r : Result (List Section) Fault) → sections_of file ≡ r → (r >>= λ ss. units_of ss >>= λ us. Ok (made ss us)) ≡ failing → first_fault file ≡ Some f
+  unfolding built_of program_of
+  no_image (Ok ss) is e = no_units ss (units_of ss) refl e is
+  no_image (Err g) is e = rw is (cc e)
+
+  -- the first fault of its sections or headers is that of the file
+  pub image_fault : image_of file ≡ Err f → first_fault file ≡ Some f
+  unfolding image_of
+  image_fault is = no_image (sections_of file) refl is
+
+-- ---- a reply is written
+
+module _ (reply : Reply) (old new : Option (List ℕ)) where
+  -- the text was appended, or a prefix of it
+  pub sent : (r : Result (Unit {0}) Failed) (status : Status) (text : List ℕ) → SaysReply reply status text → (status ≡ Answered) ⊎ (status ≡ Refused) → OnOk r (Appends old new text) → OnErr r (AppendsPrefix old new text) → Wrote (SaysReply reply) (status_after r status) old new
+  sent (Ok x) Answered text says is all part = (text, says, all)
+  sent (Ok x) Refused text says is all part = (text, says, all)
+  sent (Err e) status text says is all part = (status, text, says, part)
+  sent (Ok x) Usage text says (inl is) all part = absurd (cc is)
+  sent (Ok x) Usage text says (inr is) all part = absurd (cc is)
+  sent (Ok x) ReadFault text says (inl is) all part = absurd (cc is)
+  sent (Ok x) ReadFault text says (inr is) all part = absurd (cc is)
+  sent (Ok x) WriteFault text says (inl is) all part = absurd (cc is)
+  sent (Ok x) WriteFault text says (inr is) all part = absurd (cc is)
+  sent (Ok x) NoMemory text says (inl is) all part = absurd (cc is)
+  sent (Ok x) NoMemory text says (inr is) all part = absurd (cc is)
+  sent (Ok x) FileTooBig text says (inl is) all part = absurd (cc is)
+  sent (Ok x) FileTooBig text says (inr is) all part = absurd (cc is)
+
+pub says_answer : (r : Reply) (a : Answer) → r ≡ Replied a → SaysReply r Answered (text_of_reply r)
+unfolding text_of_reply
+says_answer r a is = subst (λ (x : Reply). SaysReply x Answered (text_of_reply x)) (sym is) refl
+
+pub says_fault : (r : Reply) (f : Fault) → r ≡ Refuses f → SaysReply r Refused (text_of_reply r)
+unfolding text_of_reply
+says_fault r f is = subst (λ (x : Reply). SaysReply x Refused (text_of_reply x)) (sym is) refl
+
+-- what the parts of a core reply is a reply of its file
+pub by_core : (image : Image) (m : Machine) (q : Query) → IsBuildOf image m → IsOffered q → 2 ≤ stage_of m → StateIsRight m.subject m.state → (p : Parts) → p ≡ parts m.state → (n : ℕ) → n ≡ stage_of m → (o : Reply) → Some o ≡ reply_by p q n → IsFileReply image.file q o
+by_core image m q build offers ended right p parts_are n is o replies =
+    let whole : Some o ≡ Some (r image m q build offers ended right) = replies ∙ ap (λ (x : Parts). reply_by x q n) parts_are ∙ ap (reply_by (parts m.state) q) is ∙ core_looks image m q build offers ended right in
+    subst (IsFileReply image.file q) (sym (same_some o (r image m q build offers ended right) whole)) (core_reply image m q build offers ended right)
+
+-- ---- what was asked of a file
+
+pub asked_is : (a : Asked) (q : Query) (line : List ℕ) → line ≡ query_text a.query → Some q ≡ offered line → asked a ≡ Some (OfFile a.file q)
+asked_is a q line is offers = ap (option_map (OfFile a.file)) (ap offered (sym is) ∙ sym offers)
+
+-- what is offered is one of the queries that are answered
+pub is_offered : (q : Query) (line : List ℕ) → Some q ≡ offered line → IsOffered q
+is_offered q line offers = by (query_of line) offers
+  where
+    by : (o : Option Query) → Some q ≡ option_and_then offer o → IsOffered q
+    by None e = absurd (cc e)
+    by (Some (AskName n)) e = let same : q ≡ AskName n = same_some q (AskName n) e in subst IsOffered (sym same) refl
+    by (Some (AskSimple n)) e = let same : q ≡ AskSimple n = same_some q (AskSimple n) e in subst IsOffered (sym same) refl
+    by (Some (AskAddress a)) e = let same : q ≡ AskAddress a = same_some q (AskAddress a) e in subst IsOffered (sym same) refl
+    by (Some AskMain) e = let same : q ≡ AskMain = same_some q AskMain e in subst IsOffered (sym same) refl
+    by (Some AskCache) e = absurd (cc e)
+
+module _ (request : Option Request) (told : Option Files) (file bytes : List ℕ) (q : Query) (is : request ≡ Some (OfFile file q)) (holds : Holds told file bytes) where
+  says_request : (status : Status) (text : List ℕ) → SaysFile bytes q status text → SaysRequest (Some (OfFile file q)) told status text
+  says_request Answered text h = (bytes, holds, h)
+  says_request Refused text h = (bytes, holds, h)
+  says_request Usage text h = h
+  says_request ReadFault text h = h
+  says_request WriteFault text h = h
+  says_request NoMemory text h = h
+  says_request FileTooBig text h = h
+
+  wrote_here : (status : Status) (old new : Option (List ℕ)) → Wrote (SaysFile bytes q) status old new → Wrote (SaysRequest (Some (OfFile file q)) told) status old new
+  wrote_here Answered old new w = (w.0, says_request Answered w.0 w.1, w.2)
+  wrote_here Refused old new w = (w.0, says_request Refused w.0 w.1, w.2)
+  wrote_here WriteFault old new w = (w.0, w.1, says_request w.0 w.1 w.2, w.3)
+  wrote_here Usage old new w = w
+  wrote_here ReadFault old new w = w
+  wrote_here NoMemory old new w = w
+  wrote_here FileTooBig old new w = w
+
+  pub wrote_request : (status : Status) (old new : Option (List ℕ)) → Wrote (SaysFile bytes q) status old new → Wrote (SaysRequest request told) status old new
+  wrote_request status old new w = subst (λ (r : Option Request). Wrote (SaysRequest r told) status old new) (sym is) (wrote_here status old new w)
+
+pub causes_request : (request : Option Request) (told : Option Files) (reads writes : Type 0) (status : Status) → CausesOfResult writes status → Causes request told reads writes status
+causes_request request told reads writes Answered c = tt
+causes_request request told reads writes Refused c = tt
+causes_request request told reads writes NoMemory c = tt
+causes_request request told reads writes WriteFault c = c
+causes_request request told reads writes Usage c = absurd c
+causes_request request told reads writes ReadFault c = absurd c
+causes_request request told reads writes FileTooBig c = absurd c

@@ -1,0 +1,19 @@
+use Rattle.std.proofs.Common.{ap}
+use Rattle.index_cmd.specs.Replies.{line_of}
+use Rattle.index_cmd.proofs.Outcomes.{no_line, line_said}
+use Rattle.index_cmd.proofs.top.end.Goals as goal
+
+pub returns-in-Answered-clause-ends : goal.returns-in-Answered-clause-ends
+returns-in-Answered-clause-ends g c = no_line c.args.status (g.K.Sink.written c.args.out.now) _ c.in-Answered.is
+
+pub returns-in-Usage-clause-ends : goal.returns-in-Usage-clause-ends
+returns-in-Usage-clause-ends g c = line_said c.args.status c.say.result (g.K.Sink.written c.args.out.now) (g.K.Sink.written c.say.new.out) _ _ (ap line_of c.in-Usage.is) c.say.ensures.said c.say.ensures.either c.say.ensures.fault c.say.ensures.left
+
+pub returns-in-ReadFault-clause-ends : goal.returns-in-ReadFault-clause-ends
+returns-in-ReadFault-clause-ends g c = line_said c.args.status c.say-in-ReadFault.result (g.K.Sink.written c.args.out.now) (g.K.Sink.written c.say-in-ReadFault.new.out) _ _ (ap line_of c.in-ReadFault.is) c.say-in-ReadFault.ensures.said c.say-in-ReadFault.ensures.either c.say-in-ReadFault.ensures.fault c.say-in-ReadFault.ensures.left
+
+pub returns-in-NoMemory-clause-ends : goal.returns-in-NoMemory-clause-ends
+returns-in-NoMemory-clause-ends g c = line_said c.args.status c.say-in-NoMemory.result (g.K.Sink.written c.args.out.now) (g.K.Sink.written c.say-in-NoMemory.new.out) _ _ (ap line_of c.in-NoMemory.is) c.say-in-NoMemory.ensures.said c.say-in-NoMemory.ensures.either c.say-in-NoMemory.ensures.fault c.say-in-NoMemory.ensures.left
+
+pub returns-in-FileTooBig-clause-ends : goal.returns-in-FileTooBig-clause-ends
+returns-in-FileTooBig-clause-ends g c = line_said c.args.status c.say-in-FileTooBig.result (g.K.Sink.written c.args.out.now) (g.K.Sink.written c.say-in-FileTooBig.new.out) _ _ (ap line_of c.in-FileTooBig.is) c.say-in-FileTooBig.ensures.said c.say-in-FileTooBig.ensures.either c.say-in-FileTooBig.ensures.fault c.say-in-FileTooBig.ensures.left

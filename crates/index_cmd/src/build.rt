@@ -1,0 +1,56 @@
+//! An index is built on the caller's thread: the core's jobs are drawn, done and finished one after the other.
+
+ghost use Rattle.std.specs.Prelude.{◌≡◌, ◌<◌, ◌≤◌, Ok, IfOk};
+ghost use Rattle.unit_headers.specs.Images.{Image as ImageOf, image_of};
+ghost use Rattle.stage_core.specs.Machines.{stage_of};
+ghost use Rattle.index_model.specs.LawsCore.{IsState, plan_of};
+ghost use Rattle.index_cmd.specs.Builds.{IsIdle, IsBuildOf, jobs_left};
+
+use index_jobs::perform;
+use index_model::{CacheKind, Staged};
+use ix_base::NoMemory;
+use stage_core::Core;
+use std::alloc::Global;
+use std::thread::Threads;
+use unit_headers::Image;
+
+// The stage from which on names can be asked. Refused and stopped are behind it.
+const FINALISED: u8 = 2;
+
+/// A core of the image's file that has its answers to queries of names, addresses and main, or is refused or stopped. Nothing
+/// that it says depends on the number of shards.
+pub(crate) fn build<'f, R: Threads + Sync>(
+    rt: &R,
+    alloc: Global,
+    image: &Image<'f>,
+    shards: u32,
+) -> Result<Core<'f>, NoMemory>
+    requires some { 0 < shards }
+    requires few { shards ≤ 256 }
+    ensures subject { IfOk result (λ c. IsBuildOf image.now c) }
+    ensures ended { IfOk result (λ c. 2 ≤ stage_of c) }
+{
+    let file = image.file();
+    let units = image.units();
+    let mut core = Core::new(alloc, file, units, shards, CacheKind::Gdb8)?;
+    while core.stage() < FINALISED {
+        step(rt, alloc, image, &mut core);
+    }
+    Ok(core)
+}
+
+// Draws the next job, does it and finishes it.
+fn step<'f, R: Threads + Sync>(rt: &R, alloc: Global, image: &Image<'f>, core: &mut Core<'f>)
+    requires build { IsBuildOf image.now core.old }
+    requires idle { IsIdle core.old }
+    requires open { stage_of core.old < 2 }
+    ensures build { IsBuildOf image.now core.new }
+    ensures idle { IsIdle core.new }
+    ensures less { jobs_left core.new < jobs_left core.old }
+{
+    if let Some(task) = core.draw() {
+        let job = task.job;
+        let output = perform(rt, alloc, image, task);
+        core.finish(alloc, job, output);
+    }
+}
