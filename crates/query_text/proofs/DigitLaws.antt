@@ -28,7 +28,7 @@ module _ (base n : ℕ) (after : List ℕ) where
 pub written : (bytes : List ℕ) (i d g : ℕ) → i < length bytes → d ≡ g → drop i (set bytes i d) ≡ g ∷ drop (i + 1) bytes
 written bytes i d g lt e =
     let back : drop (suc i) (set bytes i d) ≡ drop (i + 1) bytes =
-          drop-set-lt (suc i) bytes i d (omega arith) ∙ ap (λ (k : ℕ). drop k bytes) {x = suc i} {y = i + 1} (omega arith) in
+    drop-set-lt (suc i) bytes i d (omega arith) ∙ ap (λ (k : ℕ). drop k bytes) {x = suc i} {y = i + 1} (omega arith) in
     drop-cons (set bytes i d) i 0 (omega (arith, length-set bytes i d))
     ∙ (λ t. (get_or-set_same bytes i d 0 lt ∙ e) t ∷ back t)
 
@@ -62,7 +62,7 @@ pub front_small : (base rest start : ℕ) → 0 < base → 0 < start → rest < 
 front_small base rest start pos some small =
     let e : start - 1 + 1 ≡ start = omega arith in
     let p : base ^ (start + 1) ≡ base ^ start * base =
-          ap (λ (k : ℕ). base ^ k) {x = start + 1} {y = suc start} (omega arith) ∙ pow-suc base start in
+    ap (λ (k : ℕ). base ^ k) {x = start + 1} {y = suc start} (omega arith) ∙ pow-suc base start in
     let q : rest < base ^ start * base = omega (arith, p) in
     let r : rest / base < base ^ start = (div-lt_iff_lt-mul pos).1 q in
     rw e r

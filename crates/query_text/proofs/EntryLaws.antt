@@ -1,12 +1,12 @@
 -- The texts of entries at places, one after the other.
-use Rattle.std.proofs.Common.{◌≡◌, ℕ, zero, suc, ◌+◌, ◌<◌, ◌≤◌, List, [], ◌∷◌, ◌++◌, length, get_or, take, drop, refl, sym, ap, ◌∙◌, arith, append_assoc, append-nil, Option, Some, None, take-append-drop, add-one, drop-cons}
-use Rattle.std.specs.Prelude.{flat_map, filter_map, slice_get, All, decimal, codes}
+use Rattle.std.proofs.Common.{◌≡◌, ℕ, zero, suc, ◌+◌, ◌<◌, List, [], ◌∷◌, ◌++◌, length, get_or, take, drop, refl, sym, ap, ◌∙◌, arith, append-nil, Some, take-append-drop}
+use Rattle.std.specs.Prelude.{flat_map, slice_get, All}
 use Rattle.std.proofs.lemmas.List.{take_more}
 use Rattle.std.proofs.lemmas.List.Concat.{flat_map-append}
 use Rattle.std.proofs.lemmas.List.Elements.{filter_map-append}
 use Rattle.index_model.specs.declared.entry.Entry.{Entry}
 use Rattle.index_model.specs.Answers.{entries_at}
-use Rattle.index_model.specs.Texts.{line, text_of_entry, text_of_entries}
+use Rattle.index_model.specs.Texts.{text_of_entry}
 
 abbrev pub texts_at : List Entry → List ℕ → List ℕ
 texts_at es ks = flat_map text_of_entry (entries_at es ks)

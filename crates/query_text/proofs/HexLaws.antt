@@ -1,5 +1,5 @@
 -- Hexadecimal digits of a query, read from the highest to the lowest.
-use Rattle.std.proofs.Common.{◌≡◌, ℕ, suc, ◌+◌, ◌*◌, ◌-◌, ◌^◌, ◌<◌, ◌≤◌, ◌⊎◌, Bool, true, false, cond, ◌&&◌, leb, List, [], ◌∷◌, length, get_or, drop, refl, sym, ap, ◌∙◌, arith, Option, Some, None, add-one, le-leb}
+use Rattle.std.proofs.Common.{◌≡◌, ℕ, suc, ◌+◌, ◌*◌, ◌^◌, ◌<◌, ◌≤◌, Bool, true, false, cond, ◌&&◌, leb, List, [], length, get_or, drop, refl, sym, ap, ◌∙◌, arith, Some, None, le-leb}
 use Rattle.std.specs.Prelude.{fold}
 use Rattle.std.specs.List.{list_all}
 use Rattle.std.proofs.Math.Nat.{pow-le-pow_right, pow-succ'}
@@ -65,7 +65,7 @@ module _ (text : List ℕ) (i v : ℕ) where
   unfolding hex_number
   no_digit lt isnt same =
       let e : list_all is_hex_digit text ≡ false =
-            sym same ∙ digits_from lt ∙ ap (λ (b : Bool). b && list_all is_hex_digit (drop (i + 1) text)) isnt in
+      sym same ∙ digits_from lt ∙ ap (λ (b : Bool). b && list_all is_hex_digit (drop (i + 1) text)) isnt in
       rw e (none_and (leb 1 (length text)) (leb (length text) 16) (onwards 0 text))
 
   -- with no digit left, the value is that of all

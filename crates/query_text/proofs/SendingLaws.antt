@@ -1,8 +1,8 @@
 -- Text that is sent behind text.
-use Rattle.std.proofs.Common.{◌≡◌, ℕ, ◌+◌, ◌<◌, ◌≤◌, ◌⊎◌, inl, inr, OnErr, Result, Ok, Err, List, [], ◌++◌, Option, length, take, sym, ap, ◌∙◌, subst, append_assoc, append-nil, min, arith}
+use Rattle.std.proofs.Common.{◌≡◌, ℕ, ◌+◌, ◌<◌, ◌≤◌, inl, inr, OnErr, Result, Ok, Err, List, [], ◌++◌, Option, length, take, sym, ap, ◌∙◌, subst, append_assoc, append-nil, min, arith}
 use Rattle.std.proofs.lemmas.List.{take_min, take-append-le}
 use Rattle.outside.specs.Written.{Appends, AppendsPrefix}
-use Rattle.outside.proofs.WrittenLaws.{appends_none, appends_more, appends-prefix, appends_more_prefix}
+use Rattle.outside.proofs.WrittenLaws.{appends_none, appends_more, appends_more_prefix}
 use Rattle.query_text.specs.Sending.{HasRoom, Sends, room}
 
 -- a text that waits whole
@@ -31,14 +31,14 @@ sends_more a b c waited between waits s t p q = record {
   sent = p.sent ++ q.sent;
   appended = appends_more a b c p.sent q.sent p.appended q.appended;
   whole =
-    append_assoc p.sent q.sent waits ∙ ap (λ (l : List ℕ). p.sent ++ l) q.whole ∙ sym (append_assoc p.sent between t) ∙ ap (λ (l : List ℕ). l ++ t) p.whole ∙ append_assoc waited s t;
+      append_assoc p.sent q.sent waits ∙ ap (λ (l : List ℕ). p.sent ++ l) q.whole ∙ sym (append_assoc p.sent between t) ∙ ap (λ (l : List ℕ). l ++ t) p.whole ∙ append_assoc waited s t;
 }
 
 -- a prefix of a text that comes behind another
 pub sends_prefix : (a b c : Option (List ℕ)) (waited between s t : List ℕ) → Sends a waited b between s → AppendsPrefix b c (between ++ t) → AppendsPrefix a c (waited ++ (s ++ t))
 sends_prefix a b c waited between s t p q =
     let e : p.sent ++ (between ++ t) ≡ waited ++ (s ++ t) =
-          sym (append_assoc p.sent between t) ∙ ap (λ (l : List ℕ). l ++ t) p.whole ∙ append_assoc waited s t in
+    sym (append_assoc p.sent between t) ∙ ap (λ (l : List ℕ). l ++ t) p.whole ∙ append_assoc waited s t in
     subst (λ (l : List ℕ). AppendsPrefix a c l) e (appends_more_prefix a b c p.sent (between ++ t) p.appended q)
 
 -- a prefix of the front is a prefix of the whole

@@ -1,5 +1,5 @@
 -- The kinds of query lines (this project's own rule).
-use Rattle.std.specs.Prelude.{ℕ, List, [], ◌∷◌, drop, bytes_eq, codes, Option, Some, None, if◌then◌else◌}
+use Rattle.std.specs.Prelude.{ℕ, List, drop, bytes_eq, codes, Option, Some, None, if◌then◌else◌}
 use Rattle.index_model.specs.Sections.{begins_with}
 use Rattle.index_model.specs.Queries.{Query, AskName, AskSimple, AskMain, AskCache, asks_name, asks_address, hex_number}
 

@@ -1,5 +1,5 @@
 -- What the places of a reply have to be.
-use Rattle.std.specs.Prelude.{ℕ, ◌<◌, List, length, All}
+use Rattle.std.specs.Prelude.{◌<◌, length, All}
 use Rattle.index_model.specs.Answers.{Answer, Entries, InUnit, MainIs, CacheIs, Reply, Answered, Pending, Refused, Stopped}
 
 -- each place of an answer is that of one of its entries

@@ -10,7 +10,9 @@ ghost use Rattle.query_text.specs.Places.{PlacesFit, PlacesFitAnswer};
 ghost use Rattle.query_text.specs.Sending.{room, Sends};
 
 use crate::send::{flush, make_room, send_name};
-use crate::texts::{SHORT, push_count, push_fault, push_head, push_main, push_no_main, push_size, push_unit};
+use crate::texts::{
+    SHORT, push_count, push_fault, push_head, push_main, push_no_main, push_size, push_unit,
+};
 use crate::waiting::Waiting;
 use index_model::{Answer, Entry, Hits, MainName, Reply};
 use outside::{Failed, Sink};
@@ -29,11 +31,7 @@ pub fn write_reply<K: Sink>(out: &mut K, reply: &Reply<'_>) -> Result<(), Failed
     flush(out, &mut waiting)
 }
 
-fn send_reply<K: Sink>(
-    out: &mut K,
-    waiting: &mut Waiting,
-    reply: &Reply<'_>,
-) -> Result<(), Failed>
+fn send_reply<K: Sink>(out: &mut K, waiting: &mut Waiting, reply: &Reply<'_>) -> Result<(), Failed>
     requires fit { PlacesFit (reply_seen reply.now) }
     requires room { length waiting.old + 96 ≤ room }
     ensures ok { OnOk result (Sends (K.written out.old) waiting.old (K.written out.new) waiting.new (text_of_reply (reply_seen reply.now))) }
@@ -88,11 +86,7 @@ fn send_answer<K: Sink>(
     }
 }
 
-fn send_main<K: Sink>(
-    out: &mut K,
-    waiting: &mut Waiting,
-    main: &MainName<'_>,
-) -> Result<(), Failed>
+fn send_main<K: Sink>(out: &mut K, waiting: &mut Waiting, main: &MainName<'_>) -> Result<(), Failed>
     requires room { length waiting.old + 96 ≤ room }
     ensures ok { OnOk result (Sends (K.written out.old) waiting.old (K.written out.new) waiting.new (text_of_answer (MainIs (Some (main_seen main.now))))) }
     ensures failed { OnErr result (Rose (K.write_faults out.old) (K.write_faults out.new)) }
@@ -104,11 +98,7 @@ fn send_main<K: Sink>(
 }
 
 // How many entries were found, and each of them.
-fn send_entries<K: Sink>(
-    out: &mut K,
-    waiting: &mut Waiting,
-    hits: &Hits<'_>,
-) -> Result<(), Failed>
+fn send_entries<K: Sink>(out: &mut K, waiting: &mut Waiting, hits: &Hits<'_>) -> Result<(), Failed>
     requires fit { All (λ k. k < length hits.now.entries.now) hits.now.places.now }
     requires room { length waiting.old + 96 ≤ room }
     ensures ok { OnOk result (Sends (K.written out.old) waiting.old (K.written out.new) waiting.new (text_of_entries (entries_at hits.now.entries.now hits.now.places.now))) }
@@ -139,11 +129,7 @@ fn send_each<K: Sink>(
     Ok(())
 }
 
-fn send_entry<K: Sink>(
-    out: &mut K,
-    waiting: &mut Waiting,
-    entry: &Entry<'_>,
-) -> Result<(), Failed>
+fn send_entry<K: Sink>(out: &mut K, waiting: &mut Waiting, entry: &Entry<'_>) -> Result<(), Failed>
     ensures ok { OnOk result (Sends (K.written out.old) waiting.old (K.written out.new) waiting.new (text_of_entry entry.now)) }
     ensures failed { OnErr result (Rose (K.write_faults out.old) (K.write_faults out.new)) }
     ensures left { OnErr result (AppendsPrefix (K.written out.old) (K.written out.new) (waiting.old ++ text_of_entry entry.now)) }

@@ -43,11 +43,7 @@ pub(crate) fn make_room<K: Sink>(
 }
 
 /// Sends a piece. One that is longer than all the room is written at once.
-pub(crate) fn send<K: Sink>(
-    out: &mut K,
-    waiting: &mut Waiting,
-    piece: &[u8],
-) -> Result<(), Failed>
+pub(crate) fn send<K: Sink>(out: &mut K, waiting: &mut Waiting, piece: &[u8]) -> Result<(), Failed>
     ensures ok { OnOk result (Sends (K.written out.old) waiting.old (K.written out.new) waiting.new piece.now) }
     ensures failed { OnErr result (Rose (K.write_faults out.old) (K.write_faults out.new)) }
     ensures left { OnErr result (AppendsPrefix (K.written out.old) (K.written out.new) (waiting.old ++ piece.now)) }

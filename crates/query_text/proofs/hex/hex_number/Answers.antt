@@ -1,4 +1,4 @@
-use Rattle.std.proofs.Common.{◌<◌, ◌≤◌, length, sym, ◌∙◌, arith, eqb-true}
+use Rattle.std.proofs.Common.{length, sym, ◌∙◌, arith, eqb-true}
 use Rattle.std.proofs.lemmas.Bool.{eqb-false}
 use Rattle.query_text.proofs.HexLaws.{more_fits, empty_is_none, long_is_none, no_digit, isnt_digit, whole}
 use Rattle.query_text.proofs.hex.hex_number.Goals as goal

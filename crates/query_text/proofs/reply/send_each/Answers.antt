@@ -1,4 +1,4 @@
-use Rattle.std.proofs.Common.{◌≡◌, ℕ, ◌+◌, ◌<◌, List, ◌++◌, length, get_or, take, drop, ◌∙◌, ap, sym, subst, arith}
+use Rattle.std.proofs.Common.{ℕ, ◌+◌, List, ◌++◌, take, drop, sym, subst, arith}
 use Rattle.outside.specs.Written.{AppendsPrefix}
 use Rattle.index_model.specs.Texts.{text_of_entry}
 use Rattle.query_text.specs.Sending.{Sends}

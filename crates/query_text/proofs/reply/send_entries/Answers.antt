@@ -1,10 +1,7 @@
-use Rattle.std.proofs.Common.{◌≡◌, ℕ, List, [], ◌∷◌, ◌++◌, ◌∙◌, ap, subst}
-use Rattle.std.specs.Prelude.{decimal, codes}
+use Rattle.std.proofs.Common.{ℕ, List, ◌++◌, subst}
 use Rattle.std.proofs.lemmas.Result.{on_ok_weaker, on_err_weaker}
 use Rattle.outside.specs.Written.{AppendsPrefix}
-use Rattle.index_model.specs.Texts.{line}
 use Rattle.query_text.specs.Sending.{Sends}
-use Rattle.query_text.proofs.EntryLaws.{texts_at}
 use Rattle.query_text.proofs.SendingLaws.{sends_none, sends_head, prefix_head}
 use Rattle.query_text.proofs.TextLaws.{found_text}
 use Rattle.query_text.proofs.reply.send_entries.Goals as goal

@@ -1,4 +1,4 @@
-use Rattle.std.proofs.Common.{◌≡◌, ℕ, List, ◌++◌, subst}
+use Rattle.std.proofs.Common.{ℕ, List, ◌++◌, subst}
 use Rattle.std.proofs.lemmas.Result.{on_ok_weaker, on_err_weaker}
 use Rattle.outside.specs.Written.{AppendsPrefix}
 use Rattle.index_model.specs.Seen.{main_seen}

@@ -1,4 +1,3 @@
-use Rattle.std.proofs.Common.{length}
 use Rattle.std.proofs.lemmas.Result.{on_ok_weaker, on_err_weaker}
 use Rattle.query_text.proofs.SendingLaws.{on_err, prefix_of_front, sends_past, prefix_past}
 use Rattle.query_text.proofs.send.send.Goals as goal

@@ -1,4 +1,3 @@
-use Rattle.std.proofs.Common.{[], ◌∷◌}
 use Rattle.std.proofs.lemmas.Result.{on_ok_weaker, on_err_weaker}
 use Rattle.index_model.specs.Texts.{newline}
 use Rattle.query_text.proofs.SendingLaws.{on_err, prefix_of_text, sends_more, sends_prefix}

@@ -1,4 +1,4 @@
-use Rattle.std.proofs.Common.{◌≡◌, ◌<◌, ◌/◌, ◌∙◌, ℕ, List, ◌++◌, ◌-◌, length, set, drop, length-drop, length-set, ap, refl, arith}
+use Rattle.std.proofs.Common.{◌<◌, ◌∙◌, ℕ, List, ◌++◌, ◌-◌, length, set, drop, length-drop, length-set, ap, refl, arith}
 use Rattle.std.proofs.lemmas.List.{take_all}
 use Rattle.query_text.proofs.DigitLaws.{onto_none, step, complete, has_more, front_small}
 use Rattle.query_text.proofs.waiting.Waiting.push_decimal.Goals as goal
