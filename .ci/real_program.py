@@ -1,127 +1,137 @@
 #!/usr/bin/env python3
 """python3 real_program.py PROGRAM
 
-Compiles a C program of one file with gcc and asks PROGRAM for each name that readelf shows for an entry of an indexed tag
-at depth 1 that isn't a declaration, and for each enumerator. Offsets and tags are readelf's. A declaration gives nothing.
-The last line is 'real: N passed, N failed'. Where gcc or readelf is missing it says so, and fails."""
+Compiles programs in C, C++, Ada and Rust and compares what PROGRAM answers of them with what readelf and nm show: of each simple
+name all entries that an index lists, with unit, offset and tag; of each function's address the unit that the function stands
+in; and of the start code, which has no debug information, none. A library's separate debug file is compared by a part of its
+names, where one is installed. A language whose compiler is missing is said and passed over.
+The last line is 'real: N passed, M failed'."""
+import glob
 import os
-import re
 import shutil
 import subprocess
 import sys
 import tempfile
 
-SOURCE = r"""
-#include <stdio.h>
+from readelf_entries import Program, lines_of
 
-struct point { int x, y; };
-enum colour { RED, GREEN = 7, BLUE };
-typedef struct point point_t;
-typedef unsigned long word;
-union either { int number; float real; };
-
-int counter = 3;
-static point_t origin;
-
-static int square(int n) { return n * n; }
-
-int area(point_t *p, enum colour c) { return square(p->x) + square(p->y) + (int)c; }
-
-int main(int argc, char **argv)
-{
-    union either e = { .number = argc };
-    word w = (word)e.number + (word)counter;
-    origin.x = (int)w;
-    printf("%s %d\n", argv[0], area(&origin, BLUE));
-    return 0;
-}
-"""
-
-# The tags whose entries may be indexed, by readelf's names.
-TAGS = {
-    "DW_TAG_namespace": 0x39, "DW_TAG_class_type": 0x02, "DW_TAG_structure_type": 0x13, "DW_TAG_union_type": 0x17,
-    "DW_TAG_interface_type": 0x38, "DW_TAG_enumeration_type": 0x04, "DW_TAG_typedef": 0x16, "DW_TAG_base_type": 0x24,
-    "DW_TAG_subrange_type": 0x21, "DW_TAG_enumerator": 0x28, "DW_TAG_subprogram": 0x2E, "DW_TAG_variable": 0x34,
-    "DW_TAG_constant": 0x27,
-}
-ENTRY = re.compile(r"^ <([0-9a-f]+)><([0-9a-f]+)>: Abbrev Number: \d+ \((DW_TAG_\w+)\)")
-ATTRIBUTE = re.compile(r"^    <[0-9a-f]+>\s+(DW_AT_\w+)\s*:\s*(.*)$")
+HERE = os.path.dirname(os.path.abspath(__file__))
+DWARF = [("-gdwarf-%d" % version, "-O%d" % level) for version in (4, 5) for level in (0, 2)]
+C = [*DWARF, ("-gdwarf-4", "-fdebug-types-section", "-O0"), ("-gdwarf-5", "-fdebug-types-section", "-O2"),
+     ("-gdwarf-5", "-gdwarf64", "-O0"), ("-gdwarf-5", "-O2", "-shared", "-fPIC")]
+# The compiler, its sources, and the flags of its programs.
+LANGUAGES = [
+    ("gcc", ("demo.c", "shapes.c"), C),
+    ("g++", ("demo.cc", "shapes.cc"), C),
+    ("gnatmake", ("demo.adb",), DWARF),
+    ("rustc", ("demo.rs",), [("-O",), ("-C", "opt-level=0")]),
+]
+# Of a library's names so many are asked, evenly spread.
+ASKED_OF_A_LIBRARY = 60
+LARGEST_LIBRARY = 4 * 1024 * 1024
 
 
-def entries(program):
-    """(depth, offset, tag, attributes) of each entry that readelf shows."""
-    text = subprocess.run(["readelf", "--debug-dump=info", "--wide", program], check=True, capture_output=True,
-                          text=True).stdout
-    found = []
-    for line in text.splitlines():
-        entry, attribute = ENTRY.match(line), ATTRIBUTE.match(line)
-        if entry:
-            found.append((int(entry[1], 16), int(entry[2], 16), entry[3], {}))
-        elif attribute and found:
-            found[-1][3].setdefault(attribute[1], attribute[2].strip())
-    return found
+def compiled(compiler, sources, flags, folder):
+    """The program in its folder."""
+    file = os.path.join(folder, "demo")
+    paths = [os.path.join(HERE, "programs", source) for source in sources]
+    if compiler == "rustc":
+        words = ["rustc", "-g", "--crate-type", "cdylib", "-C", "panic=abort", *flags, "-o", file, *paths]
+    else:
+        words = [compiler, "-g", *flags, "-o", file, *paths]
+    subprocess.run(words, check=True, cwd=folder, capture_output=True)
+    return file
 
 
-def name_of(attributes):
-    """The name, without readelf's note on where the string lies."""
-    text = attributes.get("DW_AT_name")
-    if text is None:
-        return None
-    text = re.sub(r"^\((string|strp|line_strp|strx[1-4]?)\)\s*(\([^)]*\):\s*)?", "", text)
-    return re.sub(r"^\((indirect|indexed)[^)]*\):\s*", "", text)
+def ask(program, file, query):
+    done = subprocess.run([program, "ask", file, query], capture_output=True, text=True, errors="surrogateescape")
+    return done.returncode, done.stdout
 
 
-def is_listed(depth, tag, attributes):
-    if tag not in TAGS or "DW_AT_declaration" in attributes or name_of(attributes) is None:
-        return False
-    return depth == 1 or tag == "DW_TAG_enumerator"
+def found_by(text):
+    """Unit, offset and tag of each line of an answer."""
+    lines = [line.split(" ")[:3] for line in text.split("\n")[1:-1]]
+    return [(int(unit), int(offset, 16), int(tag, 16)) for unit, offset, tag in lines]
 
 
-def ask(program, file, name):
-    done = subprocess.run([program, "ask", file, "name", name], capture_output=True)
-    return done.returncode, done.stdout.decode()
+def wrong_names(program, file, listed, names):
+    for name in names:
+        status, text = ask(program, file, "simple " + name)
+        if status != 0 or found_by(text) != listed[name]:
+            yield "simple %s: status %d, %r; readelf has %s" % (name, status, text[:200], listed[name][:5])
 
 
-def check(program, file):
-    """The texts of what differs, and how many names were asked."""
-    every = entries(file)
-    listed = {}
-    for depth, offset, tag, attributes in every:
-        if is_listed(depth, tag, attributes):
-            listed.setdefault(name_of(attributes), []).append("%x %x" % (offset, TAGS[tag]))
-    declared = {name_of(a) for _, _, _, a in every if "DW_AT_declaration" in a and name_of(a)} - set(listed)
-    wrong = []
-    for name, places in sorted(listed.items()):
-        status, text = ask(program, file, name)
-        lines = text.splitlines()
-        got = [" ".join(line.split(" ")[1:3]) for line in lines[1:]]
-        if status != 0 or lines[:1] != ["found %d" % len(places)] or got != places:
-            wrong.append("%s: status %d, %r; readelf has %s" % (name, status, text, places))
-    for name in sorted(declared):
-        if ask(program, file, name) != (0, "found 0\n"):
-            wrong.append("%s is only declared, but %r" % (name, ask(program, file, name)))
-    if not listed or "printf" not in declared or "main" not in listed:
-        wrong.append("the program lacks main, or a declaration of printf")
-    return wrong, len(listed) + len(declared) + 1
+def functions_of(file):
+    """The addresses of the functions that nm shows, by their symbols."""
+    for line in lines_of("nm", "--defined-only", file):
+        words = line.split()
+        if len(words) == 3 and words[1] in "TtWw":
+            yield words[2], int(words[0], 16)
+
+
+def wrong_addresses(program, file, units):
+    """What differs, for each function whose address is that of a subprogram; and for the start code."""
+    for symbol, address in functions_of(file):
+        wanted = ["unit %d\n" % unit for unit in units.get(address, ())]
+        if symbol == "_start":
+            wanted = ["none\n"]
+        if wanted:
+            status, text = ask(program, file, "addr %x" % address)
+            yield None if status == 0 and text in wanted else "addr %x of %s: %r, not %s" % (address, symbol, text, wanted)
+
+
+def check(program, what, file, names=None):
+    """How many questions were answered rightly, and what differs."""
+    shown = Program(file)
+    listed = shown.listed()
+    asked = sorted(listed) if names is None else sorted(listed)[::max(1, len(listed) // names)]
+    wrong = ["%s: %s" % (what, text) for text in wrong_names(program, file, listed, asked)]
+    addresses = [] if names else list(wrong_addresses(program, file, shown.functions()))
+    wrong += ["%s: %s" % (what, text) for text in addresses if text]
+    if not asked or (names is None and not addresses):
+        wrong.append("%s: nothing to ask" % what)
+    return len(asked) + len(addresses) - len(wrong), wrong
+
+
+def debug_file(folder):
+    """A separate debug file of moderate size, with its sections decompressed."""
+    for path in sorted(glob.glob("/usr/lib/debug/.build-id/*/*.debug"), key=os.path.getsize, reverse=True):
+        if os.path.getsize(path) > LARGEST_LIBRARY:
+            continue
+        file = os.path.join(folder, "library")
+        subprocess.run(["objcopy", "--decompress-debug-sections", path, file], check=True, capture_output=True)
+        sections = "\n".join(lines_of("readelf", "-SW", file))
+        if ".debug_info" in sections and ".gnu_debugaltlink" not in sections:
+            return file
+    return None
 
 
 def main():
     program = os.path.abspath(sys.argv[1])
-    missing = [tool for tool in ("gcc", "readelf") if shutil.which(tool) is None]
+    missing = [tool for tool in ("gcc", "readelf", "nm", "objcopy") if shutil.which(tool) is None]
     if missing:
-        print("real: %s is missing here, so nothing was compiled" % " and ".join(missing))
-        print("real: 0 passed, 1 failed")
+        print("real: %s is missing here\nreal: 0 passed, 1 failed" % " and ".join(missing))
         return 1
+    passed, failed = 0, []
+    for compiler, sources, every in LANGUAGES:
+        if shutil.which(compiler) is None:
+            print("real: %s is missing here, so its programs aren't asked" % compiler)
+            continue
+        for flags in every:
+            with tempfile.TemporaryDirectory() as folder:
+                right, wrong = check(program, " ".join((compiler, *flags)), compiled(compiler, sources, flags, folder))
+            passed, failed = passed + right, failed + wrong
     with tempfile.TemporaryDirectory() as folder:
-        source, file = os.path.join(folder, "demo.c"), os.path.join(folder, "demo")
-        with open(source, "w") as out:
-            out.write(SOURCE)
-        subprocess.run(["gcc", "-g", "-gdwarf-5", "-O0", "-o", file, source], check=True)
-        wrong, asked = check(program, file)
-    for text in wrong:
+        file = debug_file(folder)
+        if file:
+            right, wrong = check(program, "a library's debug file", file, ASKED_OF_A_LIBRARY)
+            passed, failed = passed + right, failed + wrong
+        else:
+            print("real: no library's debug file is installed here")
+    for text in failed[:40]:
         print("real: " + text)
-    print("real: %d passed, %d failed" % (asked - len(wrong), len(wrong)))
-    return 1 if wrong else 0
+    print("real: %d passed, %d failed" % (passed, len(failed)))
+    return 1 if failed else 0
 
 
 if __name__ == "__main__":

@@ -66,6 +66,24 @@ fn names_of_small_programs(rt: HostRuntime) -> Result<(), Fail> {
     Ok(())
 }
 
+#[test]
+fn other_queries_of_a_small_program(rt: HostRuntime) -> Result<(), Fail> {
+    let rows: [(&str, &str); 6] = [
+        ("simple main", MAIN),
+        ("simple mai", "found 0\n"),
+        ("addr 101f", "unit 0\n"),
+        ("addr 1020", "none\n"),
+        ("addr FFFFFFFFFFFFFFFF", "none\n"),
+        ("main", "main c main\n"),
+    ];
+    for (query, text) in rows {
+        let got = answer(&rt, rt.alloc(), &PLAIN, &["ask", "X", query])?;
+        assert_eq!(rt; got.status, 0, "{query}");
+        assert_eq!(rt; got.text.as_str(), text, "{query}");
+    }
+    Ok(())
+}
+
 // Where the sections of `PLAIN` begin in it, and where the size of its `.debug_info` stands.
 const ABBREVIATIONS: usize = 64;
 
@@ -128,7 +146,7 @@ fn debug_info_cut(rt: HostRuntime) -> Result<(), Fail> {
 
 #[test]
 fn words_and_their_statuses(rt: HostRuntime) -> Result<(), Fail> {
-    let rows: [(&[&str], u8, &[u8]); 12] = [
+    let rows: [(&[&str], u8, &[u8]); 14] = [
         (&["ask", "X", "name", "main"], 0, MAIN.as_bytes()),
         (
             &["ask", "--workers", "64", "X", "name main"],
@@ -151,6 +169,8 @@ fn words_and_their_statuses(rt: HostRuntime) -> Result<(), Fail> {
         (&["ask", "", "name", "main"], 2, b"usage\n"),
         (&["ask", "--X", "name", "main"], 2, b"usage\n"),
         (&["ask", "X", "name", "a\nb"], 2, b"usage\n"),
+        (&["ask", "X", "addr", "0x10"], 2, b"usage\n"),
+        (&["ask", "X", "cache"], 2, b"usage\n"),
         (&["ask", "Y", "name", "main"], 3, b"read fault\n"),
         (&[], 2, b"usage\n"),
     ];
