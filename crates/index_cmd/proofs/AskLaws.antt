@@ -1,8 +1,7 @@
 -- The answer of a file by what its core publishes.
-use Rattle.std.proofs.Common.{◌≡◌, ℕ, zero, suc, ◌+◌, ◌<◌, ◌≤◌, Bool, true, false, ltb, leb, List, [], ◌∷◌, length, map, filter, get_or, Option, Some, None, Result, Ok, Err, refl, sym, ap, subst, ◌∙◌, arith, inl, inr, ⊎_elim}
+use Rattle.std.proofs.Common.{◌≡◌, ℕ, ◌+◌, ◌<◌, ◌≤◌, Bool, true, false, ltb, leb, List, [], ◌∷◌, length, filter, get_or, Option, Some, None, Result, Ok, Err, refl, sym, ap, subst, ◌∙◌, arith, inl, inr, ⊎_elim}
 use Rattle.std.specs.Prelude.{All, Contains, OnOk, OnErr, option_map, option_and_then}
 use Rattle.std.specs.List.{enumerate_from}
-use Rattle.std.proofs.lemmas.Bool.{le-leb}
 use Rattle.std.proofs.lemmas.Bool.Decides.{nat_tests}
 use Rattle.std.proofs.lemmas.List.Elements.{Contains-get_or}
 use mathlib.Core.Logic.{◌⊎◌}
@@ -13,18 +12,17 @@ use Rattle.index_model.specs.declared.entry.Entry.{Entry}
 use Rattle.index_model.specs.declared.job.CacheKind.{CacheKind}
 use Rattle.index_model.specs.declared.job.CacheKind.TheVariants.{Gdb8}
 use Rattle.index_model.specs.declared.unit.Unit.{Unit as UnitHeader}
-use Rattle.index_model.specs.Answers.{Answer, Entries, InUnit, MainIs, CacheIs, Reply, Answered as Replied, Refused as Refuses, Pending, Stopped, places, is_named, is_simply_named, entries_in, answer_to, reply_of, reply_at}
+use Rattle.index_model.specs.Answers.{Answer, Reply, Answered as Replied, Refused as Refuses, Stopped, places, is_named, is_simply_named, entries_in, answer_to, reply_of, reply_at}
 use Rattle.index_model.specs.Cache.{size_in}
 use Rattle.index_model.specs.Faults.{Built, built_of, program_of, first_fault}
-use Rattle.index_model.specs.LawsCore.{StateIsRight, plan_of}
-use Rattle.index_model.specs.Machine.{stage}
+use Rattle.index_model.specs.LawsCore.{StateIsRight}
 use Rattle.index_model.specs.Meaning.{◌>>=◌, wrong_in}
 use Rattle.index_model.specs.Parts.{Parts, parts, reply_by}
 use Rattle.index_model.specs.Queries.{Query, AskName, AskSimple, AskAddress, AskMain, AskCache, need_of, query_of}
 use Rattle.index_model.specs.Sections.{Section, sections_of}
-use Rattle.index_model.specs.Texts.{text_of_answer, text_of_fault, text_of_reply}
+use Rattle.index_model.specs.Texts.{text_of_reply}
 use Rattle.index_model.specs.Units.{units_of}
-use Rattle.index_model.proofs.Meanings.{same_some, contains_here, contains_later, contains_cases}
+use Rattle.index_model.proofs.Meanings.{same_some, contains_cases}
 use Rattle.index_model.proofs.Pairs.{of_map, of_filter}
 use Rattle.query_text.specs.Places.{PlacesFit, PlacesFitAnswer}
 use Rattle.stage_core.specs.Machines.{Machine, stage_of}
@@ -33,7 +31,7 @@ use Rattle.outside.specs.Files.{Files}
 use Rattle.index_cmd.specs.FilesRead.{Holds}
 use Rattle.index_cmd.specs.Words.{Asked, query_text}
 use Rattle.index_cmd.specs.Requests.{Request, OfFile, offer, offered, asked, IsOffered}
-use Rattle.index_cmd.specs.Replies.{Causes, CausesOfResult, SaysFile, SaysReply, SaysRequest, Wrote, status_after, IsAnswerOf, IsRefusalOf}
+use Rattle.index_cmd.specs.Replies.{Causes, CausesOfResult, SaysFile, SaysReply, SaysRequest, Wrote, status_after}
 use Rattle.index_cmd.specs.declared.status.Status.{Status}
 use Rattle.index_cmd.specs.declared.status.Status.TheVariants.{Answered, Refused, Usage, ReadFault, WriteFault, NoMemory, FileTooBig}
 use Rattle.outside.specs.Written.{Appends, AppendsPrefix}

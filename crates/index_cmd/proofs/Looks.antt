@@ -1,10 +1,9 @@
 -- The reply by the parts, by the place of the stage.
-use Rattle.std.proofs.Common.{◌≡◌, ℕ, ◌<◌, ◌≤◌, Bool, true, false, cond, ltb, leb, eqb, Option, Some, None, refl, sym, ap, ◌∙◌, arith}
+use Rattle.std.proofs.Common.{◌≡◌, ℕ, ◌<◌, ◌≤◌, false, ltb, leb, eqb, Option, Some, refl, ap, arith}
 use Rattle.std.specs.Prelude.{option_map}
 use Rattle.std.proofs.lemmas.Bool.{lt-ltb, le-leb, eq-eqb}
 use Rattle.std.proofs.lemmas.Bool.Decides.{nat_tests}
-use Rattle.ix_base.specs.declared.fault.Fault.{Fault}
-use Rattle.index_model.specs.Answers.{Answer, Reply, Answered, Pending, Refused, Stopped}
+use Rattle.index_model.specs.Answers.{Answer, Answered, Pending, Refused, Stopped}
 use Rattle.index_model.specs.Parts.{Parts, answer_by, reply_by}
 use Rattle.index_model.specs.Queries.{Query, need_of}
 

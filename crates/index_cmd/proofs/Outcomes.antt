@@ -1,18 +1,17 @@
 -- What a command came to, once its status's line is written.
-use Rattle.std.proofs.Common.{◌≡◌, ◌⊎◌, inl, inr, ℕ, ◌<◌, ◌≤◌, ◌==◌, if◌then◌else◌, List, [], ◌++◌, Option, Some, None, Ok, Err, Result, refl, sym, ap, subst, ◌∙◌, arith}
+use Rattle.std.proofs.Common.{◌≡◌, ◌⊎◌, inl, inr, ℕ, ◌≤◌, ◌==◌, if◌then◌else◌, List, [], Option, Some, None, Ok, refl, sym, ap, subst, ◌∙◌, arith}
 use Rattle.std.specs.Prelude.{length, option_and_then}
 use Rattle.ix_base.specs.declared.fault.Fault.{Fault}
 use Rattle.ix_base.specs.declared.limits.TheConstants.{MAX_FILE_BYTES}
-use Rattle.index_model.specs.Faults.{Built, first_fault, IsAccepted, built_of}
+use Rattle.index_model.specs.Faults.{Built, first_fault, built_of}
 use Rattle.index_model.specs.Meaning.{wrong_in}
 use Rattle.index_model.specs.Queries.{Query}
 use Rattle.outside.specs.Files.{Files}
 use Rattle.outside.specs.Written.{Appends, AppendsPrefix}
 use Rattle.outside.proofs.WrittenLaws.{appends_more, appends_more_prefix}
-use Rattle.index_cmd.specs.FilesRead.{Holds, HoldsMore}
 use Rattle.index_cmd.specs.Words.{Wanted, command_of}
 use Rattle.index_cmd.specs.Requests.{Request, TheHelp, TheVersion, OfFile, AsksFile, requested, request_of}
-use Rattle.index_cmd.specs.Replies.{Causes, Ends, without_line, with_line, cut, IsAnswer, IsRefusal, IsAnswerOf, IsRefusalOf, IsComplete, IsMeant, IsStatus, SaysRequest, Wrote, Writes, WritesPrefix, line_of}
+use Rattle.index_cmd.specs.Replies.{Causes, Ends, without_line, with_line, cut, IsAnswer, IsRefusal, IsComplete, IsMeant, IsStatus, SaysRequest, Wrote, Writes, WritesPrefix, line_of}
 use Rattle.index_cmd.specs.Statuses.{status_code}
 use Rattle.index_cmd.specs.declared.status.Status.{Status}
 use Rattle.index_cmd.specs.declared.status.Status.TheVariants.{Answered, Refused, Usage, ReadFault, WriteFault, NoMemory, FileTooBig}

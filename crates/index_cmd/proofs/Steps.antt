@@ -1,18 +1,16 @@
 -- One job more is drawn, done and finished.
-use Rattle.std.proofs.Common.{◌≡◌, ℕ, zero, suc, ◌+◌, ◌-◌, ◌<◌, ◌≤◌, Bool, true, false, ◌&&◌, ◌||◌, cond, eqb, ltb, List, [], ◌∷◌, ◌++◌, length, map, replicate, length-append, Option, Some, None, Ok, refl, sym, ap, subst, ◌∙◌, arith}
-use Rattle.std.specs.Prelude.{slice_get, slice_set, is_none, option_map, sum_by, drop, filter_map}
+use Rattle.std.proofs.Common.{◌≡◌, ℕ, zero, suc, ◌+◌, ◌-◌, ◌<◌, Bool, true, false, ◌||◌, List, [], ◌∷◌, ◌++◌, length, map, replicate, length-append, Option, Some, None, Ok, refl, sym, ap, subst, ◌∙◌, arith}
+use Rattle.std.specs.Prelude.{slice_get, slice_set, is_none, sum_by, drop, filter_map}
 use Rattle.std.specs.List.{list_any}
 use Rattle.std.proofs.lemmas.Bool.{lt-ltb, eq-eqb}
-use Rattle.std.proofs.lemmas.List.{length-map, length-replicate}
 use Rattle.ix_base.specs.declared.fault.Fault.{Fault}
 use Rattle.unit_headers.specs.Images.{Image, image_of}
 use Rattle.unit_headers.proofs.Images.{parts_of}
 use Rattle.stage_core.specs.Cut.{HasUnits}
 use Rattle.index_model.specs.declared.job.Job.{Job}
-use Rattle.index_model.specs.declared.job.Job.TheVariants.{Write}
-use Rattle.index_model.specs.LawsCore.{IsState, plan_of}
+use Rattle.index_model.specs.LawsCore.{plan_of}
 use Rattle.index_model.specs.Machine.{JobPlace, place_of_job, State, Output, End, Going, Refused, Stopped, is_going, jobs_at, opened, machine_start, stage}
-use Rattle.index_model.specs.MachineEvents.{after_draw, after_finish, has_next, is_running, is_open, is_memory, settled, decided, closing, least_fault, with_output, made_in}
+use Rattle.index_model.specs.MachineEvents.{after_draw, after_finish, is_running, is_memory, settled, decided, closing, least_fault, made_in}
 use Rattle.index_model.specs.Outputs.{Subject, Made}
 use Rattle.stage_core.specs.Machines.{Machine, stage_of}
 use Rattle.stage_core.specs.Inputs.{Handed}

@@ -1,5 +1,5 @@
 -- A core on which one caller does all jobs, one after the other.
-use Rattle.std.specs.Prelude.{◌≡◌, ◌<◌, ℕ, ◌+◌, ◌-◌, suc, true, List, ◌++◌, length, map, replicate, drop, sum_by, Option, Some, None, Ok, if◌then◌else◌}
+use Rattle.std.specs.Prelude.{◌≡◌, ◌<◌, ℕ, ◌-◌, suc, true, List, ◌++◌, length, map, replicate, drop, sum_by, Some, None, Ok, if◌then◌else◌}
 use Rattle.unit_headers.specs.Images.{Image, image_of}
 use Rattle.index_model.specs.LawsCore.{plan_of}
 use Rattle.index_model.specs.Machine.{Output, is_going}

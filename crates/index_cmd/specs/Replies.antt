@@ -3,11 +3,11 @@ use Rattle.std.specs.Prelude.{◌≡◌, ◌≤◌, ◌⊎◌, ℕ, List, [], �
 use Rattle.ix_base.specs.declared.fault.Fault.{Fault}
 use Rattle.ix_base.specs.declared.limits.TheConstants.{MAX_FILE_BYTES}
 use Rattle.index_model.specs.declared.job.CacheKind.TheVariants.{Gdb8}
-use Rattle.index_model.specs.Answers.{Reply, Answered as Replied, Refused as Refuses, Pending, Stopped, answer_to}
+use Rattle.index_model.specs.Answers.{Reply, Answered as Replied, Refused as Refuses, answer_to}
 use Rattle.index_model.specs.Cache.{size_in}
 use Rattle.index_model.specs.Faults.{Built, built_of, first_fault, IsAccepted}
 use Rattle.index_model.specs.Queries.{Query}
-use Rattle.index_model.specs.Texts.{line, text_of_answer, text_of_fault, text_of_reply}
+use Rattle.index_model.specs.Texts.{line, text_of_answer, text_of_fault}
 use Rattle.outside.specs.declared.shelf.Failed.{Failed}
 use Rattle.outside.specs.Files.{Files}
 use Rattle.outside.specs.Written.{Appends, AppendsPrefix}

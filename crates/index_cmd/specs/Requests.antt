@@ -1,6 +1,6 @@
 -- What the words of a command line ask for.
-use Rattle.std.specs.Prelude.{◌≡◌, ℕ, List, Option, Some, None, option_map, option_and_then, ⊤}
-use Rattle.index_model.specs.Queries.{Query, AskName, AskSimple, AskAddress, AskMain, AskCache, query_of}
+use Rattle.std.specs.Prelude.{◌≡◌, ℕ, List, Option, Some, None, option_map, option_and_then}
+use Rattle.index_model.specs.Queries.{Query, AskCache, query_of}
 use Rattle.index_cmd.specs.Words.{Asked, Wanted, Help, Version, Ask, command_of, query_text}
 
 -- the program's own texts; or the answer of a file, by its name, to a query

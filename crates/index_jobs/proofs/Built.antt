@@ -1,5 +1,5 @@
 -- What a file means whose references, and then ranges, have no fault.
-use Rattle.std.proofs.Common.{◌≡◌, ℕ, List, [], ◌∷◌, ◌++◌, map, flat_map, filter, length, Option, Some, None, Result, Ok, Err, refl, sym, ap, subst, ◌∙◌}
+use Rattle.std.proofs.Common.{◌≡◌, ℕ, List, [], ◌∷◌, ◌++◌, flat_map, Some, None, Result, Ok, Err, refl, sym, ap, ◌∙◌}
 use Rattle.std.specs.List.{AllZip}
 use Rattle.std.proofs.lemmas.Grind.{flat_map-append}
 use Rattle.std.proofs.lemmas.List.Elements.{filter-append}
@@ -9,7 +9,7 @@ use Rattle.index_model.specs.declared.range.UnitRange.{UnitRange}
 use Rattle.index_model.specs.Entries.{entries_of, entries_of_link}
 use Rattle.index_model.specs.Faults.{Built, built_of, program_of, links_of, all_ranges, first_fault}
 use Rattle.index_model.specs.Links.{Link, link_of, links_in, followed, indexed_in, is_link_indexed}
-use Rattle.index_model.specs.Meaning.{◌>>=◌, each, at_place, wrong_in}
+use Rattle.index_model.specs.Meaning.{◌>>=◌, each, at_place}
 use Rattle.index_model.specs.Program.{Walked, Program, Located}
 use Rattle.index_jobs.proofs.Lists.{joined, each_two}
 

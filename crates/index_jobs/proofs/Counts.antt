@@ -1,6 +1,6 @@
 -- There are no more entries than bytes twice over, and no simple name is longer than its name.
-use Rattle.std.proofs.Common.{◌≡◌, ◌⊎◌, ℕ, zero, suc, ◌+◌, ◌*◌, ◌-◌, ◌<◌, ◌≤◌, ◌^◌, Bool, true, false, not, ◌&&◌, ◌||◌, cond, List, [], ◌∷◌, ◌++◌, flat_map, filter, length, length-append, get_or, Option, Some, None, Result, Ok, refl, sym, ap, subst, ◌∙◌, arith, ⊎_elim, inl, inr}
-use Rattle.std.specs.Prelude.{All, Contains, codes, option_map, option_to_list, unwrap_or, bytes_eq, slice_index_or}
+use Rattle.std.proofs.Common.{◌≡◌, ◌⊎◌, ℕ, zero, suc, ◌+◌, ◌*◌, ◌<◌, ◌≤◌, ◌^◌, Bool, true, false, not, ◌&&◌, ◌||◌, cond, List, [], ◌∷◌, flat_map, length, length-append, get_or, Option, Some, None, Ok, refl, sym, ap, subst, ◌∙◌, arith, ⊎_elim}
+use Rattle.std.specs.Prelude.{Contains, option_map, option_to_list, unwrap_or, bytes_eq}
 use Rattle.std.proofs.lemmas.Bool.{true≢false}
 use Rattle.std.proofs.lemmas.List.Elements.{Contains-get_or}
 use Rattle.index_model.specs.declared.entry.Entry.{Entry}
@@ -12,12 +12,10 @@ use Rattle.index_model.specs.Languages.{class_of_unit}
 use Rattle.index_model.specs.Links.{Link, link_of, links_in, followed, is_link_indexed, indexed_in, name_in, qualified_of, is_within_limit}
 use Rattle.index_model.specs.Meaning.{at_place}
 use Rattle.index_model.specs.Names.{simple_name, qualified_name}
-use Rattle.index_model.specs.Program.{Walked, Program, Located, items_of, joint}
-use Rattle.index_model.specs.Rules.{is_visited, is_ada}
-use Rattle.index_model.specs.Sections.{Section, section_bytes}
-use Rattle.index_model.specs.Units.{units_of}
-use Rattle.index_model.specs.Walk.{Item}
-use Rattle.index_model.proofs.Meanings.{contains_here, contains_later, contains_cases, same_ok}
+use Rattle.index_model.specs.Program.{Walked, Program, items_of, joint}
+use Rattle.index_model.specs.Rules.{is_ada}
+use Rattle.index_model.specs.Sections.{Section}
+use Rattle.index_model.proofs.Meanings.{contains_here, contains_later, contains_cases}
 use Rattle.index_model.proofs.LinkLaws.{Earlier, links_rise}
 use Rattle.index_model.proofs.OrderLaws.{walks_in_order}
 use Rattle.index_model.proofs.Pairs.{Pairs, On, of_filter, of_flat_map}
@@ -28,7 +26,7 @@ use Rattle.index_model.proofs.VisitedLaws.{visited_by_parent}
 use Rattle.query_engine.specs.Asked.{TailsFit}
 use Rattle.shard_build.proofs.UnitPlaces.{unit_ends}
 use Rattle.qualified_names.proofs.LinkLaws.{link_parts, has_name, named}
-use Rattle.index_jobs.proofs.Owners.{IsFollowed, each_member, place_ok, in_optional, link_is_followed}
+use Rattle.index_jobs.proofs.Owners.{each_member, place_ok, in_optional, link_is_followed}
 
 -- ---- numbers that rise within bounds are no more than the bounds allow
 

@@ -1,25 +1,18 @@
 -- What a job is given, by its kind.
-use Rattle.std.proofs.Common.{◌≡◌, ℕ, ◌<◌, List, [], ◌∷◌, length, filter_map, Option, Some, None, Ok, refl, sym, ap, subst, ◌∙◌}
-use Rattle.ix_base.specs.declared.fault.Fault.{Fault}
-use Rattle.unit_headers.specs.Images.{Image, image_of}
-use Rattle.unit_headers.proofs.Images.{parts_of}
+use Rattle.std.proofs.Common.{◌≡◌, ℕ, ◌<◌, List, [], ◌∷◌, length, filter_map, Option, None, refl, subst}
 use Rattle.index_model.specs.declared.entry.Entry.{Entry}
 use Rattle.index_model.specs.declared.job.Job.{Job}
-use Rattle.index_model.specs.declared.job.Job.TheVariants.{Scan, Link, Main, Name, Merge, Write}
+use Rattle.index_model.specs.declared.job.Job.TheVariants.{Scan, Link, Main, Name, Merge}
 use Rattle.index_model.specs.declared.shard.Shard.{Shard}
 use Rattle.index_model.specs.declared.shard.Linked.{Linked}
-use Rattle.index_model.specs.declared.unit.Unit.{Unit as UnitHeader}
-use Rattle.index_model.specs.Sections.{Section}
 use Rattle.index_model.specs.Faults.{first_fault}
 use Rattle.index_model.specs.Machine.{State, Output, End, jobs_at}
 use Rattle.index_model.specs.Outputs.{Subject, Made, run_of}
 use Rattle.index_model.specs.LawsCore.{plan_of, HasRuns}
-use Rattle.index_model.proofs.Meanings.{same_ok}
 use Rattle.index_model.proofs.MachineHolds.{Closed, AllMade}
 use Rattle.index_model.proofs.JobFaults.{FaultAt, MakesAt}
-use Rattle.stage_core.specs.Inputs.{Given, UnitsOf, ScansOf, LinksOf, RunsOf, Handed, input_of, first_of, shard_in, linked_in, run_in}
-use Rattle.index_jobs.specs.Drawn.{IsDrawn}
-use Rattle.index_jobs.proofs.Next.{AtKind, scan, link, main, name, merge, write, Next, HandedOut, handed_out}
+use Rattle.stage_core.specs.Inputs.{UnitsOf, ScansOf, LinksOf, RunsOf, input_of, first_of, shard_in, linked_in, run_in}
+use Rattle.index_jobs.proofs.Next.{AtKind, scan, link, main, name, merge, write}
 use Rattle.index_jobs.proofs.Walks.{Scanned, scans, Links, links, from_all}
 
 abbrev state : List (List Made) → ℕ → List (Option (Output Made)) → End → State Made

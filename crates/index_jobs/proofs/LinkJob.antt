@@ -1,6 +1,6 @@
 -- The output of a Link job.
-use Rattle.std.proofs.Common.{◌≡◌, ℕ, ◌<◌, List, [], length, Option, Some, None, Result, Ok, Err, refl, sym, ap, subst, ◌∙◌, arith}
-use Rattle.std.specs.Prelude.{IsOkAnd, slice_get, unwrap_or}
+use Rattle.std.proofs.Common.{◌≡◌, ℕ, ◌<◌, List, length, Result, Ok, Err, sym, ap, subst, ◌∙◌, arith}
+use Rattle.std.specs.Prelude.{IsOkAnd}
 use Rattle.ix_base.specs.declared.fault.Fault.{Fault}
 use Rattle.ix_base.specs.declared.fault.Stop.{Stop}
 use Rattle.ix_base.specs.declared.fault.Stop.TheVariants as stops
@@ -17,7 +17,7 @@ use Rattle.index_model.specs.Faults.{program_of}
 use Rattle.index_model.specs.Shards.{IsLinked}
 use Rattle.index_model.specs.Outputs.{Subject, LinkedOf, link_of_run, IsOutputOf}
 use Rattle.index_model.specs.LawsCore.{HasRuns}
-use Rattle.stage_core.specs.Inputs.{ScansOf, Handed}
+use Rattle.stage_core.specs.Inputs.{ScansOf}
 use Rattle.shard_build.specs.Entries.{AreShardsOfFile}
 use Rattle.parent_resolve.specs.Runs.{ForRun}
 use Rattle.index_jobs.specs.Drawn.{IsDrawn}

@@ -1,16 +1,15 @@
 -- The output of the Main job.
-use Rattle.std.proofs.Common.{◌≡◌, ℕ, List, length, Option, Some, None, Result, Ok, Err, refl, sym, ap, subst, ◌∙◌}
-use Rattle.std.specs.Prelude.{IsOkAnd}
+use Rattle.std.proofs.Common.{◌≡◌, List, Result, Ok, Err, refl, sym, ap, subst, ◌∙◌}
 use Rattle.ix_base.specs.declared.fault.Fault.{Fault}
 use Rattle.ix_base.specs.declared.fault.Stop.{Stop}
 use Rattle.ix_base.specs.declared.fault.Stop.TheVariants as stops
 use Rattle.unit_headers.specs.Images.{Image}
 use Rattle.index_model.specs.declared.job.Job.{Job}
-use Rattle.index_model.specs.declared.job.Job.TheVariants.{Main, Name}
+use Rattle.index_model.specs.declared.job.Job.TheVariants.{Main}
 use Rattle.index_model.specs.declared.range.UnitRange.{UnitRange}
 use Rattle.index_model.specs.declared.shard.Shard.{Shard}
 use Rattle.index_model.specs.declared.shard.Linked.{Linked}
-use Rattle.index_model.specs.Faults.{Built, built_of, program_of, links_of, all_ranges}
+use Rattle.index_model.specs.Faults.{built_of, program_of, links_of, all_ranges}
 use Rattle.index_model.specs.Gives.{GivesFor}
 use Rattle.index_model.specs.Links.{Link}
 use Rattle.index_model.specs.MainProgram.{main_of}
@@ -19,7 +18,7 @@ use Rattle.index_model.specs.Program.{Program}
 use Rattle.index_model.specs.Outputs.{Subject, SummaryOf, IsOutputOf}
 use Rattle.index_model.specs.LawsCore.{HasRuns}
 use Rattle.stage_core.specs.declared.output.Summary.{Summary}
-use Rattle.stage_core.specs.Inputs.{LinksOf, Handed}
+use Rattle.stage_core.specs.Inputs.{LinksOf}
 use Rattle.stage_core.specs.Outputs.{summary_seen}
 use Rattle.qualified_names.specs.Files.{AreLinkedOfFile, ForLinks}
 use Rattle.index_jobs.specs.Drawn.{IsDrawn}

@@ -1,12 +1,11 @@
 -- The output of the Merge job.
-use Rattle.std.proofs.Common.{◌≡◌, ℕ, zero, suc, ◌+◌, ◌<◌, ◌≤◌, ◌^◌, List, [], ◌∷◌, ◌++◌, map, flat_map, filter, filter_map, length, length-append, Option, Some, None, Result, Ok, Err, refl, sym, ap, subst, ◌∙◌, arith}
-use Rattle.std.specs.Prelude.{IsOkAnd, IfOk, codes}
-use Rattle.ix_base.specs.declared.fault.Fault.{Fault}
+use Rattle.std.proofs.Common.{◌≡◌, ℕ, suc, ◌+◌, ◌<◌, ◌≤◌, ◌^◌, List, [], ◌∷◌, ◌++◌, flat_map, filter, filter_map, length, length-append, Some, Result, Ok, Err, refl, sym, ap, subst, ◌∙◌, arith}
+use Rattle.std.specs.Prelude.{IfOk, codes}
 use Rattle.ix_base.specs.declared.fault.NoMemory.{NoMemory}
 use Rattle.unit_headers.specs.Images.{Image}
 use Rattle.index_model.specs.declared.entry.Entry.{Entry}
 use Rattle.index_model.specs.declared.job.Job.{Job}
-use Rattle.index_model.specs.declared.job.Job.TheVariants.{Name, Merge}
+use Rattle.index_model.specs.declared.job.Job.TheVariants.{Name}
 use Rattle.index_model.specs.declared.range.UnitRange.{UnitRange}
 use Rattle.index_model.specs.Answers.{entries_in}
 use Rattle.index_model.specs.Entries.{entries_of}
@@ -19,7 +18,7 @@ use Rattle.index_model.specs.LawsCore.{HasRuns}
 use Rattle.index_model.proofs.MachineHolds.{AllMade}
 use Rattle.index_model.proofs.JobFaults.{FaultAt, MakesAt}
 use Rattle.query_engine.specs.Asked.{TailsFit}
-use Rattle.stage_core.specs.Inputs.{RunsOf, Handed, run_in}
+use Rattle.stage_core.specs.Inputs.{RunsOf, run_in}
 use Rattle.index_jobs.specs.Drawn.{IsDrawn}
 use Rattle.index_jobs.specs.Outputs.{output_or_memory}
 use Rattle.index_jobs.proofs.Built.{built, built_with, ranges_of_accepted, links_joined, entries_joined}
@@ -28,7 +27,7 @@ use Rattle.index_jobs.proofs.Lists.{joined, part_at, at_ok, and_ok, zip_length}
 use Rattle.index_jobs.proofs.NameJob.{run_entries}
 use Rattle.index_jobs.proofs.Next.{HandedOut, handed_out}
 use Rattle.index_jobs.proofs.Walks.{Reads, program, program_is}
-use Rattle.index_jobs.proofs.Given.{HasLinks, IsMerge, is_merge}
+use Rattle.index_jobs.proofs.Given.{IsMerge, is_merge}
 use Rattle.index_jobs.proofs.ScanJob.{Same, same_image}
 
 module _ (s : Subject) (b : Built) (is : built_of s.file ≡ Ok b) where

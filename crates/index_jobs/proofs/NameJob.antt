@@ -1,8 +1,6 @@
 -- The output of a Name job.
-use Rattle.std.proofs.Common.{◌≡◌, ℕ, zero, suc, ◌<◌, List, [], ◌∷◌, ◌++◌, map, flat_map, filter, length, Option, Some, None, Result, Ok, Err, refl, sym, ap, subst, ◌∙◌, arith}
-use Rattle.std.specs.Prelude.{IsOkAnd, IfOk, slice_get, unwrap_or}
-use Rattle.std.specs.List.{enumerate_from}
-use Rattle.ix_base.specs.declared.fault.Fault.{Fault}
+use Rattle.std.proofs.Common.{◌≡◌, ℕ, zero, suc, ◌<◌, List, [], ◌∷◌, ◌++◌, map, flat_map, filter, length, None, Result, Ok, Err, refl, sym, ap, subst, ◌∙◌, arith}
+use Rattle.std.specs.Prelude.{IfOk}
 use Rattle.ix_base.specs.declared.fault.NoMemory.{NoMemory}
 use Rattle.unit_headers.specs.Images.{Image}
 use Rattle.index_model.specs.declared.entry.Entry.{Entry}
@@ -12,22 +10,21 @@ use Rattle.index_model.specs.declared.shard.Shard.{Shard}
 use Rattle.index_model.specs.declared.shard.Linked.{Linked}
 use Rattle.index_model.specs.Answers.{entries_in}
 use Rattle.index_model.specs.Entries.{entries_of}
-use Rattle.index_model.specs.Faults.{Built, built_of, program_of, first_fault}
-use Rattle.index_model.specs.Links.{Link, links_in}
-use Rattle.index_model.specs.Program.{Walked, Program}
-use Rattle.index_model.specs.Outputs.{Subject, RunOf, IsOutputOf, run_of, is_in_run}
+use Rattle.index_model.specs.Faults.{built_of, program_of, first_fault}
+use Rattle.index_model.specs.Links.{links_in}
+use Rattle.index_model.specs.Program.{Program}
+use Rattle.index_model.specs.Outputs.{Subject, RunOf, IsOutputOf, is_in_run}
 use Rattle.index_model.specs.LawsCore.{HasRuns}
 use Rattle.index_model.proofs.Pairs.{Pairs}
-use Rattle.stage_core.specs.Inputs.{LinksOf, Handed}
+use Rattle.stage_core.specs.Inputs.{LinksOf}
 use Rattle.qualified_names.specs.Files.{ForLinkedRun}
 use Rattle.index_jobs.specs.Drawn.{IsDrawn}
 use Rattle.index_jobs.specs.Outputs.{output_or_memory}
 use Rattle.index_jobs.proofs.Built.{built, built_with, ranges_of_accepted, entries_joined}
 use Rattle.index_jobs.proofs.Lists.{joined, part_at, and_ok, zip_parts, zip_length}
-use Rattle.index_jobs.proofs.Walks.{Unit_, Scanned, Reads, Links, program, program_is, are_shards, count}
-use Rattle.index_jobs.proofs.Given.{HasLinks, IsMainOrName, is_main, is_name}
-use Rattle.index_jobs.proofs.ScanJob.{Same}
-use Rattle.index_jobs.proofs.Picks.{Lower, is_in, pick, units_rise}
+use Rattle.index_jobs.proofs.Walks.{Scanned, Reads, Links, program, program_is, are_shards, count}
+use Rattle.index_jobs.proofs.Given.{IsMainOrName, is_main, is_name}
+use Rattle.index_jobs.proofs.Picks.{Lower, pick, units_rise}
 use Rattle.index_jobs.proofs.Owners.{own_runs}
 use Rattle.index_jobs.proofs.MainJob as given
 

@@ -1,19 +1,19 @@
 -- What a core has done before it hands out a job.
-use Rattle.std.proofs.Common.{◌≡◌, ℕ, zero, suc, ◌+◌, ◌<◌, Bool, true, false, ◌&&◌, cond, ltb, List, [], ◌∷◌, length, Option, Some, None, refl, sym, ap, subst, ◌∙◌, arith}
-use Rattle.std.specs.Prelude.{option_map, slice_get}
-use Rattle.std.proofs.lemmas.Bool.{and_parts, ltb-true}
+use Rattle.std.proofs.Common.{◌≡◌, ℕ, zero, suc, ◌<◌, true, false, cond, List, [], ◌∷◌, length, Option, Some, None, refl, sym, ap, subst, ◌∙◌, arith}
+use Rattle.std.specs.Prelude.{option_map}
+use Rattle.std.proofs.lemmas.Bool.{ltb-true}
 use Rattle.std.proofs.lemmas.Bool.Decides.{nat_tests}
 use Rattle.ix_base.specs.declared.fault.Fault.{Fault}
 use Rattle.ix_base.specs.Reading.{◌>>=◌ as ◌>>=?◌}
 use Rattle.unit_headers.specs.Images.{Image}
 use Rattle.index_model.specs.declared.job.Job.{Job}
 use Rattle.index_model.specs.declared.job.Job.TheVariants.{Scan, Link, Main, Name, Merge, Write}
-use Rattle.index_model.specs.Machine.{JobPlace, place_of_job, job_at, State, Output, End, Going, Refused, Stopped, is_going, jobs_at, plan_for, machine_start, refused_start}
-use Rattle.index_model.specs.MachineEvents.{Event, Draw, Finish, Look, after_events, Run, has_next, next_place, next_job, is_running}
+use Rattle.index_model.specs.Machine.{JobPlace, place_of_job, job_at, State, Output, End, Going, Refused, Stopped, jobs_at, plan_for, machine_start, refused_start}
+use Rattle.index_model.specs.MachineEvents.{Event, Draw, Finish, Look, after_events, Run, has_next, next_job, is_running}
 use Rattle.index_model.specs.Outputs.{Subject, Made, AllMeet}
-use Rattle.index_model.specs.LawsCore.{plan_of, HasRuns, BeginsAt, with_jobs, with_fault, IsState}
+use Rattle.index_model.specs.LawsCore.{plan_of, HasRuns, BeginsAt, with_jobs, with_fault}
 use Rattle.index_model.specs.Queries.{Query}
-use Rattle.index_model.proofs.Meanings.{bind_some, same_some}
+use Rattle.index_model.proofs.Meanings.{same_some}
 use Rattle.index_model.proofs.MachineHolds.{Closed, Brought, Kept, kept, kept_start}
 use Rattle.index_model.proofs.JobFaults.{FaultAt, MakesAt, all_meet_at}
 use Rattle.stage_core.specs.Inputs.{Handed, handed, input_of}

@@ -1,5 +1,5 @@
 -- The entries that the references of a run give are those of its units.
-use Rattle.std.proofs.Common.{◌≡◌, ℕ, ◌<◌, true, false, List, [], ◌∷◌, flat_map, map, Bool, cond, ◌&&◌, not, Option, Some, None, Result, Ok, Err, refl, sym, ap, subst, ◌∙◌, arith, ⊎_elim}
+use Rattle.std.proofs.Common.{◌≡◌, ℕ, true, false, List, [], ◌∷◌, flat_map, map, Bool, ◌&&◌, not, Option, Some, None, Result, Ok, Err, refl, sym, ap, subst, ◌∙◌, arith, ⊎_elim}
 use Rattle.std.specs.Prelude.{Contains, option_to_list, bytes_eq}
 use Rattle.std.specs.List.{AllZip}
 use Rattle.ix_base.specs.declared.fault.Fault.{Fault}
@@ -14,14 +14,14 @@ use Rattle.index_model.specs.Program.{Walked, Program, Located, located, items_o
 use Rattle.index_model.specs.Rules.{is_in_table, is_visited, is_ada}
 use Rattle.index_model.specs.Sections.{Section}
 use Rattle.index_model.specs.Walk.{Item}
-use Rattle.index_model.proofs.Meanings.{bind_ok, same_ok, same_some, contains_here, contains_later, contains_cases}
+use Rattle.index_model.proofs.Meanings.{bind_ok, same_ok, contains_here, contains_later, contains_cases}
 use Rattle.index_model.proofs.Pairs.{of_map, of_filter, of_flat_map}
 use Rattle.index_model.proofs.Scans.{scanned_walked}
 use Rattle.index_model.proofs.UnitReads.{if_some}
 use Rattle.index_model.proofs.UnitsApart.{walk_parts}
 use Rattle.qualified_names.proofs.LinkLaws.{link_parts}
 use Rattle.index_jobs.proofs.Walks.{Unit_}
-use Rattle.index_jobs.proofs.Picks.{Own, Owns}
+use Rattle.index_jobs.proofs.Picks.{Own}
 
 -- what is given of a list is given of one of its members
 pub each_member : {A B : Type 0} (f : A → Result B Fault) (xs : List A) (ys : List B) → each f xs ≡ Ok ys → (y : B) → Contains ys y → (x : A) × Contains xs x × (f x ≡ Ok y)

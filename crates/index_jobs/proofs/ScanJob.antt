@@ -1,5 +1,5 @@
 -- The output of a Scan job.
-use Rattle.std.proofs.Common.{◌≡◌, ℕ, ◌+◌, ◌<◌, ◌≤◌, List, [], length, take, drop, Option, Some, None, Result, Ok, Err, refl, sym, ap, subst, ◌∙◌, arith}
+use Rattle.std.proofs.Common.{◌≡◌, ℕ, ◌+◌, ◌≤◌, List, length, take, drop, Result, Ok, Err, refl, sym, ap, subst, ◌∙◌, arith}
 use Rattle.std.specs.Prelude.{IsOkAnd}
 use Rattle.std.specs.List.{enumerate_from}
 use Rattle.std.proofs.lemmas.List.FromFn.{length-enumerate_from}
@@ -25,7 +25,7 @@ use Rattle.index_model.proofs.Meanings.{same_ok}
 use Rattle.stage_core.specs.Inputs.{UnitsOf, first_of}
 use Rattle.index_jobs.specs.Drawn.{IsDrawn}
 use Rattle.index_jobs.specs.Outputs.{output_of}
-use Rattle.index_jobs.proofs.Lists.{joined, part_at, part_is, part_within, ok_and, and_ok}
+use Rattle.index_jobs.proofs.Lists.{joined, part_is, part_within, ok_and, and_ok}
 use Rattle.index_jobs.proofs.Next.{HandedOut, handed_out}
 use Rattle.index_jobs.proofs.Given.{IsScan, is_scan}
 

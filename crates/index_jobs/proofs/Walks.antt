@@ -1,14 +1,14 @@
 -- What the Scan jobs and the Link jobs made: shards that stand for the walks of the runs, and what their references give.
-use Rattle.std.proofs.Common.{◌≡◌, ℕ, zero, suc, ◌+◌, ◌<◌, List, [], ◌∷◌, length, filter_map, Option, Some, None, Result, Ok, Err, refl, sym, ap, subst, ◌∙◌, arith}
-use Rattle.std.specs.Prelude.{IsOkAnd, slice_get, unwrap_or}
+use Rattle.std.proofs.Common.{◌≡◌, ℕ, suc, ◌+◌, ◌<◌, List, [], ◌∷◌, length, filter_map, Some, Result, Ok, refl, sym, ap, subst, ◌∙◌, arith}
+use Rattle.std.specs.Prelude.{IsOkAnd}
 use Rattle.std.specs.List.{AllZip, enumerate_from}
 use Rattle.ix_base.specs.declared.fault.Fault.{Fault}
 use Rattle.index_model.specs.declared.job.Job.TheVariants.{Scan, Link}
 use Rattle.index_model.specs.declared.shard.Shard.{Shard}
 use Rattle.index_model.specs.declared.shard.Linked.{Linked}
 use Rattle.index_model.specs.declared.unit.Unit.{Unit as UnitHeader}
-use Rattle.index_model.specs.Meaning.{◌>>=◌, each}
-use Rattle.index_model.specs.Sections.{Section, sections_of}
+use Rattle.index_model.specs.Meaning.{each}
+use Rattle.index_model.specs.Sections.{sections_of}
 use Rattle.index_model.specs.Program.{Walked, Program}
 use Rattle.index_model.specs.Links.{Link as LinkOf, links_in}
 use Rattle.index_model.specs.Faults.{scanned, scan_of, program_of}

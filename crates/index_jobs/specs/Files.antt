@@ -1,5 +1,5 @@
 -- The ranges and the summary of a file whose references have no fault.
-use Rattle.std.specs.Prelude.{◌≡◌, ℕ, List, take, Ok, Result}
+use Rattle.std.specs.Prelude.{◌≡◌, ℕ, List, take, Ok}
 use Rattle.unit_headers.specs.Images.{Image}
 use Rattle.index_model.specs.declared.range.UnitRange.{UnitRange}
 use Rattle.index_model.specs.MainProgram.{main_of}

@@ -1,4 +1,3 @@
-use Rattle.std.proofs.Common.{◌≡◌, Option, List, ℕ, Some, refl, sym, ap, subst, ◌∙◌}
 use Rattle.index_model.specs.Seen.{query_seen, reply_seen}
 use Rattle.stage_core.specs.Outputs.{parts_seen}
 use Rattle.index_cmd.proofs.AskLaws.{by_core, reply_fits, wrote_of}

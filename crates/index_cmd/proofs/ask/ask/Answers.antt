@@ -1,8 +1,7 @@
-use Rattle.std.proofs.Common.{◌≡◌, Option, List, ℕ, Some, sym, ap, subst, ◌∙◌}
+use Rattle.std.proofs.Common.{◌≡◌, Some, sym, subst, ◌∙◌}
 use Rattle.index_model.specs.Seen.{query_seen}
-use Rattle.outside.specs.Counts.{Rose}
 use Rattle.index_cmd.specs.FilesRead.{Holds}
-use Rattle.index_cmd.specs.Requests.{Request, OfFile, asked, offered}
+use Rattle.index_cmd.specs.Requests.{OfFile, asked}
 use Rattle.index_cmd.specs.SeenWords.{seen_ask}
 use Rattle.index_cmd.proofs.AskLaws.{asked_is, wrote_request, causes_request}
 use Rattle.index_cmd.proofs.ask.ask.Goals as goal

@@ -1,5 +1,4 @@
-use Rattle.std.proofs.Common.{◌≡◌, Option, List, ℕ, inl, inr, refl, sym, ap, subst, ◌∙◌}
-use Rattle.index_model.specs.Answers.{Answered as Replied, Refused as Refuses}
+use Rattle.std.proofs.Common.{inl, inr, refl, sym, ap, subst}
 use Rattle.index_model.specs.Seen.{answer_seen, reply_seen}
 use Rattle.index_model.specs.Texts.{text_of_reply}
 use Rattle.index_cmd.specs.Replies.{SaysReply, Wrote}

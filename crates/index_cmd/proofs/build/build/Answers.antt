@@ -1,5 +1,5 @@
-use Rattle.std.proofs.Common.{◌≡◌, ◌<◌, ℕ, List, Result, Ok, length, sym, ap, subst, ◌∙◌, arith}
-use Rattle.unit_headers.specs.Images.{Image, image_of}
+use Rattle.std.proofs.Common.{◌≡◌, ◌<◌, ℕ, List, length, sym, ap, subst, ◌∙◌, arith}
+use Rattle.unit_headers.specs.Images.{image_of}
 use Rattle.index_model.specs.declared.unit.Unit.{Unit as UnitHeader}
 use Rattle.stage_core.specs.Cut.{HasUnits}
 use Rattle.index_cmd.proofs.Steps.{has_units, start_idle}

@@ -1,9 +1,8 @@
-use Rattle.std.proofs.Common.{◌≡◌, ◌<◌, ℕ, Some, sym, ap, subst, ◌∙◌}
-use Rattle.unit_headers.specs.Images.{Image, image_of}
+use Rattle.std.proofs.Common.{◌<◌, sym, ap, subst, ◌∙◌}
 use Rattle.index_model.specs.LawsCore.{plan_of}
 use Rattle.index_model.specs.Machine.{place_of_job}
-use Rattle.index_model.specs.MachineEvents.{after_draw, after_finish}
-use Rattle.index_model.specs.Outputs.{Subject, IsOutputOf}
+use Rattle.index_model.specs.MachineEvents.{after_finish}
+use Rattle.index_model.specs.Outputs.{IsOutputOf}
 use Rattle.stage_core.specs.Machines.{Machine}
 use Rattle.stage_core.specs.Outputs.{output_seen}
 use Rattle.stage_core.specs.Tasks.{task_seen}

@@ -1,8 +1,6 @@
-use Rattle.std.proofs.Common.{◌≡◌, ℕ, ◌≤◌, Option, Some, None, sym, ap, ◌∙◌, arith}
+use Rattle.std.proofs.Common.{Some, None, sym, ap, ◌∙◌, arith}
 use Rattle.std.specs.Prelude.{option_map}
-use Rattle.ix_base.specs.declared.fault.Fault.{Fault}
-use Rattle.index_model.specs.Answers.{Answer, Answered, Refused}
-use Rattle.index_model.specs.Queries.{need_of}
+use Rattle.index_model.specs.Answers.{Refused}
 use Rattle.index_model.specs.Seen.{answer_seen, query_seen}
 use Rattle.stage_core.specs.Outputs.{parts_seen}
 use Rattle.index_cmd.proofs.Looks.{pending, answered, refused, stopped}

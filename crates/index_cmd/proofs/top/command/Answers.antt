@@ -1,8 +1,8 @@
-use Rattle.std.proofs.Common.{◌≡◌, Option, List, ℕ, Some, refl, sym, ap, subst, ◌∙◌}
+use Rattle.std.proofs.Common.{◌≡◌, Option, Some, refl, sym, ap, subst, ◌∙◌}
 use Rattle.index_cmd.specs.Replies.{IsAnswer, SaysRequest, Wrote}
 use Rattle.index_cmd.specs.Requests.{Request, TheHelp, TheVersion, asked, request_of}
-use Rattle.index_cmd.specs.SeenWords.{seen_ask, seen_command, words_of, HasWorkers, IsWorkers}
-use Rattle.index_cmd.specs.Words.{Wanted, Help, Version, Ask, command_of}
+use Rattle.index_cmd.specs.SeenWords.{seen_ask, seen_command, words_of, HasWorkers}
+use Rattle.index_cmd.specs.Words.{Help, Version, Ask}
 use Rattle.index_cmd.specs.declared.words.Command.{Command}
 use Rattle.index_cmd.proofs.Outcomes.{wrote_own, request_is}
 use Rattle.index_cmd.proofs.top.command.Goals as goal

@@ -2,7 +2,6 @@ use Rattle.std.proofs.Common.{sym, subst, map, arith}
 use Rattle.std.proofs.lemmas.List.{length-map}
 use Rattle.std.specs.Arc.{arc_value}
 use Rattle.index_model.specs.Machine.{Output}
-use Rattle.index_model.specs.declared.job.Job.TheVariants.{Link}
 use Rattle.index_model.specs.Outputs.{Made, IsOutputOf}
 use Rattle.index_jobs.proofs.LinkJob.{link_of_file, link_within, link_brings}
 use Rattle.index_jobs.proofs.job.link_run.Goals as goal

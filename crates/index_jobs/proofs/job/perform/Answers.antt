@@ -1,6 +1,6 @@
-use Rattle.std.proofs.Common.{◌≡◌, List, map, sym, ap, ◌∙◌}
+use Rattle.std.proofs.Common.{map, sym, ap, ◌∙◌}
 use Rattle.std.specs.Arc.{arc_value}
-use Rattle.stage_core.specs.Inputs.{Given, UnitsOf, ScansOf, LinksOf, RunsOf}
+use Rattle.stage_core.specs.Inputs.{UnitsOf, ScansOf, LinksOf, RunsOf}
 use Rattle.stage_core.specs.Outputs.{output_seen}
 use Rattle.stage_core.specs.Tasks.{input_seen}
 use Rattle.index_jobs.proofs.Performs.{by_given}

@@ -1,10 +1,8 @@
-use Rattle.std.proofs.Common.{◌≡◌, ℕ, ◌+◌, Result, List, length, take, Ok, sym, ap, subst, ◌∙◌, arith}
+use Rattle.std.proofs.Common.{◌≡◌, ℕ, ◌+◌, List, length, take, Ok, sym, ap, ◌∙◌, arith}
 use Rattle.std.proofs.Math.Seq.{take-length}
 use Rattle.std.proofs.lemmas.Result.{err_from_is_err_and}
-use Rattle.unit_headers.specs.Images.{Image, image_of}
 use Rattle.index_model.specs.declared.range.UnitRange.{UnitRange}
-use Rattle.index_model.specs.Program.{Program}
-use Rattle.index_model.specs.Faults.{program_of, all_ranges}
+use Rattle.index_model.specs.Faults.{all_ranges}
 use Rattle.index_model.specs.Ranges.{ranges_in}
 use Rattle.index_jobs.proofs.RangeLoop.{none_first, stops_all, walks_count}
 use Rattle.index_jobs.proofs.ranges.all_ranges.Goals as goal
