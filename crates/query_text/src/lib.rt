@@ -9,6 +9,8 @@ mod hex;
 mod query;
 mod reply;
 mod send;
+#[cfg(test)]
+mod tests;
 mod texts;
 mod waiting;
 

@@ -17,8 +17,8 @@ use crate::waiting::Waiting;
 use index_model::{Answer, Entry, Hits, MainName, Reply};
 use outside::{Failed, Sink};
 
-/// Writes the lines of a reply. Where that fails, a prefix of them was written. It takes no memory, and the sink sees few
-/// writes, however many entries there are.
+/// Writes the lines of a reply. Where that fails, a prefix of them was written. It takes no memory, and short lines are
+/// written together, up to 4,096 bytes at a time.
 pub fn write_reply<K: Sink>(out: &mut K, reply: &Reply<'_>) -> Result<(), Failed>
     requires { PlacesFit (reply_seen reply.now) }
     ensures ok { OnOk result (Appends (K.written out.old) (K.written out.new) (text_of_reply (reply_seen reply.now))) }
