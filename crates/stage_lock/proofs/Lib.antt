@@ -1,0 +1,9 @@
+pub mod Stages
+pub mod Turns
+pub mod Seats
+pub mod Steps
+pub mod TurnSteps
+pub mod Passes
+pub mod Starts
+pub mod FactsHold
+pub mod Closes
