@@ -1,19 +1,19 @@
 -- What the last state of a lock tells.
-use Rattle.std.proofs.Common.{◌≡◌, ◌≢◌, ℕ, List, [], ◌∷◌, get_or, true, false, Option, Some, None, sym, refl, ap, ◌∙◌, subst}
-use Rattle.std.specs.Prelude.{IsSome, IfSome, MatchOption}
+use Rattle.std.proofs.Common.{◌≡◌, ◌≢◌, ℕ, List, [], ◌∷◌, get_or, true, false, Option, sym, ap, ◌∙◌, subst}
+use Rattle.std.specs.Prelude.{MatchOption}
 use Rattle.std.proofs.lemmas.Bool.{false≢true}
-use mathlib.Core.Option.{some, none, some-injective, some-ne-none}
+use mathlib.Core.Option.{some, some-injective, some-ne-none}
 use lib.ListN.{get_elem?}
 use Rattle.atomic_table.specs.Seated.{TableId}
 use Rattle.index_model.specs.Stages.{IsReachable}
 use Rattle.stage_lock.specs.declared.known.Known.{Known}
-use Rattle.stage_lock.specs.declared.known.Turn.TheVariants.{Without, Out}
+use Rattle.stage_lock.specs.declared.known.Turn.TheVariants.{Without}
 use Rattle.stage_lock.specs.Rule.{word_of, Holds}
 use Rattle.stage_lock.specs.Facts.{LockState, turn, IsHome, IsPass}
 use Rattle.stage_lock.specs.Seen.{Lock, Seen, seen, is_holding}
 use Rattle.stage_lock.specs.Closing.{IsHeldByAnother, ClosesWith}
 use Rattle.stage_lock.proofs.Seats.{turn_at}
-use Rattle.stage_lock.proofs.Turns.{dec_without, free, taken, held_turn}
+use Rattle.stage_lock.proofs.Turns.{free, taken, held_turn}
 use Rattle.stage_lock.proofs.FactsHold.{live, holder_of, facts_hold}
 
 pub word_found : (ws : List ℕ) (n : ℕ) (vs : List ℕ) → get_elem? ws 0 ≡ some n → vs ≡ ws → get_or vs 0 0 ≡ n

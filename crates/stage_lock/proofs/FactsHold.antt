@@ -1,15 +1,14 @@
 -- The rule has the facts.
-use Rattle.std.proofs.Common.{◌≡◌, ◌≢◌, ℕ, ◌≤◌, List, [], ◌∷◌, All, get_or, Option, Some, None, sym, refl, ap, ◌∙◌, subst, ⊎_elim, inl, inr, arith}
+use Rattle.std.proofs.Common.{◌≡◌, ◌≢◌, ℕ, ◌≤◌, All, Some, None, sym, refl, ap, ◌∙◌, subst, ⊎_elim, inl, inr}
 use Rattle.std.specs.Prelude.{IsSome, IfSome, ◌↔◌, ◌⊎◌}
 use mathlib.Core.Logic.{dite}
-use mathlib.Core.Option.{some, none, some-injective, some-ne-none}
+use mathlib.Core.Option.{some, some-injective, some-ne-none}
 use lib.ListN.{get_elem?}
 use Rattle.index_model.specs.Stages.{IsReachable}
 use Rattle.stage_lock.specs.declared.known.Known.{Known}
-use Rattle.stage_lock.specs.declared.known.Turn.{Turn}
-use Rattle.stage_lock.specs.declared.known.Turn.TheVariants.{Without, Won, Out, Back}
-use Rattle.stage_lock.specs.Rule.{word_of, Lives, Knows, Holds}
-use Rattle.stage_lock.specs.Facts.{LockState, turn, stage, IsHome, IsAway, IsPass, HasTurn, IsTaken, IsPublished, Facts}
+use Rattle.stage_lock.specs.declared.known.Turn.TheVariants.{Without, Out}
+use Rattle.stage_lock.specs.Rule.{word_of, Lives, Holds}
+use Rattle.stage_lock.specs.Facts.{LockState, turn, IsAway, IsPass, HasTurn, IsTaken, IsPublished, Facts}
 use Rattle.stage_lock.proofs.Seats.{lives, stage_at, turn_at}
 use Rattle.stage_lock.proofs.Turns.{dec_without, dec_out, free, taken, not_taken}
 

@@ -12,7 +12,7 @@ use Rattle.atomic_table.proofs.Lists.{at_set, set_else}
 use Rattle.index_model.specs.Stages.{IsReachable}
 use Rattle.stage_lock.specs.declared.known.Known.{Known}
 use Rattle.stage_lock.specs.declared.known.Turn.{Turn}
-use Rattle.stage_lock.specs.declared.known.Turn.TheVariants.{Without, Won, Out, Back}
+use Rattle.stage_lock.specs.declared.known.Turn.TheVariants.{Without, Out}
 use Rattle.stage_lock.specs.Rule.{word_of, Lives, Knows, Holds}
 use Rattle.stage_lock.proofs.Stages.{reach_on}
 use Rattle.stage_lock.proofs.Turns.{dec_without}

@@ -1,5 +1,6 @@
 -- Which stage leads to which.
-use Rattle.std.proofs.Common.{◌≡◌, ℕ, ◌<◌, ◌≤◌, subst, arith}
+use Rattle.std.proofs.Common.{◌≡◌, ℕ, ◌+◌, ◌<◌, ◌≤◌, subst, arith, ⊎_elim}
+use Rattle.std.specs.Prelude.{◌⊎◌}
 use mathlib.Core.Logic.{dite}
 use native.Mathlib.Decide.{dec_lt}
 use Rattle.index_model.specs.Stages.{IsReachable, same}
@@ -21,3 +22,7 @@ leads_between a b g p q le =
 -- of two stages that lead to one, the smaller leads to the greater
 pub reach_between : (a b g : ℕ) → IsReachable a g → IsReachable b g → a ≤ b → IsReachable a b
 reach_between a b g p q le = (order a b).1 (leads_between a b g ((order a g).0 p) ((order b g).0 q) le)
+
+-- a stage below 3 leads to the next one, and each to itself
+pub reach_next : (s t : ℕ) → (t ≡ s) ⊎ ((t ≡ s + 1) × (t ≤ 3)) → IsReachable s t
+reach_next s t h = (order s t).1 (⊎_elim (λ (e : t ≡ s). (omega arith, λ l. absurd (omega arith))) (λ (e : (t ≡ s + 1) × (t ≤ 3)). let e₀ = e.0 in let e₁ = e.1 in (omega arith, λ l. (omega arith, omega arith, λ f. absurd (omega arith)))) h)

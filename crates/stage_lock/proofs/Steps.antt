@@ -1,16 +1,16 @@
 -- The loads that leave the turn as it is keep the rule.
-use Rattle.std.proofs.Common.{◌≡◌, ℕ, ◌≤◌, max, [], ◌∷◌, ◌++◌, get_or, Some, refl, subst, sym, inr, ◌∙◌, arith}
+use Rattle.std.proofs.Common.{◌≡◌, ℕ, ◌≤◌, [], ◌∷◌, ◌++◌, get_or, refl, subst, sym, inr, ◌∙◌, arith}
 use Rattle.std.specs.Prelude.{All, IfSome, IsSome}
 use Rattle.std.proofs.lemmas.List.Elements.{All-push, All-nil}
 use Rattle.std.proofs.Math.Nat.{max-eq_left, max-eq_right}
 use mathlib.Core.Logic.{dite}
 use mathlib.Core.Option.{none}
 use native.Mathlib.Decide.{dec_le}
-use Rattle.atomic_table.specs.Table.{Me, step, keeps, Allows}
+use Rattle.atomic_table.specs.Table.{step, keeps, Allows}
 use Rattle.index_model.specs.Stages.{IsReachable}
 use Rattle.stage_lock.specs.declared.known.Known.{Known}
 use Rattle.stage_lock.specs.Moves.{adds_mark, settles}
-use Rattle.stage_lock.proofs.Seats.{View, St, M, Rule, lives, stage_at, unmoved}
+use Rattle.stage_lock.proofs.Seats.{St, M, Rule, lives, stage_at, unmoved}
 use Rattle.stage_lock.proofs.Stages.{reach_self, reach_between}
 
 module _ {V X : Type 0} (stage_of : V → ℕ) (subject : V → X) (fits : X → ℕ → Type 0) (about : X) where

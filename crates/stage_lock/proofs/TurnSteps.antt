@@ -1,5 +1,5 @@
 -- The steps of a turn keep the rule.
-use Rattle.std.proofs.Common.{◌≡◌, ◌≢◌, ℕ, ◌+◌, ◌≤◌, eqb, [], ◌∷◌, get_or, set, Option, Some, None, sym, refl, ap, ◌∙◌, subst, inr, arith, eq-eqb, ne_eqb}
+use Rattle.std.proofs.Common.{◌≡◌, ℕ, ◌+◌, ◌≤◌, eqb, [], ◌∷◌, get_or, set, Option, Some, None, sym, refl, ap, ◌∙◌, subst, inr, eq-eqb, ne_eqb}
 use Rattle.std.specs.Option.{unwrap_or}
 use Rattle.std.specs.Prelude.{IfSome, IsSome}
 use Rattle.std.proofs.lemmas.Bool.{false≢true}
@@ -9,13 +9,13 @@ use native.Mathlib.Decide.{ℕ_discrete}
 use lib.ListN.{get_elem?}
 use lib.Seq.{set-get_or}
 use prog.Atomic.{either}
-use Rattle.atomic_table.specs.Table.{Me, step, keeps, takes, gives, stepped, put_back, Allows}
+use Rattle.atomic_table.specs.Table.{step, keeps, takes, gives, stepped, put_back, Allows}
 use Rattle.index_model.specs.Stages.{IsReachable}
 use Rattle.stage_lock.specs.declared.known.Known.{Known}
 use Rattle.stage_lock.specs.declared.known.Turn.TheVariants.{Without, Won, Out, Back}
 use Rattle.stage_lock.specs.Rule.{word_of}
 use Rattle.stage_lock.specs.Moves.{tries_turn, notes_stage, publishes, unlocks, in_hand}
-use Rattle.stage_lock.proofs.Seats.{View, St, M, Rule, lives, stage_at, turn_at, unmoved, moved}
+use Rattle.stage_lock.proofs.Seats.{St, M, Rule, lives, stage_at, turn_at, unmoved, moved}
 use Rattle.stage_lock.proofs.Stages.{reach_self, reach_on}
 use Rattle.stage_lock.proofs.Turns.{free}
 

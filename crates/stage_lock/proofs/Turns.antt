@@ -1,5 +1,5 @@
 -- How far a pass is with its turn.
-use Rattle.std.proofs.Common.{◌≡◌, ◌≢◌, ℕ, true, false, refl, sym, arith}
+use Rattle.std.proofs.Common.{◌≡◌, ◌≢◌, true, false, refl, sym, arith}
 use Rattle.std.proofs.lemmas.Bool.{false≢true}
 use Rattle.stage_lock.specs.declared.known.Turn.{Turn}
 use Rattle.stage_lock.specs.declared.known.Turn.TheVariants.{Without, Won, Out, Back}

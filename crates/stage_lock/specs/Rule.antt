@@ -1,13 +1,13 @@
 -- The rule of the lock's table, by which each step is proved. Word 0 is TURN, word 1 is STAGE, and the one slot has the value.
 -- Facts says what it comes to.
-use Rattle.std.specs.Prelude.{◌≡◌, ◌≢◌, ◌⊎◌, ℕ, ◌≤◌, max, List, [], ◌∷◌, All, Option, Some, None}
+use Rattle.std.specs.Prelude.{◌≡◌, ◌≢◌, ◌⊎◌, ℕ, ◌≤◌, max, [], ◌∷◌, All, Option, Some, None}
 use mathlib.Core.Option.{some, none}
 use lib.ListN.{get_elem?}
 use Rattle.atomic_table.specs.Table.{State}
 use Rattle.index_model.specs.Stages.{IsReachable, stopped}
 use Rattle.stage_lock.specs.declared.known.Known.{Known}
 use Rattle.stage_lock.specs.declared.known.Turn.{Turn}
-use Rattle.stage_lock.specs.declared.known.Turn.TheVariants.{Without, Won, Out, Back}
+use Rattle.stage_lock.specs.declared.known.Turn.TheVariants.{Without, Out, Back}
 
 -- TURN, as the pass that is furthest with its turn has it
 abbrev pub word_of : Turn → ℕ

@@ -1,9 +1,9 @@
-use Rattle.std.proofs.Common.{◌≡◌, ◌≢◌, ℕ, ◌∷◌, Some, None, sym, ap, ◌∙◌, subst, get_or}
+use Rattle.std.proofs.Common.{◌≡◌, ◌≢◌, ℕ, Some, None, sym, ap, ◌∙◌, subst}
 use Rattle.std.specs.Prelude.{IfSome, MatchOption}
 use lib.ListN.{get_elem?}
-use mathlib.Core.Option.{some, some-injective}
+use mathlib.Core.Option.{some-injective}
 use Rattle.index_model.specs.Stages.{IsReachable}
-use Rattle.stage_lock.specs.Facts.{LockState, turn, IsHome}
+use Rattle.stage_lock.specs.Facts.{turn, IsHome}
 use Rattle.stage_lock.specs.Closing.{IsHeldByAnother}
 use Rattle.stage_lock.proofs.Closes.{word_found, value_is, held_by_another, closes_with}
 use Rattle.stage_lock.proofs.lock.StageLock.close.Goals as goal
