@@ -1,0 +1,7 @@
+pub mod Areas
+pub mod Header
+pub mod Addresses
+pub mod Pool
+pub mod Slots
+pub mod Shortcut
+pub mod Index

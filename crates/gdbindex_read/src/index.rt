@@ -1,0 +1,82 @@
+//! The whole index, and its look-ups.
+
+ghost use Rattle.std.specs.Prelude.{◌≡◌, option_map};
+ghost use Rattle.index_model.specs.GdbIndexRead.{gdb_index, gdb_index_hits, main_name, number_at};
+ghost use Rattle.index_model.specs.Gives.{GivesAlways};
+ghost use Rattle.index_model.specs.Seen.{main_seen};
+
+use crate::addresses::AddressArea;
+use crate::areas::Areas;
+use crate::elements::Elements;
+use crate::shortcut::Shortcut;
+use crate::symbols::SymbolTable;
+use index_model::MainName;
+use ix_base::Fault;
+use std::marker::Model;
+
+/// A `.gdb_index` without a fault. It borrows the bytes, and contracts see what they mean.
+#[derive(Drop)]
+pub struct GdbIndex<'a> {
+    addresses: AddressArea<'a>,
+    symbols: SymbolTable<'a>,
+    main: Option<Shortcut<'a>>,
+}
+
+impl<'a> Model for GdbIndex<'a> {
+    ghost use Rattle.index_model.specs.GdbIndexRead.{GdbIndex};
+
+    ghost Value = { GdbIndex };
+
+    ghost use Rattle.gdbindex_read.specs.Index.{index_seen, IsAnIndex};
+
+    ghost view = { index_seen };
+
+    ghost invariant = { λ i. IsAnIndex (index_seen i) };
+}
+
+impl<'a> GdbIndex<'a> {
+    /// The index in these bytes, or its first fault, with its place in them.
+    pub fn open(bytes: &'a [u8]) -> Result<GdbIndex<'a>, Fault>
+        ensures { GivesAlways (λ i. i) result (gdb_index bytes.now) }
+    {
+        let areas = Areas::open(bytes)?;
+        areas.check_units()?;
+        let addresses = AddressArea::open(&areas)?;
+        let symbols = SymbolTable::open(&areas)?;
+        let main = Shortcut::open(&areas)?;
+        symbols.check_paths()?;
+        Ok(GdbIndex {
+            addresses,
+            symbols,
+            main,
+        })
+    }
+
+    /// The elements of a name: those of each slot that isn't empty and whose string is the name, in the order of the table.
+    pub fn find(&self, name: &[u8]) -> Elements<'a>
+        ensures { result ≡ gdb_index_hits self.now name.now }
+    {
+        self.symbols.find(name)
+    }
+
+    /// The index number of the unit of the first address entry that contains the address. An entry doesn't contain its end.
+    pub fn unit_at(&self, address: u64) -> Option<u32>
+        ensures { result ≡ number_at self.now address }
+    {
+        self.addresses.unit_at(address)
+    }
+
+    /// The language of main and its name, where the index has them and the language fits in 16 bits.
+    pub fn main_name(&self) -> Option<MainName<'a>>
+        ensures { option_map main_seen result ≡ main_name self.now }
+    {
+        let main = self.main?;
+        if main.language > u32::from(u16::MAX) {
+            return None;
+        }
+        Some(MainName {
+            language: main.language as u16,
+            name: main.name,
+        })
+    }
+}
