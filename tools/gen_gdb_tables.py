@@ -13,7 +13,8 @@ import sys
 import gen_tables
 import gen_vectors
 
-PATH = os.path.join(gen_vectors.CRATES, 'gdbindex_read/src/tests/rows.rt')
+FOLDER = os.path.join(gen_vectors.CRATES, 'gdbindex_read/src/tests')
+WRITTEN = '// Written by tools/gen_gdb_tables.py; not to be changed by hand.\n\n'
 # bits 28 to 31 of an element (GDB manual, "Index Section Format")
 KINDS = {'type': 1, 'variable': 2, 'function': 3, 'other': 4}
 STATIC = 2 ** 31
@@ -52,22 +53,22 @@ def tables():
             found = re.match(r'main (\w+) (\w+)$', told[0])
             wanted = found and (LANGUAGES.get(found.group(1)) or int(found.group(1), 16), found.group(2))
             mains.append(case + ['Some((%#x, b"%s"))' % wanted if found else 'None'])
-    return '\n'.join([
-        gen_tables.table('FAULTS', 'An index, and its first fault.', '(&str, &[u8], (u8, u64))', faults),
+    return {'fault_rows.rt': gen_tables.table('FAULTS', 'An index, and its first fault.', '(&str, &[u8], (u8, u64))', faults), 'rows.rt': '\n'.join([
         gen_tables.table('NAMES', 'An index, a name, and its elements without the bits 24 to 27.', '(&str, &[u8], &[u8], &[u32])', names),
         gen_tables.table('ADDRESSES', 'An index, an address, and its unit.', '(&str, &[u8], u64, Option<u32>)', addresses),
-        gen_tables.table('MAINS', 'An index, and its main: the language and the name.', '(&str, &[u8], Option<(u16, &[u8])>)', mains)])
+        gen_tables.table('MAINS', 'An index, and its main: the language and the name.', '(&str, &[u8], Option<(u16, &[u8])>)', mains)])}
 
 
 def main():
-    text = '// Written by tools/gen_gdb_tables.py; not to be changed by hand.\n\n' + tables()
-    if '--check' in sys.argv[1:]:
-        if not os.path.isfile(PATH) or gen_tables.squeezed(gen_vectors.read(PATH).decode()) != gen_tables.squeezed(text):
-            sys.exit('%s is not what would be written' % PATH)
-    else:
-        os.makedirs(os.path.dirname(PATH), exist_ok=True)
-        with open(PATH, 'w') as out:
-            out.write(text)
+    for name, made in tables().items():
+        path, text = os.path.join(FOLDER, name), WRITTEN + made
+        if '--check' in sys.argv[1:]:
+            if not os.path.isfile(path) or gen_tables.squeezed(gen_vectors.read(path).decode()) != gen_tables.squeezed(text):
+                sys.exit('%s is not what would be written' % path)
+        else:
+            os.makedirs(FOLDER, exist_ok=True)
+            with open(path, 'w') as out:
+                out.write(text)
 
 
 if __name__ == '__main__':

@@ -79,7 +79,10 @@ fn check_shortcut(version: Version, shortcut: &Area<'_>) -> Result<(), Fault>
 {
     match version {
         Version::Eight => Ok(()),
-        Version::Nine if shortcut.bytes.len() < SHORTCUT_LENGTH => Err(fault(GDB_OFFSETS, SHORTCUT_FIELD)),
+        Version::Nine if shortcut.bytes.len() < SHORTCUT_LENGTH => Err(fault(
+            GDB_OFFSETS,
+            SHORTCUT_FIELD,
+        )),
         Version::Nine => Ok(()),
     }
 }

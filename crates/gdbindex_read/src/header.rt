@@ -15,7 +15,7 @@ use index_model::index_code::{GDB_OFFSETS, GDB_VERSION};
 use ix_base::Fault;
 
 /// The versions that are read.
-#[derive(Clone, Copy, Debug, PartialEq, Eq)]
+#[derive(Clone, Copy)]
 pub(crate) enum Version {
     Eight,
     /// It has a shortcut between the symbol table and the constant pool.

@@ -36,6 +36,11 @@ impl<'a> Model for GdbIndex<'a> {
 
 impl<'a> GdbIndex<'a> {
     /// The index in these bytes, or its first fault, with its place in them.
+    ///
+    /// Each name is read, hashed and looked up once, and each vector read once. On an index that a writer made this is near
+    /// linear in its length. At worst each slot costs as much as all of the constant pool, where the names are ends of one
+    /// text or the slots share one vector; and where all slots are full, as much as the whole table, each of whose names
+    /// is then compared.
     pub fn open(bytes: &'a [u8]) -> Result<GdbIndex<'a>, Fault>
         ensures { GivesAlways (λ i. i) result (gdb_index bytes.now) }
     {
@@ -53,6 +58,7 @@ impl<'a> GdbIndex<'a> {
     }
 
     /// The elements of a name: those of each slot that isn't empty and whose string is the name, in the order of the table.
+    /// The path of the name is walked up to the first slot that is empty or has the name.
     pub fn find(&self, name: &[u8]) -> Elements<'a>
         ensures { result ≡ gdb_index_hits self.now name.now }
     {
@@ -60,6 +66,7 @@ impl<'a> GdbIndex<'a> {
     }
 
     /// The index number of the unit of the first address entry that contains the address. An entry doesn't contain its end.
+    /// The entries may be in any order, so they are gone over one by one.
     pub fn unit_at(&self, address: u64) -> Option<u32>
         ensures { result ≡ number_at self.now address }
     {

@@ -15,9 +15,9 @@ impl<'a> Filter<'a> {
     pub fn new(bytes: &'a [u8]) -> Filter<'a> {
         Filter {
             bytes,
-            table: number(bytes, 16),
-            end: number(bytes, 20),
-            pool: number(bytes, if number(bytes, 0) == 9 { 24 } else { 20 }),
+            table: offset(bytes, 16),
+            end: offset(bytes, 20),
+            pool: offset(bytes, if number(bytes, 0) == 9 { 24 } else { 20 }),
         }
     }
 
@@ -29,7 +29,10 @@ impl<'a> Filter<'a> {
     // The offsets of a slot.
     fn slot(&self, slot: usize) -> (usize, usize) {
         let at = self.table.wrapping_add(slot.wrapping_mul(8));
-        (number(self.bytes, at), number(self.bytes, at.wrapping_add(4)))
+        (
+            offset(self.bytes, at),
+            offset(self.bytes, at.wrapping_add(4)),
+        )
     }
 
     /// The string of a slot.
@@ -49,9 +52,9 @@ impl<'a> Filter<'a> {
                 continue;
             }
             let at = self.pool.wrapping_add(vector);
-            for i in 0..number(self.bytes, at) {
+            for i in 0..offset(self.bytes, at) {
                 let element = at.wrapping_add(4).wrapping_add(i.wrapping_mul(4));
-                elements.push(number(self.bytes, element) as u32)?;
+                elements.push(number(self.bytes, element))?;
             }
         }
         Ok(elements)
@@ -59,10 +62,20 @@ impl<'a> Filter<'a> {
 }
 
 // The number in four bytes, the lowest first.
-fn number(bytes: &[u8], at: usize) -> usize {
-    let mut number = 0usize;
-    for byte in bytes.get(at..at.wrapping_add(4)).unwrap_or(&[]).iter().rev() {
-        number = number.wrapping_mul(256).wrapping_add(*byte as usize);
+fn number(bytes: &[u8], at: usize) -> u32 {
+    let mut number = 0u32;
+    for byte in bytes
+        .get(at..at.wrapping_add(4))
+        .unwrap_or(&[])
+        .iter()
+        .rev()
+    {
+        number = number.wrapping_mul(256).wrapping_add(u32::from(*byte));
     }
     number
+}
+
+// The same, as an offset.
+fn offset(bytes: &[u8], at: usize) -> usize {
+    number(bytes, at) as usize
 }
