@@ -1,0 +1,16 @@
+pub mod Lists
+pub mod Orders
+pub mod UnitLaws
+pub mod SortLaws
+pub mod GroupLaws
+pub mod RowLaws
+pub mod LebLaws
+pub mod NameLaws
+pub mod BucketLaws
+pub mod PoolLaws
+pub mod TableLaws
+pub mod Whole
+pub mod Stops
+pub mod NamesMade
+pub mod Assembly
+pub mod Written

@@ -1,0 +1,121 @@
+-- The entry pool, group by group.
+use Rattle.std.proofs.Common.{◌≡◌, ℕ, suc, ◌+◌, ◌<◌, ◌≤◌, List, [], ◌∷◌, ◌++◌, length, get_or, take, map, refl, sym, ap, ◌∙◌, arith, length-append, append_assoc}
+use Rattle.std.specs.Prelude.{All, flat_map}
+use Rattle.std.proofs.lemmas.List.Folds.{length-flat_map-take}
+use Rattle.std.proofs.lemmas.List.{take_more, take_all, get_or_default}
+use Rattle.std.proofs.lemmas.List.FromFn.{map-range_with_len_more}
+use Rattle.std.proofs.lemmas.List.Concat.{flat_map-append}
+use Rattle.index_model.specs.Layout.{below, u32_bytes, ended, start_of}
+use Rattle.index_model.specs.NameIndex.{Row as IndexRow, uleb_bytes, entry_bytes, row_eq}
+use Rattle.index_model.specs.Ordered.{place_of}
+use Rattle.debugnames_write.specs.declared.item.Item.{Item}
+use Rattle.debugnames_write.specs.declared.name.Name.{Name}
+use Rattle.debugnames_write.specs.declared.pool.PoolPlaces.{PoolPlaces}
+use Rattle.debugnames_write.specs.Laid.{entries_bytes, groups_bytes, pool_bytes}
+use Rattle.debugnames_write.specs.Names.{ArePlacesIn}
+use Rattle.debugnames_write.specs.Rows.{row_seen}
+use Rattle.debugnames_write.specs.Seen.{item_seen, items_seen}
+use Rattle.debugnames_write.proofs.Lists.{flat_map-map}
+use Rattle.debugnames_write.proofs.NameLaws.{start_is}
+
+-- the items before one and that one
+pub flat_map_at : {X Y : Type 0} (f : X → List Y) (xs : List X) (i : ℕ) (x : X) → i < length xs → x ≡ get_or xs i x → flat_map f (take (i + 1) xs) ≡ flat_map f (take i xs) ++ f x
+flat_map_at {Y = Y} f xs i x lt is =
+    let front : take (i + 1) xs ≡ take i xs ++ x ∷ [] = rw (take_more xs i x lt, ← is) refl in
+    ap (flat_map f) front ∙ flat_map-append f (take i xs) (x ∷ []) ∙ ap (λ (w : List Y). flat_map f (take i xs) ++ w) (append_nil (f x))
+  where
+    append_nil : (ys : List Y) → ys ++ [] ≡ ys
+    append_nil [] = refl
+    append_nil (y ∷ ys) = ap (λ (w : List Y). y ∷ w) (append_nil ys)
+
+-- they aren't longer than all
+pub flat_map_up : {X Y : Type 0} (f : X → List Y) (xs : List X) (i : ℕ) (x : X) → i < length xs → x ≡ get_or xs i x → length (flat_map f (take i xs)) + length (f x) ≤ length (flat_map f xs)
+flat_map_up f xs i x lt is = let h = length-flat_map-take f xs i x lt in rw (← is) at h
+
+-- ---- entries
+
+abbrev pub item_bytes : List IndexRow → Item → List ℕ
+item_bytes rows i = entry_bytes rows (item_seen i)
+
+pub item_size : (rows : List IndexRow) (i : Item) → length (item_bytes rows i) ≡ length (uleb_bytes (place_of row_eq (row_seen i.row) rows + 1)) + length (uleb_bytes i.unit) + 4
+item_size rows i =
+    let code : List ℕ = uleb_bytes (place_of row_eq (row_seen i.row) rows + 1) in
+    length-append (code ++ uleb_bytes i.unit) (u32_bytes i.offset) ∙ ap (λ (n : ℕ). n + 4) (length-append code (uleb_bytes i.unit))
+
+pub entries_are : (rows : List IndexRow) (items : List Item) → entries_bytes rows items ≡ flat_map (item_bytes rows) items ++ 0 ∷ []
+entries_are rows items = ap ended (flat_map-map (entry_bytes rows) item_seen items)
+
+pub entries_size : (rows : List IndexRow) (items : List Item) → length (entries_bytes rows items) ≡ length (flat_map (item_bytes rows) items) + 1
+entries_size rows items = ap (λ (w : List ℕ). length w) (entries_are rows items) ∙ length-append (flat_map (item_bytes rows) items) (0 ∷ [])
+
+-- ---- groups
+
+abbrev pub name_bytes : List IndexRow → Name → List ℕ
+name_bytes rows n = entries_bytes rows n.items.now
+
+pub pool_is : (rows : List IndexRow) (names : List Name) → pool_bytes rows names ≡ flat_map (name_bytes rows) names
+pool_is rows names = flat_map-map (λ (g : List ℕ). g) (name_bytes rows) names
+
+pub pool_start : (rows : List IndexRow) (names : List Name) (k : ℕ) → start_of (groups_bytes rows names) k ≡ length (flat_map (name_bytes rows) (take k names))
+pool_start rows names k = start_is (name_bytes rows) names k
+
+-- ---- the loops
+
+module _ (rows : List IndexRow) (items : List Item) (i : ℕ) (d : Item) (lt : i < length items) where
+  is_item : get_or items i d ≡ get_or items i (get_or items i d)
+  is_item = get_or_default items i d (get_or items i d) lt
+
+  -- the entries pass the limit where those so far and the next do
+  pub group_passes : (size more most : ℕ) → size ≡ length (flat_map (item_bytes rows) (take i items)) + 1
+      → more ≡ length (uleb_bytes (place_of row_eq (row_seen (get_or items i d).row) rows + 1)) + length (uleb_bytes (get_or items i d).unit) + 4
+      → most < size + more → most < length (entries_bytes rows items)
+  group_passes size more most is is_more pass =
+      let up = flat_map_up (item_bytes rows) items i (get_or items i d) lt is_item in
+      omega (arith, up, item_size rows (get_or items i d), entries_size rows items)
+
+pub group_whole : (rows : List IndexRow) (items : List Item) (i size : ℕ) → length items ≤ i → size ≡ length (flat_map (item_bytes rows) (take i items)) + 1 → size ≡ length (entries_bytes rows items)
+group_whole rows items i size le is =
+    let whole : length (flat_map (item_bytes rows) (take i items)) ≡ length (flat_map (item_bytes rows) items) = ap (λ (w : List Item). length (flat_map (item_bytes rows) w)) (take_all i items le) in
+    omega (arith, entries_size rows items)
+
+pub group_pushed : (rows : List IndexRow) (items : List Item) (i : ℕ) (old out new : List ℕ) → length items ≤ i → out ≡ old ++ flat_map (item_bytes rows) (take i items) → new ≡ out ++ 0 ∷ [] → new ≡ old ++ entries_bytes rows items
+group_pushed rows items i old out new le is pushed =
+    pushed ∙ ap (λ (w : List ℕ). w ++ 0 ∷ []) (is ∙ ap (λ (w : List Item). old ++ flat_map (item_bytes rows) w) (take_all i items le))
+    ∙ append_assoc old (flat_map (item_bytes rows) items) (0 ∷ []) ∙ ap (λ (w : List ℕ). old ++ w) (sym (entries_are rows items))
+
+pub pool_pushed : (rows : List IndexRow) (names : List Name) (i : ℕ) (old out : List ℕ) → length names ≤ i → out ≡ old ++ flat_map (name_bytes rows) (take i names) → out ≡ old ++ pool_bytes rows names
+pool_pushed rows names i old out le is = is ∙ ap (λ (w : List Name). old ++ flat_map (name_bytes rows) w) (take_all i names le) ∙ ap (λ (w : List ℕ). old ++ w) (sym (pool_is rows names))
+
+module _ (rows : List IndexRow) (names : List Name) (i : ℕ) (d : Name) (lt : i < length names) where
+  is_name : get_or names i d ≡ get_or names i (get_or names i d)
+  is_name = get_or_default names i d (get_or names i d) lt
+
+  up : length (flat_map (name_bytes rows) (take i names)) + length (entries_bytes rows (get_or names i d).items.now) ≤ length (pool_bytes rows names)
+  up = let h = flat_map_up (name_bytes rows) names i (get_or names i d) lt is_name in let same = ap (λ (w : List ℕ). length w) (pool_is rows names) in omega (arith, h, same)
+
+  pub one_passes : (most : ℕ) → most < length (entries_bytes rows (get_or names i d).items.now) → most < length (pool_bytes rows names)
+  one_passes most pass = omega (arith, up)
+
+  pub pool_passes : (size group most : ℕ) → size ≡ length (flat_map (name_bytes rows) (take i names)) → group ≡ length (entries_bytes rows (get_or names i d).items.now) → most < size + group → most < length (pool_bytes rows names)
+  pool_passes size group most is is_group pass = omega (arith, up)
+
+  pub pool_more : (size group next : ℕ) → size ≡ length (flat_map (name_bytes rows) (take i names)) → group ≡ length (entries_bytes rows (get_or names i d).items.now) → next ≡ size + group → next ≡ length (flat_map (name_bytes rows) (take (i + 1) names))
+  pool_more size group next is is_group sum =
+      let on : length (flat_map (name_bytes rows) (take (i + 1) names)) ≡ length (flat_map (name_bytes rows) (take i names)) + length (entries_bytes rows (get_or names i d).items.now) =
+          ap (λ (w : List ℕ). length w) (flat_map_at (name_bytes rows) names i (get_or names i d) lt is_name) ∙ length-append (flat_map (name_bytes rows) (take i names)) (entries_bytes rows (get_or names i d).items.now) in
+      omega (arith, on)
+
+pub starts_more : (rows : List IndexRow) (names : List Name) (i size : ℕ) (starts : List ℕ) → starts ≡ map (start_of (groups_bytes rows names)) (below i) → size ≡ length (flat_map (name_bytes rows) (take i names))
+    → starts ++ size ∷ [] ≡ map (start_of (groups_bytes rows names)) (below (i + 1))
+starts_more rows names i size starts is is_size =
+    let at : size ≡ start_of (groups_bytes rows names) i = is_size ∙ sym (pool_start rows names i) in
+    (λ k. is k ++ at k ∷ []) ∙ sym (map-range_with_len_more (start_of (groups_bytes rows names)) 0 i i (omega arith))
+
+pub places_all : (rows : List IndexRow) (names : List Name) (i : ℕ) (p : PoolPlaces) → length names ≤ i → i ≤ length names → p.starts.items ≡ map (start_of (groups_bytes rows names)) (below i) → p.size ≡ length (flat_map (name_bytes rows) (take i names)) → p.size ≤ 4294967283 → ArePlacesIn rows names p
+places_all rows names i p le ge starts size fits =
+    let end : i ≡ length names = omega arith in
+    record {
+      starts = starts ∙ ap (λ (n : ℕ). map (start_of (groups_bytes rows names)) (below n)) end;
+      size = size ∙ ap (λ (w : List Name). length (flat_map (name_bytes rows) w)) (take_all i names le) ∙ sym (ap (λ (w : List ℕ). length w) (pool_is rows names));
+      fits = fits;
+    }

@@ -1,0 +1,14 @@
+use Rattle.std.proofs.Common.{◌≡◌, ◌+◌, ◌≤◌, length, take, map, All}
+use Rattle.std.specs.Prelude.{flat_map}
+use Rattle.index_model.specs.Layout.{ended}
+use Rattle.debugnames_write.specs.Groups.{group_names}
+use Rattle.debugnames_write.specs.Names.{kept_of_name, kept_of_group, IsNameOf}
+use Rattle.debugnames_write.proofs.name.names_of.Given as goal
+
+abbrev pub invariant-loop-group : goal.invariant-loop-group
+invariant-loop-group l = record {
+  kept : map kept_of_name l.names.items ≡ map kept_of_group (take l.group-index l.groups);
+  each : All (IsNameOf (group_names l.groups) l.old_strings) l.names.items;
+  end : l.end ≡ l.old_strings + length (flat_map ended (take l.group-index (group_names l.groups)));
+  fits : l.end ≤ 4294967295;
+}

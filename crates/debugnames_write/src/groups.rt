@@ -1,0 +1,54 @@
+//! The entries of each name.
+
+ghost use Rattle.std.specs.Prelude.{◌≡◌, ◌<◌, ◌-◌, ◌∷◌, [], length, MatchBool, IfOk, OnOk};
+ghost use Rattle.debugnames_write.specs.Groups.{AreSorted, SameByName, AreGroupsOf, GoesOnAt};
+ghost use Rattle.debugnames_write.specs.Seen.{items_seen};
+
+use crate::item::Item;
+use std::alloc::{AllocError, Global};
+
+/// A name and its entries, in section order.
+#[derive(Clone, Copy)]
+pub(crate) struct Group<'r> {
+    pub name: &'r [u8],
+    pub items: &'r [Item<'r>],
+}
+
+/// Sorts entries by name. Those of one name stay in their order.
+pub(crate) fn sort_items(items: &mut Vec<Item<'_>>) -> Result<(), AllocError>
+    ensures sorted { OnOk result (AreSorted items.new.items) }
+    ensures same { SameByName (items_seen items.old.items) (items_seen items.new.items) }
+{
+    items.sort()
+}
+
+/// The groups of sorted entries, one for each name, in byte order.
+pub(crate) fn groups_of<'r>(
+    alloc: Global,
+    items: &'r [Item<'r>],
+) -> Result<Vec<Group<'r>>, AllocError>
+    requires { AreSorted items.now }
+    ensures { IfOk result (λ v. AreGroupsOf (items_seen items.now) v.items) }
+{
+    let mut groups = Vec::new(alloc);
+    let mut start = 0;
+    for i in 0..items.len() {
+        let next = i + 1;
+        if !goes_on_at(items, next) {
+            groups.push(Group {
+                name: items[i].name,
+                items: &items[start..next],
+            })?;
+            start = next;
+        }
+    }
+    Ok(groups)
+}
+
+// Whether the entry at the index has the name of the one before it.
+fn goes_on_at(items: &[Item<'_>], index: usize) -> bool
+    requires { 0 < index }
+    ensures { MatchBool result (GoesOnAt items.now index) (GoesOnAt items.now index → ⊥) }
+{
+    index < items.len() && items[index].name == items[index - 1].name
+}

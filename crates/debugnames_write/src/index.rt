@@ -1,0 +1,105 @@
+//! The bytes of the index (DWARF 5, section 6.1.1.4).
+
+ghost use Rattle.std.specs.Prelude.{◌≡◌, ◌<◌, ◌≤◌, ◌++◌, length, All, OnOk};
+ghost use Rattle.debugnames_write.specs.Answers.{Answers};
+ghost use Rattle.debugnames_write.specs.Laid.{laid_out, head_with, hash_bytes, string_bytes};
+ghost use Rattle.debugnames_write.specs.Names.{HaveBuckets, HaveRows};
+ghost use Rattle.debugnames_write.specs.Units.{ArePlacesOf};
+
+use crate::abbreviations::Abbreviations;
+use crate::buckets::buckets_of;
+use crate::limits::{MAX_INDEX, grown};
+use crate::name::Name;
+use crate::numbers::{push_u16, push_u32, push_u32s};
+use crate::pool::{pool_places, push_pool};
+use crate::units::{UnitPlaces, push_unit_offsets};
+use crate::writer::WriteStop;
+use index_model::Unit;
+use std::alloc::{AllocError, Global};
+
+const VERSION: u16 = 5;
+
+// The length, the version, the padding and the counts.
+const HEADER_SIZE: u64 = 36;
+
+// The length doesn't count its own bytes.
+const LENGTH_SIZE: u64 = 4;
+
+// An offset of a unit.
+const UNIT_SIZE: u64 = 4;
+
+// A bucket, a hash, and the offsets of a name's string and of its entries.
+const NAME_SIZE: u64 = 16;
+
+/// The bytes of the index over these names in their order.
+pub(crate) fn index_bytes(
+    alloc: Global,
+    units: &[Unit],
+    places: &UnitPlaces,
+    abbreviations: &Abbreviations,
+    names: &[Name<'_>],
+) -> Result<Vec<u8>, WriteStop>
+    requires units { length units.now ≤ 16777215 }
+    requires starts { All (λ u. u.start < 4294967296) units.now }
+    requires places { ArePlacesOf units.now places.now }
+    requires few { length names.now < 4294967296 }
+    requires buckets { HaveBuckets names.now }
+    requires rows { All (λ n. HaveRows abbreviations.now n.items.now) names.now }
+    ensures { Answers result (λ v. (v.items ≡ laid_out units.now abbreviations.now names.now) × (length v.items ≤ 4294967283)) (4294967283 < length (laid_out units.now abbreviations.now names.now)) }
+{
+    let table_size = abbreviations.size()?;
+    let pool = pool_places(alloc, abbreviations, names)?;
+    let listed = places.compile_units as u64 + places.type_units as u64;
+    let front = HEADER_SIZE + listed * UNIT_SIZE + names.len() as u64 * NAME_SIZE;
+    let size = grown(grown(front, table_size, MAX_INDEX)?, pool.size, MAX_INDEX)?;
+    let buckets = buckets_of(alloc, names)?;
+    let mut out = Vec::with_capacity(alloc, size as usize)?;
+    push_u32(&mut out, (size - LENGTH_SIZE) as u32)?;
+    push_counts(&mut out, places, names.len() as u32, table_size as u32)?;
+    push_unit_offsets(&mut out, units, false)?;
+    push_unit_offsets(&mut out, units, true)?;
+    push_u32s(&mut out, &buckets)?;
+    push_hashes(&mut out, names)?;
+    push_strings(&mut out, names)?;
+    push_u32s(&mut out, &pool.starts)?;
+    abbreviations.push(&mut out)?;
+    push_pool(&mut out, abbreviations, names)?;
+    Ok(out)
+}
+
+// Appends version, padding and counts: of units, which aren't foreign, of buckets, of names, and of the bytes of the
+// abbreviations and of the augmentation.
+fn push_counts(
+    out: &mut Vec<u8>,
+    places: &UnitPlaces,
+    names: u32,
+    table_size: u32,
+) -> Result<(), AllocError>
+    ensures { OnOk result (out.new.items ≡ out.old.items ++ head_with places.now names table_size) }
+{
+    push_u16(out, VERSION)?;
+    push_u16(out, 0)?;
+    let compile_units = places.compile_units;
+    let type_units = places.type_units;
+    push_u32s(out, &[compile_units, type_units, 0, names, names, table_size, 0])
+}
+
+// Appends the hash of each name.
+fn push_hashes(out: &mut Vec<u8>, names: &[Name<'_>]) -> Result<(), AllocError>
+    ensures { OnOk result (out.new.items ≡ out.old.items ++ hash_bytes names.now) }
+{
+    for name in names {
+        push_u32(out, name.hash)?;
+    }
+    Ok(())
+}
+
+// Appends where the string of each name stands.
+fn push_strings(out: &mut Vec<u8>, names: &[Name<'_>]) -> Result<(), AllocError>
+    ensures { OnOk result (out.new.items ≡ out.old.items ++ string_bytes names.now) }
+{
+    for name in names {
+        push_u32(out, name.string)?;
+    }
+    Ok(())
+}

@@ -1,0 +1,77 @@
+//! The call that writes an index.
+
+ghost use Rattle.std.specs.Prelude.{◌≡◌, IfOk, IfErr, OnOk};
+ghost use Rattle.index_model.specs.NameIndex.{name_index_bytes, name_index_strings};
+ghost use Rattle.debugnames_write.specs.Conditions.{AreIndexable, Fits};
+ghost use Rattle.debugnames_write.specs.declared.writer.WriteStop.TheVariants as stops;
+
+use crate::abbreviations::Abbreviations;
+use crate::groups::{groups_of, sort_items};
+use crate::index::index_bytes;
+use crate::item::items_of;
+use crate::name::{names_of, sort_names};
+use crate::strings::strings_of;
+use crate::units::UnitPlaces;
+use index_model::{List, Unit};
+use query_engine::Table;
+use std::alloc::{AllocError, AllocFailed, Global};
+
+/// The bytes of a `.debug_names`, and the strings that are appended to `.debug_str`.
+#[derive(Drop)]
+pub struct NameBytes {
+    pub names: List<u8>,
+    pub strings: List<u8>,
+}
+
+/// Why there is no index.
+#[derive(Clone, Copy, Debug, PartialEq, Eq)]
+pub enum WriteStop {
+    /// The index would have more than 4,294,967,283 bytes, or `.debug_str` with the added strings more than 4,294,967,295.
+    TooLarge,
+    /// Memory was refused.
+    Memory,
+}
+
+impl From<AllocError> for WriteStop {
+    ghost from_gives = { λ _ e. e ≡ stops.Memory };
+
+    fn from(_error: AllocError) -> WriteStop {
+        WriteStop::Memory
+    }
+}
+
+impl<T: Drop> From<AllocFailed<T>> for WriteStop {
+    ghost from_gives = { λ _ e. e ≡ stops.Memory };
+
+    fn from(_error: AllocFailed<T>) -> WriteStop {
+        WriteStop::Memory
+    }
+}
+
+/// The index of these units and entries, in a program whose `.debug_str` has so many bytes before it gets the index's strings.
+pub fn write(
+    alloc: Global,
+    units: &[Unit],
+    old_strings: u64,
+    table: &Table<'_>,
+) -> Result<NameBytes, WriteStop>
+    requires { AreIndexable units.now table.now }
+    ensures names { IfOk result (λ bytes. bytes.names ≡ name_index_bytes units.now old_strings table.now) }
+    ensures strings { IfOk result (λ bytes. bytes.strings ≡ name_index_strings units.now table.now) }
+    ensures fits { OnOk result (Fits units.now old_strings table.now) }
+    ensures too_large { IfErr result (λ stop. stop ≡ stops.TooLarge → ¬ Fits units.now old_strings table.now) }
+{
+    let places = UnitPlaces::of(alloc, units)?;
+    let mut items = items_of(alloc, units, &places, table.entries())?;
+    let abbreviations = Abbreviations::of(alloc, &items)?;
+    sort_items(&mut items)?;
+    let groups = groups_of(alloc, &items)?;
+    let mut named = names_of(alloc, &groups, old_strings)?;
+    sort_names(&mut named.names)?;
+    let names = index_bytes(alloc, units, &places, &abbreviations, &named.names)?;
+    let strings = strings_of(alloc, &groups, (named.strings_end - old_strings) as usize)?;
+    Ok(NameBytes {
+        names: List::of(names),
+        strings: List::of(strings),
+    })
+}
