@@ -1,9 +1,9 @@
 -- The size of an index, and its parts one after the other.
-use Rattle.std.proofs.Common.{◌≡◌, ℕ, ◌+◌, ◌*◌, ◌-◌, ◌<◌, ◌≤◌, true, false, List, [], ◌∷◌, ◌++◌, length, map, refl, sym, ap, ◌∙◌, arith, length-append}
+use Rattle.std.proofs.Common.{◌≡◌, ℕ, ◌+◌, ◌*◌, ◌-◌, ◌<◌, true, false, List, [], ◌∷◌, ◌++◌, length, map, ap, ◌∙◌, arith, length-append}
 use Rattle.std.specs.Prelude.{flat_map}
 use Rattle.index_model.specs.declared.unit.Unit.{Unit as UnitHeader}
 use Rattle.index_model.specs.Layout.{below, u16_bytes, u32_bytes, start_of}
-use Rattle.index_model.specs.NameIndex.{Row as IndexRow, abbreviation_table, bucket, units_of_sort, unit_offsets}
+use Rattle.index_model.specs.NameIndex.{Row as IndexRow, abbreviation_table, bucket, unit_offsets}
 use Rattle.debugnames_write.specs.declared.name.Name.{Name}
 use Rattle.debugnames_write.specs.declared.units.UnitPlaces.{UnitPlaces}
 use Rattle.debugnames_write.specs.Laid.{laid_out, body_bytes, head_bytes, head_with, bucket_bytes, hash_bytes, string_bytes, start_bytes, groups_bytes, pool_bytes}

@@ -4,7 +4,7 @@ use Rattle.std.specs.Prelude.{All, Contains, bytes_eq}
 use Rattle.std.proofs.lemmas.Bool.{cases_lt}
 use Rattle.std.proofs.lemmas.List.{get_or_append_left, get_or_push, get_or_default, length-map, map-append, take-map, drop-map}
 use Rattle.std.proofs.lemmas.List.Elements.{All-push}
-use Rattle.index_model.specs.NameIndex.{Indexed, names_in}
+use Rattle.index_model.specs.NameIndex.{Indexed}
 use Rattle.index_model.specs.Ordered.{ascending, bytes_lt}
 use Rattle.query_engine.specs.Pairs.{ComesBefore}
 use Rattle.query_engine.proofs.TextOrder.{eq_from_same, eq_from_other, before_itself, before_trans, before_or_same, filter_piece}
@@ -108,9 +108,9 @@ module _ (items : List Item) (gs : List Group) (start i : ℕ) (sorted : AreSort
   piece =
       let width : start + ((i + 1) - start) ≡ i + 1 = omega (arith, h.upto) in
       filter_piece has (items_seen items) no_entry start ((i + 1) - start) (omega (arith, h.upto, size))
-          (λ k lt. other_name k (omega (arith, h.upto)) (λ same. before_itself (name_at items start) (rw same at (ahead k lt))))
-          (λ k from to. own_name k (omega arith) (h.same k from (omega arith) (omega arith)))
-          (λ k from to. other_name k (omega (arith, size)) (λ same. before_itself (name_at items start) (rw same at (behind k (omega arith) (omega (arith, size))))))
+      (λ k lt. other_name k (omega (arith, h.upto)) (λ same. before_itself (name_at items start) (rw same at (ahead k lt))))
+      (λ k from to. own_name k (omega arith) (h.same k from (omega arith) (omega arith)))
+      (λ k from to. other_name k (omega (arith, size)) (λ same. before_itself (name_at items start) (rw same at (behind k (omega arith) (omega (arith, size))))))
 
   module _ (g : Group) (named : g.name.now ≡ name_at items i) (has_items : g.items.now ≡ take ((i + 1) - start) (drop start items)) where
     starts : g.name.now ≡ name_at items start
@@ -119,7 +119,7 @@ module _ (items : List Item) (gs : List Group) (start i : ℕ) (sorted : AreSort
     new_group : IsGroupOf (items_seen items) g
     new_group =
         let cut : items_seen (take ((i + 1) - start) (drop start items)) ≡ take ((i + 1) - start) (drop start (items_seen items)) =
-            sym (take-map item_seen ((i + 1) - start) (drop start items)) ∙ ap (take ((i + 1) - start)) (sym (drop-map item_seen start items)) in
+        sym (take-map item_seen ((i + 1) - start) (drop start items)) ∙ ap (take ((i + 1) - start)) (sym (drop-map item_seen start items)) in
         ap items_seen has_items ∙ cut ∙ sym piece ∙ ap (λ (w : List ℕ). entries_named w (items_seen items)) (sym starts)
 
     names_push : group_names (gs ++ g ∷ []) ≡ group_names gs ++ g.name.now ∷ []

@@ -1,6 +1,6 @@
 -- Lists with their places, the first place that passes, and what lists of bytes give.
 use Rattle.std.proofs.Common.{◌≡◌, ℕ, zero, suc, ◌+◌, ◌<◌, Bool, true, false, not, List, [], ◌∷◌, ◌++◌, length, get_or, take, drop, map, Some, refl, ap, sym, ◌∙◌, arith, length-append}
-use Rattle.std.specs.Prelude.{All, Contains, position, flat_map}
+use Rattle.std.specs.Prelude.{All, position, flat_map}
 use Rattle.std.specs.List.{enumerate_from, prefix_len}
 use Rattle.std.proofs.lemmas.Bool.{lt-ltb}
 use Rattle.std.proofs.lemmas.List.{take_more, take-append-drop, drop_more, length-take-le}

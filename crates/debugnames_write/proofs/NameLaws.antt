@@ -1,15 +1,14 @@
 -- Names, their strings, and their order.
-use Rattle.std.proofs.Common.{◌≡◌, ◌≢◌, ℕ, zero, suc, ◌+◌, ◌%◌, ◌<◌, ◌≤◌, Bool, true, false, List, [], ◌∷◌, ◌++◌, length, get_or, take, drop, map, Option, Some, refl, sym, ap, ◌∙◌, subst, arith, length-append}
+use Rattle.std.proofs.Common.{◌≡◌, ℕ, ◌+◌, ◌%◌, ◌<◌, ◌≤◌, Bool, true, false, List, [], ◌∷◌, length, get_or, take, drop, map, Option, refl, sym, ap, ◌∙◌, arith}
 use mathlib.Core.Bool.{true≢false}
-use Rattle.std.specs.Prelude.{All, Contains, bytes_eq, flat_map, position, unwrap_or}
-use Rattle.std.specs.List.{sum_by}
+use Rattle.std.specs.Prelude.{All, bytes_eq, flat_map, position, unwrap_or}
 use Rattle.std.specs.List.Sorted.{IsPermutation, IsSorted}
 use Rattle.std.specs.Ordering.{nat_cmp, is_lt}
 use Rattle.std.specs.Cmp.Lexicographic.{slice_cmp}
 use Rattle.std.proofs.lemmas.Cmp.{nat_list_cmp_total, nat_list_eq_equiv}
 use Rattle.std.proofs.lemmas.List.{get_or-map, length-map, length-take-le, take-map, get_or-take, get_or_default}
 use Rattle.std.proofs.lemmas.List.Concat.{length-flat_map}
-use Rattle.std.proofs.lemmas.List.Sorted.{sorted_far, ranks_by, IsPermutation-map, IsPermutation-sym, Contains-permutation, length_permutation, All-permutation}
+use Rattle.std.proofs.lemmas.List.Sorted.{sorted_far, ranks_by, IsPermutation-map, IsPermutation-sym, Contains-permutation, All-permutation}
 use Rattle.std.proofs.lemmas.Map.Keys.{IsDistinct-IsPermutation, apart_from_distinct}
 use Rattle.index_model.specs.Hashes.{name_hash}
 use Rattle.index_model.specs.Layout.{ended, start_of}
@@ -17,7 +16,6 @@ use Rattle.index_model.specs.NameIndex.{name_lt, in_index_order, string_offset}
 use Rattle.index_model.specs.Ordered.{ascending, bytes_lt, place_of}
 use Rattle.query_engine.proofs.TextOrder.{eq_from_same}
 use Rattle.debugnames_write.specs.declared.name.Name.{Name}
-use Rattle.debugnames_write.specs.Names.{IsNameOf, HaveBuckets}
 use Rattle.debugnames_write.specs.Order.{Rises}
 use Rattle.debugnames_write.specs.Seen.{name_key, texts}
 use Rattle.debugnames_write.proofs.Lists.{around, position_at, flat_map-map}

@@ -1,5 +1,5 @@
 -- The names of groups, one after the other.
-use Rattle.std.proofs.Common.{◌≡◌, ℕ, ◌+◌, ◌%◌, ◌<◌, ◌≤◌, List, [], ◌∷◌, ◌++◌, length, get_or, take, map, refl, sym, ap, ◌∙◌, arith, length-append}
+use Rattle.std.proofs.Common.{◌≡◌, ℕ, ◌+◌, ◌%◌, ◌<◌, List, [], ◌∷◌, ◌++◌, length, get_or, take, map, sym, ap, ◌∙◌, arith, length-append}
 use Rattle.std.specs.Prelude.{flat_map}
 use Rattle.std.proofs.lemmas.List.{get_or-map, length-map, map_push, map_more}
 use Rattle.index_model.specs.Hashes.{name_hash}
@@ -8,7 +8,7 @@ use Rattle.index_model.specs.Ordered.{bytes_lt}
 use Rattle.debugnames_write.specs.declared.groups.Group.{Group}
 use Rattle.debugnames_write.specs.declared.name.Name.{Name}
 use Rattle.debugnames_write.specs.Groups.{group_names}
-use Rattle.debugnames_write.specs.Names.{Kept, kept_of_name, kept_of_group, IsNameOf}
+use Rattle.debugnames_write.specs.Names.{kept_of_name, kept_of_group, IsNameOf}
 use Rattle.debugnames_write.specs.Order.{Rises}
 use Rattle.debugnames_write.proofs.NameLaws.{string_is}
 use Rattle.debugnames_write.proofs.PoolLaws.{flat_map_at, flat_map_up}
@@ -44,7 +44,7 @@ module _ (gs : List Group) (k : ℕ) (d : Group) (lt : k < length gs) where
   pub end_more : (old end next : ℕ) → end ≡ old + length (flat_map ended (take k (group_names gs))) → next ≡ end + (length (get_or gs k d).name.now + 1) → next ≡ old + length (flat_map ended (take (k + 1) (group_names gs)))
   end_more old end next is sum =
       let on : length (flat_map ended (take (k + 1) (group_names gs))) ≡ length (flat_map ended (take k (group_names gs))) + length (ended (get_or gs k d).name.now) =
-          ap (λ (w : List ℕ). length w) (flat_map_at ended (group_names gs) k (get_or gs k d).name.now within own) ∙ length-append (flat_map ended (take k (group_names gs))) (ended (get_or gs k d).name.now) in
+      ap (λ (w : List ℕ). length w) (flat_map_at ended (group_names gs) k (get_or gs k d).name.now within own) ∙ length-append (flat_map ended (take k (group_names gs))) (ended (get_or gs k d).name.now) in
       omega (arith, on, ended_long)
 
   -- where that passes a limit, all do

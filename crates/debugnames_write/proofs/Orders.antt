@@ -1,5 +1,5 @@
 -- Strictly ascending lists, and the distinct items of a list in their order.
-use Rattle.std.proofs.Common.{◌≡◌, ◌≢◌, ℕ, zero, suc, ◌<◌, ◌≤◌, Bool, true, false, List, [], ◌∷◌, length, get_or, refl, sym, ap, ◌∙◌, subst, inl, inr, ◌⊎◌, ⊎_elim, arith}
+use Rattle.std.proofs.Common.{◌≡◌, ℕ, zero, suc, ◌<◌, Bool, true, false, List, [], ◌∷◌, length, get_or, refl, sym, ap, ◌∙◌, subst, inl, inr, ◌⊎◌, arith}
 use mathlib.Core.Bool.{true≢false}
 use Rattle.std.specs.Prelude.{Contains, bytes_eq}
 use Rattle.std.specs.List.{IsDistinct}
@@ -149,14 +149,20 @@ module _ {A : Type 0} (less : A → A → Bool) where
     with_rises x (y ∷ ys) r = by (less x y) refl (less y x) refl (with_rises x ys r.1) (with_adds x ys)
       where
         by : (b : Bool) → less x y ≡ b → (c : Bool) → less y x ≡ c → Rises less (with_item less x ys) → Adds x ys (with_item less x ys) → Rises less (with_item less x (y ∷ ys))
-        by true e c f rest a = rw e (λ z d. elim (contains_cases y ys z d) [
-          | inl g ↦ subst (λ (w : A). less x w ≡ true) g e
-          | inr h ↦ o.trans x y z e (r.0 z h)
-        ], r)
-        by false e true f rest a = rw (e, f) (λ z d. elim (a.only z d) [
-          | inl h ↦ r.0 z h
-          | inr g ↦ subst (λ (w : A). less y w ≡ true) g f
-        ], rest)
+        by true e c f rest a = rw e (
+          λ z d. elim (contains_cases y ys z d) [
+            | inl g ↦ subst (λ (w : A). less x w ≡ true) g e
+            | inr h ↦ o.trans x y z e (r.0 z h)
+          ],
+          r,
+        )
+        by false e true f rest a = rw (e, f) (
+          λ z d. elim (a.only z d) [
+            | inl h ↦ r.0 z h
+            | inr g ↦ subst (λ (w : A). less y w ≡ true) g f
+          ],
+          rest,
+        )
         by false e false f rest a = rw (e, f) r
 
     -- ---- the distinct items, ascending

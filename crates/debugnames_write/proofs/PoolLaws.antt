@@ -1,6 +1,6 @@
 -- The entry pool, group by group.
-use Rattle.std.proofs.Common.{◌≡◌, ℕ, suc, ◌+◌, ◌<◌, ◌≤◌, List, [], ◌∷◌, ◌++◌, length, get_or, take, map, refl, sym, ap, ◌∙◌, arith, length-append, append_assoc}
-use Rattle.std.specs.Prelude.{All, flat_map}
+use Rattle.std.proofs.Common.{◌≡◌, ℕ, ◌+◌, ◌<◌, ◌≤◌, List, [], ◌∷◌, ◌++◌, length, get_or, take, map, refl, sym, ap, ◌∙◌, arith, length-append, append_assoc}
+use Rattle.std.specs.Prelude.{flat_map}
 use Rattle.std.proofs.lemmas.List.Folds.{length-flat_map-take}
 use Rattle.std.proofs.lemmas.List.{take_more, take_all, get_or_default}
 use Rattle.std.proofs.lemmas.List.FromFn.{map-range_with_len_more}
@@ -14,7 +14,7 @@ use Rattle.debugnames_write.specs.declared.pool.PoolPlaces.{PoolPlaces}
 use Rattle.debugnames_write.specs.Laid.{entries_bytes, groups_bytes, pool_bytes}
 use Rattle.debugnames_write.specs.Names.{ArePlacesIn}
 use Rattle.debugnames_write.specs.Rows.{row_seen}
-use Rattle.debugnames_write.specs.Seen.{item_seen, items_seen}
+use Rattle.debugnames_write.specs.Seen.{item_seen}
 use Rattle.debugnames_write.proofs.Lists.{flat_map-map}
 use Rattle.debugnames_write.proofs.NameLaws.{start_is}
 
@@ -102,7 +102,7 @@ module _ (rows : List IndexRow) (names : List Name) (i : ℕ) (d : Name) (lt : i
   pub pool_more : (size group next : ℕ) → size ≡ length (flat_map (name_bytes rows) (take i names)) → group ≡ length (entries_bytes rows (get_or names i d).items.now) → next ≡ size + group → next ≡ length (flat_map (name_bytes rows) (take (i + 1) names))
   pool_more size group next is is_group sum =
       let on : length (flat_map (name_bytes rows) (take (i + 1) names)) ≡ length (flat_map (name_bytes rows) (take i names)) + length (entries_bytes rows (get_or names i d).items.now) =
-          ap (λ (w : List ℕ). length w) (flat_map_at (name_bytes rows) names i (get_or names i d) lt is_name) ∙ length-append (flat_map (name_bytes rows) (take i names)) (entries_bytes rows (get_or names i d).items.now) in
+      ap (λ (w : List ℕ). length w) (flat_map_at (name_bytes rows) names i (get_or names i d) lt is_name) ∙ length-append (flat_map (name_bytes rows) (take i names)) (entries_bytes rows (get_or names i d).items.now) in
       omega (arith, on)
 
 pub starts_more : (rows : List IndexRow) (names : List Name) (i size : ℕ) (starts : List ℕ) → starts ≡ map (start_of (groups_bytes rows names)) (below i) → size ≡ length (flat_map (name_bytes rows) (take i names))

@@ -1,7 +1,7 @@
 -- The rows of the abbreviations, and the place of a row among them.
-use Rattle.std.proofs.Common.{◌≡◌, ◌≢◌, ℕ, zero, suc, ◌+◌, ◌<◌, ◌≤◌, Bool, true, false, cond, eqb, eq-eqb, List, [], ◌∷◌, ◌++◌, length, get_or, take, drop, map, Option, Some, refl, sym, ap, ◌∙◌, subst, inl, inr, arith}
+use Rattle.std.proofs.Common.{◌≡◌, ◌≢◌, ℕ, zero, suc, ◌+◌, ◌<◌, ◌≤◌, Bool, true, false, cond, eqb, eq-eqb, List, [], ◌∷◌, ◌++◌, length, get_or, take, drop, map, Option, refl, sym, ap, ◌∙◌, subst, inl, inr, arith}
 use mathlib.Core.Bool.{not, ◌&&◌, ◌||◌, beq, true≢false}
-use Rattle.std.specs.Prelude.{All, Contains, nat_lt, nat_eq, position, unwrap_or, insert}
+use Rattle.std.specs.Prelude.{Contains, nat_lt, nat_eq, position, unwrap_or, insert}
 use Rattle.std.specs.List.Sorted.{IsPartitionedBy, IsPartitionPoint}
 use Rattle.std.proofs.lemmas.Bool.{cases_lt, and_right}
 use Rattle.std.proofs.lemmas.List.{get_or-map, length-map, length-take-le, map-append, take-map, drop-map, get_or-take, take_more, take_all, get_or_default}
@@ -117,9 +117,9 @@ module _ (rows : List Row) (row : Row) (p : ℕ) (within : p ≤ length rows) (p
   pub row_put : ((d : IndexRow) → p < length (map row_seen rows) → row_seen row ≢ get_or (map row_seen rows) p d) → map row_seen (insert rows p row) ≡ with_item row_lt (row_seen row) (map row_seen rows)
   row_put other =
       let cut : map row_seen (insert rows p row) ≡ take p (map row_seen rows) ++ row_seen row ∷ drop p (map row_seen rows) =
-          map-append row_seen (take p rows) (row ∷ drop p rows)
-          ∙ ap (λ (w : List IndexRow). w ++ row_seen row ∷ map row_seen (drop p rows)) (sym (take-map row_seen p rows))
-          ∙ ap (λ (w : List IndexRow). take p (map row_seen rows) ++ row_seen row ∷ w) (sym (drop-map row_seen p rows)) in
+      map-append row_seen (take p rows) (row ∷ drop p rows)
+      ∙ ap (λ (w : List IndexRow). w ++ row_seen row ∷ map row_seen (drop p rows)) (sym (take-map row_seen p rows))
+      ∙ ap (λ (w : List IndexRow). take p (map row_seen rows) ++ row_seen row ∷ w) (sym (drop-map row_seen p rows)) in
       cut ∙ put_at row_lt row_order (row_seen row) (map row_seen rows) p (omega (arith, long)) before after other
 
   pub put_rises : ((d : IndexRow) → p < length (map row_seen rows) → row_seen row ≢ get_or (map row_seen rows) p d) → Rises row_lt (map row_seen rows) → Rises row_lt (map row_seen (insert rows p row))
@@ -199,8 +199,8 @@ rows_all items i rows le h =
     let whole : take i items ≡ items = take_all i items le in
     let named : map row_of (items_seen items) ≡ map row_in items = map-map row_of item_seen items in
     sym (ap (ascending row_lt) named ∙ ascending_is row_lt row_order (map row_in items) (map row_seen rows) h.rises
-        (λ r c. h.has r (subst (λ (w : List Item). Contains (map row_in w) r) (sym whole) c))
-        (λ r c. subst (λ (w : List Item). Contains (map row_in w) r) whole (h.only r c)))
+    (λ r c. h.has r (subst (λ (w : List Item). Contains (map row_in w) r) (sym whole) c))
+    (λ r c. subst (λ (w : List Item). Contains (map row_in w) r) whole (h.only r c)))
 
 -- the same with the entry as it is read
 pub rows_next : (items : List Item) (i : ℕ) (d : Item) (rows new : List Row) → i < length items → AreRowsOf (take i items) rows → Rises row_lt (map row_seen new) → Adds (row_seen (get_or items i d).row) (map row_seen rows) (map row_seen new) → AreRowsOf (take (i + 1) items) new

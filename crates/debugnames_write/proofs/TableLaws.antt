@@ -1,15 +1,13 @@
 -- The table of abbreviations, row by row.
-use Rattle.std.proofs.Common.{◌≡◌, ℕ, zero, suc, ◌+◌, ◌<◌, ◌≤◌, Bool, true, false, cond, List, [], ◌∷◌, ◌++◌, length, get_or, take, map, refl, sym, ap, ◌∙◌, arith, length-append, append_assoc}
+use Rattle.std.proofs.Common.{◌≡◌, ℕ, zero, suc, ◌+◌, ◌<◌, ◌≤◌, cond, List, [], ◌∷◌, ◌++◌, length, get_or, take, map, refl, sym, ap, ◌∙◌, arith, length-append, append_assoc}
 use Rattle.std.specs.Prelude.{flat_map}
 use Rattle.std.specs.List.{enumerate_from}
 use Rattle.std.proofs.lemmas.List.{take_all, get_or_default}
-use Rattle.std.proofs.lemmas.List.FromFn.{length-enumerate_from, get_or-enumerate_from}
 use Rattle.index_model.specs.Layout.{ended}
 use Rattle.index_model.specs.NameIndex.{Row as IndexRow, uleb_bytes, abbreviation_bytes, abbreviation_table}
 use Rattle.debugnames_write.specs.declared.item.Row.{Row}
 use Rattle.debugnames_write.specs.Rows.{row_seen}
 use Rattle.debugnames_write.proofs.Lists.{enumerate_more}
-use Rattle.debugnames_write.proofs.PoolLaws.{flat_map_at, flat_map_up}
 use Rattle.std.proofs.lemmas.List.Concat.{flat_map-append}
 use Rattle.std.proofs.lemmas.List.{append-nil}
 

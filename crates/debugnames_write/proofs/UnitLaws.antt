@@ -79,8 +79,8 @@ module _ (units : List UnitHeader) (i : ℕ) (u : UnitHeader) (lt : i < length u
   split t pass =
       let size : 0 + length (take i units) ≡ i = omega (arith, length-take-le i units (omega arith)) in
       let whole : enumerate_from 0 units ≡ enumerate_from 0 (take i units) ++ (i, u) ∷ enumerate_from (i + 1) (drop (i + 1) units) =
-          ap (enumerate_from 0) (around units i u lt is) ∙ enumerate_append 0 (take i units) (u ∷ drop (i + 1) units)
-          ∙ ap (λ (k : ℕ). enumerate_from 0 (take i units) ++ (k, u) ∷ enumerate_from (k + 1) (drop (i + 1) units)) size in
+      ap (enumerate_from 0) (around units i u lt is) ∙ enumerate_append 0 (take i units) (u ∷ drop (i + 1) units)
+      ∙ ap (λ (k : ℕ). enumerate_from 0 (take i units) ++ (k, u) ∷ enumerate_from (k + 1) (drop (i + 1) units)) size in
       let rest : List Numbered = enumerate_from (i + 1) (drop (i + 1) units) in
       ap (filter (listed t)) whole ∙ filter-append (listed t) (enumerate_from 0 (take i units)) ((i, u) ∷ rest)
       ∙ ap (λ (b : Bool). filter (listed t) (enumerate_from 0 (take i units)) ++ cond b ((i, u) ∷ filter (listed t) rest) (filter (listed t) rest)) pass

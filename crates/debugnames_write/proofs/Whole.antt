@@ -1,7 +1,7 @@
 -- The parts put together are the index.
-use Rattle.std.proofs.Common.{◌≡◌, ℕ, zero, suc, ◌+◌, ◌*◌, ◌-◌, ◌<◌, ◌≤◌, Bool, true, false, List, [], ◌∷◌, ◌++◌, length, get_or, map, refl, sym, ap, ◌∙◌, subst, inl, inr, arith, length-append, append_assoc}
+use Rattle.std.proofs.Common.{◌≡◌, ℕ, ◌+◌, ◌*◌, ◌<◌, Bool, true, false, List, [], ◌∷◌, ◌++◌, length, get_or, map, refl, sym, ap, ◌∙◌, subst, inl, inr, arith, length-append, append_assoc}
 use Rattle.std.specs.Prelude.{All, Contains, bytes_eq, flat_map}
-use Rattle.std.proofs.lemmas.List.{get_or-map, length-map, append-nil}
+use Rattle.std.proofs.lemmas.List.{get_or-map, length-map}
 use Rattle.std.proofs.lemmas.List.Elements.{All-map, All-filter, All-contains_itself}
 use Rattle.std.proofs.lemmas.List.FromFn.{length-range_with_len}
 use Rattle.index_model.specs.declared.entry.Entry.{Entry}
@@ -170,8 +170,8 @@ laid_size units kinds names =
     let fifth : length body ≡ length (head ++ (cus ++ tus) ++ (b ++ h ++ s ++ t) ++ table) + length pool = length-append (head ++ (cus ++ tus) ++ (b ++ h ++ s ++ t) ++ table) pool in
     let four : length (u32_bytes (length body) ++ body) ≡ 4 + length body = length-append (u32_bytes (length body)) body in
     four ∙ sums (length cus) (length tus) (length b) (length h) (length s) (length t) (length table) (length pool) (length (units_of_sort false units)) (length (units_of_sort true units)) (length names) (length body)
-        cus_size tus_size b_size h_size s_size t_size
-        (fifth ∙ ap (λ (n : ℕ). n + length pool) (fourth ∙ ap (λ (n : ℕ). n + length table) (third ∙ (λ i. front i + tables i) ∙ (λ i. 32 + lists i + (length b + length h + length s + length t)))))
+    cus_size tus_size b_size h_size s_size t_size
+    (fifth ∙ ap (λ (n : ℕ). n + length pool) (fourth ∙ ap (λ (n : ℕ). n + length table) (third ∙ (λ i. front i + tables i) ∙ (λ i. 32 + lists i + (length b + length h + length s + length t)))))
   where
     sums : (cus tus b h s t table pool compile types n body : ℕ) → cus ≡ compile * 4 → tus ≡ types * 4 → b ≡ n * 4 → h ≡ n * 4 → s ≡ n * 4 → t ≡ n * 4
         → body ≡ 32 + (cus + tus) + (b + h + s + t) + table + pool → 4 + body ≡ 36 + (compile + types) * 4 + n * 16 + table + pool

@@ -81,7 +81,10 @@ fn push_counts(
     push_u16(out, 0)?;
     let compile_units = places.compile_units;
     let type_units = places.type_units;
-    push_u32s(out, &[compile_units, type_units, 0, names, names, table_size, 0])
+    push_u32s(
+        out,
+        &[compile_units, type_units, 0, names, names, table_size, 0],
+    )
 }
 
 // Appends the hash of each name.

@@ -17,6 +17,8 @@ mod name;
 mod numbers;
 mod pool;
 mod strings;
+#[cfg(test)]
+mod tests;
 mod units;
 mod writer;
 

@@ -1,4 +1,4 @@
-use Rattle.std.proofs.Common.{◌≡◌, ◌≢◌, ◌<◌, ℕ, List, length, get_or, map, sym, ◌∙◌, arith}
+use Rattle.std.proofs.Common.{◌≢◌, ◌<◌, length, get_or, map, sym, ◌∙◌, arith}
 use Rattle.index_model.specs.NameIndex.{Row as IndexRow}
 use Rattle.debugnames_write.specs.Rows.{row_seen}
 use Rattle.debugnames_write.proofs.RowLaws.{put_rises, put_adds, row_past, row_other}
@@ -12,10 +12,10 @@ returns-clause-rises c =
     let parts = rw c.deref.ensures.value at c.place_of-place.ensures.parts in
     let within = rw c.deref.ensures.value at c.place_of-place.ensures.within in
     let other : (d : IndexRow) → c.place_of-place.result < length (map row_seen c.args.rows.now.items) → row_seen c.args.row ≢ get_or (map row_seen c.args.rows.now.items) c.place_of-place.result d =
-        elim c.else-place-len.branch [
-          | else-place-len-via-then-place-len+else-eq w ↦ row_other rows c.args.row w.index.result.now p (omega arith) w.index.ensures (sym w.eq.ensures ∙ w.if-eq.false)
-          | else-place-len-via-else-place-len w ↦ row_past rows c.args.row p (omega arith)
-        ] in
+    elim c.else-place-len.branch [
+      | else-place-len-via-then-place-len+else-eq w ↦ row_other rows c.args.row w.index.result.now p (omega arith) w.index.ensures (sym w.eq.ensures ∙ w.if-eq.false)
+      | else-place-len-via-else-place-len w ↦ row_past rows c.args.row p (omega arith)
+    ] in
     rw c.in_ok-insert.ensures.items (put_rises rows c.args.row p within parts other c.requires)
 
 pub returns-clause-adds : goal.returns-clause-adds
@@ -25,8 +25,8 @@ returns-clause-adds c =
     let parts = rw c.deref.ensures.value at c.place_of-place.ensures.parts in
     let within = rw c.deref.ensures.value at c.place_of-place.ensures.within in
     let other : (d : IndexRow) → c.place_of-place.result < length (map row_seen c.args.rows.now.items) → row_seen c.args.row ≢ get_or (map row_seen c.args.rows.now.items) c.place_of-place.result d =
-        elim c.else-place-len.branch [
-          | else-place-len-via-then-place-len+else-eq w ↦ row_other rows c.args.row w.index.result.now p (omega arith) w.index.ensures (sym w.eq.ensures ∙ w.if-eq.false)
-          | else-place-len-via-else-place-len w ↦ row_past rows c.args.row p (omega arith)
-        ] in
+    elim c.else-place-len.branch [
+      | else-place-len-via-then-place-len+else-eq w ↦ row_other rows c.args.row w.index.result.now p (omega arith) w.index.ensures (sym w.eq.ensures ∙ w.if-eq.false)
+      | else-place-len-via-else-place-len w ↦ row_past rows c.args.row p (omega arith)
+    ] in
     rw c.in_ok-insert.ensures.items (put_adds rows c.args.row p within parts other)

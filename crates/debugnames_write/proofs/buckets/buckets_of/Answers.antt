@@ -1,4 +1,3 @@
-use Rattle.std.proofs.Common.{arith}
 use Rattle.std.proofs.lemmas.List.{length-replicate, get_or-replicate}
 use Rattle.debugnames_write.proofs.BucketLaws.{buckets_none, buckets_all, buckets_put, buckets_same}
 use Rattle.debugnames_write.proofs.buckets.buckets_of.Goals as goal

@@ -1,12 +1,6 @@
-use Rattle.std.proofs.Common.{◌≡◌, ◌<◌, ◌≤◌, List, length, refl, sym}
+use Rattle.std.proofs.Common.{refl, sym}
 use Rattle.debugnames_write.proofs.GroupLaws.{groups_on, groups_more, groups_all}
-use Rattle.debugnames_write.proofs.BucketLaws as buckets
-use Rattle.debugnames_write.proofs.TableLaws as tables
-use Rattle.debugnames_write.proofs.UnitLaws as units
 use Rattle.debugnames_write.proofs.SortLaws.{name_of_item}
-use Rattle.debugnames_write.proofs.LebLaws as lebs
-use Rattle.debugnames_write.proofs.Whole as whole
-use Rattle.debugnames_write.proofs.Stops as stops
 use Rattle.debugnames_write.proofs.groups.groups_of.Goals as goal
 use Rattle.debugnames_write.proofs.groups.groups_of.Goals.{then-not-goes_on_at+in_ok-push, else-not-goes_on_at}
 

@@ -1,6 +1,4 @@
-use Rattle.std.proofs.Common.{◌≡◌, ◌≤◌, length, sym, ap, ◌∙◌, arith}
-use Rattle.std.specs.Prelude.{flat_map}
-use Rattle.index_model.specs.Layout.{u32_bytes}
+use Rattle.std.proofs.Common.{◌≡◌, length, ap, ◌∙◌, arith}
 use Rattle.debugnames_write.specs.Laid.{laid_out}
 use Rattle.debugnames_write.proofs.Assembly.{table_too_large, pool_too_large, front_too_large, all_too_large, size_is, assembled}
 use Rattle.debugnames_write.proofs.Stops.{stopped}
@@ -9,22 +7,22 @@ use Rattle.debugnames_write.proofs.index.index_bytes.Goals as goal
 pub returns-in_err-table_size : goal.returns-in_err-table_size
 returns-in_err-table_size c =
     stopped c.from_residual.result c.in_err-table_size.field-0.0 _ c.from_residual.ensures.1 c.in_err-table_size.ensures
-        (λ pass. table_too_large c.args.units.now c.args.abbreviations.now c.args.names.now 4294967283 pass)
+    (λ pass. table_too_large c.args.units.now c.args.abbreviations.now c.args.names.now 4294967283 pass)
 
 pub returns-in_err-pool : goal.returns-in_err-pool
 returns-in_err-pool c =
     stopped c.from_residual-in_err-pool.result c.in_err-pool.field-0.0 _ c.from_residual-in_err-pool.ensures.1 c.in_err-pool.ensures
-        (λ pass. pool_too_large c.args.units.now c.args.abbreviations.now c.args.names.now 4294967283 pass)
+    (λ pass. pool_too_large c.args.units.now c.args.abbreviations.now c.args.names.now 4294967283 pass)
 
 pub returns-in_err-grown : goal.returns-in_err-grown
 returns-in_err-grown c =
     stopped c.from_residual-in_err-grown.result c.in_err-grown.field-0.0 _ c.from_residual-in_err-grown.ensures.1 c.in_err-grown.ensures
-        (λ pass. front_too_large c.args.units.now c.args.abbreviations.now c.args.names.now 4294967283 c.args.places.now c.requires.places c.in_ok-table_size.table_size c.in_ok-table_size.ensures.0 pass)
+    (λ pass. front_too_large c.args.units.now c.args.abbreviations.now c.args.names.now 4294967283 c.args.places.now c.requires.places c.in_ok-table_size.table_size c.in_ok-table_size.ensures.0 pass)
 
 pub returns-in_err-size : goal.returns-in_err-size
 returns-in_err-size c =
     stopped c.from_residual-in_err-size.result c.in_err-size.field-0.0 _ c.from_residual-in_err-size.ensures.1 c.in_err-size.ensures
-        (λ pass. all_too_large c.args.units.now c.args.abbreviations.now c.args.names.now 4294967283 c.args.places.now c.requires.places c.in_ok-table_size.table_size c.in_ok-table_size.ensures.0 _ _ c.in_ok-grown.ensures.0 c.in_ok-pool.ensures.size pass)
+    (λ pass. all_too_large c.args.units.now c.args.abbreviations.now c.args.names.now 4294967283 c.args.places.now c.requires.places c.in_ok-table_size.table_size c.in_ok-table_size.ensures.0 _ _ c.in_ok-grown.ensures.0 c.in_ok-pool.ensures.size pass)
 
 pub returns : goal.returns
 returns c =
@@ -33,9 +31,9 @@ returns c =
     let names = c.args.names.now in
     let size = size_is units rows names 4294967283 c.args.places.now c.requires.places c.in_ok-table_size.table_size c.in_ok-table_size.ensures.0 _ _ c.in_ok-size.size c.in_ok-grown.ensures.0 c.in_ok-pool.ensures.size c.in_ok-size.ensures.0 in
     let same : c.push_pool.new.out.items ≡ laid_out c.args.units.now c.args.abbreviations.now c.args.names.now =
-        assembled units rows names c.args.places.now c.in_ok-size.size c.in_ok-table_size.table_size c.deref.result.now c.deref-2.result.now c.requires.places c.in_ok-table_size.ensures.0 size
-            (c.deref.ensures.value ∙ c.in_ok-buckets.ensures) (c.deref-2.ensures.value ∙ c.in_ok-pool.ensures.starts)
-            _ _ _ _ _ _ _ _ _ _ _ c.in_ok-out.ensures.items c.in_ok-push_u32.ensures c.in_ok-push_counts.ensures c.in_ok-push_unit_offsets.ensures c.in_ok-push_unit_offsets-2.ensures c.in_ok-push_u32s.ensures
-            c.in_ok-push_hashes.ensures c.in_ok-push_strings.ensures c.in_ok-push_u32s-2.ensures c.in_ok-push.ensures c.in_ok-push_pool.ensures in
+    assembled units rows names c.args.places.now c.in_ok-size.size c.in_ok-table_size.table_size c.deref.result.now c.deref-2.result.now c.requires.places c.in_ok-table_size.ensures.0 size
+    (c.deref.ensures.value ∙ c.in_ok-buckets.ensures) (c.deref-2.ensures.value ∙ c.in_ok-pool.ensures.starts)
+    _ _ _ _ _ _ _ _ _ _ _ c.in_ok-out.ensures.items c.in_ok-push_u32.ensures c.in_ok-push_counts.ensures c.in_ok-push_unit_offsets.ensures c.in_ok-push_unit_offsets-2.ensures c.in_ok-push_u32s.ensures
+    c.in_ok-push_hashes.ensures c.in_ok-push_strings.ensures c.in_ok-push_u32s-2.ensures c.in_ok-push.ensures c.in_ok-push_pool.ensures in
     let long = ap (λ w. length w) same in
     (same, omega (arith, long, size, c.in_ok-size.ensures.1))

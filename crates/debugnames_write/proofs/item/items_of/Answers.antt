@@ -1,7 +1,7 @@
-use Rattle.std.proofs.Common.{◌≡◌, ◌++◌, [], ◌∷◌, refl, sym, ap, ◌∙◌}
+use Rattle.std.proofs.Common.{◌++◌, [], ◌∷◌, sym, ap, ◌∙◌}
 use Rattle.std.specs.Prelude.{option_map}
 use Rattle.std.proofs.lemmas.List.{map-append}
-use Rattle.debugnames_write.specs.Seen.{item_seen, items_seen}
+use Rattle.debugnames_write.specs.Seen.{item_seen}
 use Rattle.debugnames_write.proofs.UnitLaws.{indexed_none, indexed_push, indexed_keep}
 use Rattle.debugnames_write.proofs.item.items_of.Goals as goal
 use Rattle.debugnames_write.proofs.item.items_of.Goals.{in-Some+in_ok-push, in_default}

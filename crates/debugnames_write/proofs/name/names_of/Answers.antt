@@ -1,4 +1,4 @@
-use Rattle.std.proofs.Common.{◌≡◌, refl}
+use Rattle.std.proofs.Common.{refl}
 use Rattle.std.proofs.lemmas.List.Elements.{All-push}
 use Rattle.debugnames_write.specs.Groups.{group_names}
 use Rattle.debugnames_write.specs.Names.{IsNameOf}
@@ -9,7 +9,7 @@ use Rattle.debugnames_write.proofs.name.names_of.Goals as goal
 pub returns-in_err-end-2 : goal.returns-in_err-end-2
 returns-in_err-end-2 c =
     stopped c.from_residual-in_err-end-2.result c.in_err-end-2.field-0.0 _ c.from_residual-in_err-end-2.ensures.1 c.in_err-end-2.ensures
-        (λ pass. end_passes c.args.groups.now c.loop-group.group-index _ c.loop-group-test.true c.args.old_strings c.loop-group.end 4294967295 c.loop-group.invariant.end pass)
+    (λ pass. end_passes c.args.groups.now c.loop-group.group-index _ c.loop-group-test.true c.args.old_strings c.loop-group.end 4294967295 c.loop-group.invariant.end pass)
 
 pub loop-group-preserved : goal.loop-group-preserved
 loop-group-preserved c =

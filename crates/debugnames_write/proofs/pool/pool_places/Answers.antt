@@ -1,4 +1,3 @@
-use Rattle.std.proofs.Common.{◌≡◌}
 use Rattle.debugnames_write.proofs.PoolLaws.{one_passes, pool_passes, pool_more, starts_more, places_all}
 use Rattle.debugnames_write.proofs.Stops.{stopped}
 use Rattle.debugnames_write.proofs.pool.pool_places.Goals as goal
@@ -6,12 +5,12 @@ use Rattle.debugnames_write.proofs.pool.pool_places.Goals as goal
 pub returns-in_err-group_size : goal.returns-in_err-group_size
 returns-in_err-group_size c =
     stopped c.from_residual-in_err-group_size.result c.in_err-group_size.field-0.0 _ c.from_residual-in_err-group_size.ensures.1 c.in_err-group_size.ensures
-        (λ pass. one_passes c.args.abbreviations.now c.args.names.now c.loop-name.name-index _ c.loop-name-test.true 4294967283 pass)
+    (λ pass. one_passes c.args.abbreviations.now c.args.names.now c.loop-name.name-index _ c.loop-name-test.true 4294967283 pass)
 
 pub returns-in_err-size : goal.returns-in_err-size
 returns-in_err-size c =
     stopped c.from_residual-in_err-size.result c.in_err-size.field-0.0 _ c.from_residual-in_err-size.ensures.1 c.in_err-size.ensures
-        (λ pass. pool_passes c.args.abbreviations.now c.args.names.now c.loop-name.name-index _ c.loop-name-test.true c.loop-name.size _ 4294967283 c.loop-name.invariant.size c.in_ok-group_size.ensures.0 pass)
+    (λ pass. pool_passes c.args.abbreviations.now c.args.names.now c.loop-name.name-index _ c.loop-name-test.true c.loop-name.size _ 4294967283 c.loop-name.invariant.size c.in_ok-group_size.ensures.0 pass)
 
 pub loop-name-preserved : goal.loop-name-preserved
 loop-name-preserved c = record {

@@ -1,6 +1,4 @@
-use Rattle.std.proofs.Common.{◌≡◌, ◌++◌, true, false, sym, ap, ◌∙◌, append_assoc}
-use Rattle.index_model.specs.Layout.{u32_bytes}
-use Rattle.index_model.specs.NameIndex.{unit_offsets}
+use Rattle.std.proofs.Common.{sym, ◌∙◌, append_assoc}
 use Rattle.debugnames_write.proofs.UnitLaws.{offsets_more, offsets_keep}
 use Rattle.debugnames_write.proofs.units.push_unit_offsets.Goals as goal
 use Rattle.debugnames_write.proofs.units.push_unit_offsets.Goals.{then-is_listed+in_ok-push_u32, else-is_listed}

@@ -1,9 +1,8 @@
-use Rattle.std.proofs.Common.{◌≡◌, ◌<◌, ◌≤◌, length, sym, ap, ◌∙◌, subst, arith}
+use Rattle.std.proofs.Common.{length, ap, ◌∙◌, arith}
 use Rattle.std.specs.Prelude.{flat_map}
 use Rattle.index_model.specs.Layout.{ended}
 use Rattle.index_model.specs.NameIndex.{all_indexed, rows_of}
 use Rattle.debugnames_write.specs.Groups.{group_names}
-use Rattle.debugnames_write.specs.Laid.{laid_out}
 use Rattle.debugnames_write.specs.Seen.{items_seen}
 use Rattle.debugnames_write.proofs.Stops.{stopped_large}
 use Rattle.debugnames_write.proofs.UnitLaws.{starts_low}

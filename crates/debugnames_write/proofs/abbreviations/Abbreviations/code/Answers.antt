@@ -1,6 +1,6 @@
-use Rattle.std.proofs.Common.{◌≡◌, ◌+◌, ◌∙◌, ℕ, List, map, sym, ap}
+use Rattle.std.proofs.Common.{◌≡◌, ◌+◌, ◌∙◌, ℕ, map, sym, ap}
 use Rattle.std.specs.Prelude.{Contains}
-use Rattle.index_model.specs.NameIndex.{Row as IndexRow, row_lt, row_eq}
+use Rattle.index_model.specs.NameIndex.{row_lt, row_eq}
 use Rattle.index_model.specs.Ordered.{place_of}
 use Rattle.debugnames_write.specs.Order.{Rises}
 use Rattle.debugnames_write.specs.Rows.{row_seen}

@@ -1,4 +1,4 @@
-use Rattle.std.proofs.Common.{◌≡◌, ℕ, length, map, sym, ap, ◌∙◌}
+use Rattle.std.proofs.Common.{◌≡◌, ℕ, length, map, ap, ◌∙◌}
 use Rattle.index_model.specs.NameIndex.{uleb_bytes, abbreviation_table}
 use Rattle.debugnames_write.specs.Rows.{row_seen}
 use Rattle.debugnames_write.proofs.Stops.{stopped}
@@ -10,7 +10,7 @@ returns-in_err-size c =
     let view : map row_seen c.deref-row-items.result.now ≡ c.args.self.now = ap (map row_seen) c.deref-row-items.ensures.value ∙ c.self.view_is in
     let tag = c.uleb_size-in-loop-place.ensures.size ∙ ap (λ (n : ℕ). length (uleb_bytes n)) c.from.ensures in
     rw (← view) (stopped c.from_residual.result c.in_err-size.field-0.0 _ c.from_residual.ensures.1 c.in_err-size.ensures
-        (λ pass. size_passes c.deref-row-items.result.now c.loop-place.place _ c.loop-place-test.true c.loop-place.size _ _ 4294967283 c.loop-place.invariant.size c.uleb_size.ensures.size tag pass))
+    (λ pass. size_passes c.deref-row-items.result.now c.loop-place.place _ c.loop-place-test.true c.loop-place.size _ _ 4294967283 c.loop-place.invariant.size c.uleb_size.ensures.size tag pass))
 
 pub loop-place-preserved : goal.loop-place-preserved
 loop-place-preserved c =

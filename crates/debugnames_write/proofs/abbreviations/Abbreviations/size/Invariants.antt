@@ -1,7 +1,6 @@
-use Rattle.std.proofs.Common.{◌≡◌, ◌+◌, ◌≤◌, length, take, map}
+use Rattle.std.proofs.Common.{◌≡◌, ◌+◌, ◌≤◌, length, take}
 use Rattle.std.specs.Prelude.{flat_map}
 use Rattle.std.specs.List.{enumerate_from}
-use Rattle.debugnames_write.specs.Rows.{row_seen}
 use Rattle.debugnames_write.proofs.TableLaws.{row_bytes}
 use Rattle.debugnames_write.proofs.abbreviations.Abbreviations.size.Given as goal
 

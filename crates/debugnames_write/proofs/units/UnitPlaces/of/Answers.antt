@@ -1,5 +1,4 @@
-use Rattle.std.proofs.Common.{◌≡◌, ◌≤◌, true, false, refl, sym, ap, ◌∙◌, arith}
-use mathlib.Core.Bool.{not}
+use Rattle.std.proofs.Common.{true, false, refl, sym, ◌∙◌, arith}
 use Rattle.debugnames_write.proofs.UnitLaws.{place_push, count_own, count_other, one_at_most}
 use Rattle.debugnames_write.proofs.units.UnitPlaces.of.Goals as goal
 use Rattle.debugnames_write.proofs.units.UnitPlaces.of.Goals.{then-is_type_unit+in_ok-push, else-is_type_unit+in_ok-push-2}
