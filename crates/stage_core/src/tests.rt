@@ -3,13 +3,14 @@
 ghost use Rattle.std.specs.Prelude.{IfOk};
 ghost use Rattle.stage_core.specs.Build.{Fits};
 
+mod outputs;
+
 use crate::build::Build;
-use crate::output::{Cache, Output, Summary};
+use crate::output::Output;
 use crate::task::{Input, Task};
-use address_map::AddressMap;
-use index_model::{CacheKind, Entry, Job, Kind, Linked, List, Shard, Text};
+use index_model::{CacheKind, Job};
 use ix_base::{Fault, NoMemory};
-use query_engine::Table;
+use outputs::{cache, linked, made, run, shard, summary, table};
 use std::alloc::{AllocError, Global};
 use std::test::Fail;
 use std::thread::Threads;
@@ -18,50 +19,6 @@ fn two_runs(alloc: Global) -> Result<Build<'static>, AllocError>
     ensures { IfOk result Fits }
 {
     Build::start(alloc, b"".as_slice(), 0, 2, CacheKind::Gdb8)
-}
-
-fn shard<'f>(alloc: Global, first: u32) -> Output<'f> {
-    Output::Shard(Shard {
-        first,
-        roots: List::of(Vec::new(alloc)),
-        nodes: List::of(Vec::new(alloc)),
-        spans: List::of(Vec::new(alloc)),
-        imports: List::of(Vec::new(alloc)),
-    })
-}
-
-fn linked<'f>(alloc: Global) -> Output<'f> {
-    Output::Linked(Linked {
-        entries: List::of(Vec::new(alloc)),
-    })
-}
-
-fn summary<'f>(alloc: Global) -> Result<Output<'f>, NoMemory> {
-    let map = AddressMap::build(alloc, &[])?;
-    Ok(Output::Summary(Summary { main: None, map }))
-}
-
-fn run<'f>(alloc: Global, name: &'f [u8]) -> Result<Output<'f>, AllocError> {
-    let mut entries = Vec::new(alloc);
-    entries.push(Entry {
-        unit: 0,
-        offset: 0,
-        tag: 0x2e,
-        kind: Kind::Function,
-        local: false,
-        linkage: false,
-        name: Text::lent(name),
-        tail: 0,
-    })?;
-    Ok(Output::Run(List::of(entries)))
-}
-
-fn table<'f, R: Threads + Sync>(rt: &R, alloc: Global) -> Result<Output<'f>, NoMemory> {
-    Ok(Output::Table(Table::merge(rt, alloc, Vec::new(alloc))?))
-}
-
-fn cache<'f>(alloc: Global) -> Output<'f> {
-    Output::Cache(Cache::Gdb(List::of(Vec::new(alloc))))
 }
 
 // Whether the next job is this one.
@@ -101,10 +58,18 @@ fn pass_scans(alloc: Global, build: &mut Build<'_>)
     requires { Fits build.old }
     ensures { Fits build.new }
 {
+    pass_scans_in(alloc, build, 1, 0);
+}
+
+// Both Scan jobs, finished in this order.
+fn pass_scans_in(alloc: Global, build: &mut Build<'_>, first: u32, second: u32)
+    requires { Fits build.old }
+    ensures { Fits build.new }
+{
     draw(build);
     draw(build);
-    finish(alloc, build, Job::Scan(1), shard(alloc, 1));
-    finish(alloc, build, Job::Scan(0), shard(alloc, 0));
+    finish(alloc, build, Job::Scan(first), shard(alloc, first));
+    finish(alloc, build, Job::Scan(second), shard(alloc, second));
 }
 
 // Both Link jobs, the second of which is finished first.
@@ -150,10 +115,119 @@ fn pass_merge<R: Threads + Sync>(
     requires { Fits build.old }
     ensures { Fits build.new }
 {
-    let output = table(rt, alloc)?;
+    let output = table(rt, alloc, 0, 1)?;
     draw(build);
     finish(alloc, build, Job::Merge, output);
     Ok(())
+}
+
+fn pass_write(alloc: Global, build: &mut Build<'_>)
+    requires { Fits build.old }
+    ensures { Fits build.new }
+{
+    draw(build);
+    finish(alloc, build, Job::Write, cache(alloc));
+}
+
+// All jobs of a kind, by its place among the kinds.
+fn pass_kind<R: Threads + Sync>(
+    rt: &R,
+    alloc: Global,
+    build: &mut Build<'_>,
+    kind: usize,
+) -> Result<(), NoMemory>
+    requires { Fits build.old }
+    ensures { Fits build.new }
+{
+    match kind {
+        0 => pass_scans(alloc, build),
+        1 => pass_links(alloc, build),
+        2 => pass_main(alloc, build)?,
+        3 => pass_names(alloc, build)?,
+        4 => pass_merge(rt, alloc, build)?,
+        _ => pass_write(alloc, build),
+    }
+    Ok(())
+}
+
+// A build in which so many kinds are closed.
+fn with_kinds_closed<R: Threads + Sync>(
+    rt: &R,
+    alloc: Global,
+    kinds: usize,
+) -> Result<Build<'static>, NoMemory>
+    ensures { IfOk result Fits }
+{
+    let mut build = two_runs(alloc)?;
+    for kind in 0..kinds {
+        pass_kind(rt, alloc, &mut build, kind)?;
+    }
+    Ok(build)
+}
+
+// What a look at a build sees.
+#[derive(Clone, Copy, Debug, PartialEq, Eq)]
+struct Look {
+    stage: u8,
+    level: u8,
+    summary: bool,
+    // The units of the two entries of the table.
+    table: Option<(u32, u32)>,
+    cache: bool,
+    fault: Option<Fault>,
+}
+
+fn looked_at(build: &Build<'_>) -> Look
+    requires { Fits build.now }
+{
+    Look {
+        stage: build.stage(),
+        level: build.level(),
+        summary: build.parts.summary.is_some(),
+        table: published_units(build),
+        cache: build.parts.cache.is_some(),
+        fault: build.parts.fault,
+    }
+}
+
+// The units of both entries of the table that is published, in its order.
+fn published_units(build: &Build<'_>) -> Option<(u32, u32)> {
+    match &build.parts.table {
+        Some(table) => match table.entries() {
+            [first, second] => Some((first.unit, second.unit)),
+            _ => None,
+        },
+        None => None,
+    }
+}
+
+// The next job is drawn, and finished with what it makes of its input.
+fn work<R: Threads + Sync>(rt: &R, alloc: Global, build: &mut Build<'_>) -> Result<(), NoMemory>
+    requires { Fits build.old }
+    ensures { Fits build.new }
+{
+    if let Some(task) = build.draw() {
+        let output = made(rt, alloc, &task)?;
+        finish(alloc, build, task.job, output);
+    }
+    Ok(())
+}
+
+// The units of the table that comes from Scan jobs that are finished in this order.
+fn units_after_scans<R: Threads + Sync>(
+    rt: &R,
+    alloc: Global,
+    first: u32,
+    second: u32,
+) -> Result<Option<(u32, u32)>, NoMemory> {
+    let mut build = two_runs(alloc)?;
+    pass_scans_in(alloc, &mut build, first, second);
+    pass_links(alloc, &mut build);
+    pass_main(alloc, &mut build)?;
+    work(rt, alloc, &mut build)?;
+    work(rt, alloc, &mut build)?;
+    work(rt, alloc, &mut build)?;
+    Ok(published_units(&build))
 }
 
 // Whether the shards of a task are those of the runs in their order.
@@ -267,5 +341,55 @@ fn last_kind_brings_the_index(rt: HostRuntime) -> Result<(), Fail> {
     finish(alloc, &mut build, Job::Write, Output::Memory);
     assert_eq!(rt; stage(&build), 3);
     assert!(rt; build.parts.cache.is_some());
+    Ok(())
+}
+
+#[test]
+fn scans_in_either_order_give_the_same_table(rt: HostRuntime) -> Result<(), Fail> {
+    let alloc = rt.alloc();
+    assert_eq!(rt; units_after_scans(&rt, alloc, 0, 1)?, Some((0, 1)));
+    assert_eq!(rt; units_after_scans(&rt, alloc, 1, 0)?, Some((0, 1)));
+    Ok(())
+}
+
+#[test]
+fn want_of_memory_in_any_kind_leaves_what_a_look_saw(rt: HostRuntime) -> Result<(), Fail> {
+    let alloc = rt.alloc();
+    let nothing = Look {
+        stage: 0,
+        level: 0,
+        summary: false,
+        table: None,
+        cache: false,
+        fault: None,
+    };
+    let main = Look {
+        stage: 1,
+        level: 1,
+        summary: true,
+        ..nothing
+    };
+    let merged = Look {
+        stage: 2,
+        level: 2,
+        table: Some((0, 1)),
+        ..main
+    };
+    let jobs = [
+        (Job::Scan(0), nothing),
+        (Job::Link(0), nothing),
+        (Job::Main, nothing),
+        (Job::Name(0), main),
+        (Job::Merge, main),
+        (Job::Write, merged),
+    ];
+    for (kinds, (job, before)) in jobs.into_iter().enumerate() {
+        let mut build = with_kinds_closed(&rt, alloc, kinds)?;
+        assert!(rt; draws(&mut build, job));
+        assert_eq!(rt; looked_at(&build), before);
+        finish(alloc, &mut build, job, Output::Memory);
+        assert_eq!(rt; looked_at(&build), Look { stage: 5, ..before });
+        assert!(rt; build.draw().is_none());
+    }
     Ok(())
 }
