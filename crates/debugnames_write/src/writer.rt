@@ -48,7 +48,16 @@ impl<T: Drop> From<AllocFailed<T>> for WriteStop {
     }
 }
 
-/// The index of these units and entries, in a program whose `.debug_str` has so many bytes before it gets the index's strings.
+/// The index of these units and of the entries of this table, in a program whose `.debug_str` has so many bytes before it gets
+/// the index's strings.
+///
+/// The units follow one another from joint offset 0, those of `.debug_info` first. There are at most 16,777,215 of them, and
+/// they end below 4,294,967,296. Each entry lies inside one of them. n entries cost n log n comparisons of names.
+///
+/// # Errors
+///
+/// `TooLarge` only where the index or `.debug_str` with its strings would be too large, and never bytes there. `Memory` where
+/// memory was refused.
 pub fn write(
     alloc: Global,
     units: &[Unit],

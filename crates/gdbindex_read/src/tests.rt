@@ -39,27 +39,25 @@ fn first_faults(rt: HostRuntime) {
     }
 }
 
-// An index of version 8, of 89 bytes, that is cut: up to each length the code and the place.
+// An index of version 8, of 89 bytes, that is cut to so many bytes, from one length up to another: the code and the place.
 #[test]
 fn cut_indexes(rt: HostRuntime) {
     let cuts = [
-        (4usize, (40u8, 0u64)),
-        (24, (41, 4)),
-        (40, (41, 8)),
-        (60, (41, 0x10)),
-        (76, (41, 0x14)),
-        (89, (45, 0x44)),
+        (0usize, 4usize, (40u8, 0u64)),
+        (4, 24, (41, 4)),
+        (24, 40, (41, 8)),
+        (40, 60, (41, 0x10)),
+        (60, 76, (41, 0x14)),
+        (76, 89, (45, 0x44)),
     ];
     let (_, index, _, _) = NAMES[0];
-    let mut length = 0usize;
-    for (end, want) in cuts {
-        while length < end {
+    assert_eq!(rt; index.len(), 89);
+    for (from, to, want) in cuts {
+        for length in from..to {
             let front = index.get(..length).unwrap_or(&[]);
             assert_eq!(rt; first_fault(front), want, "{length}");
-            length += 1;
         }
     }
-    assert_eq!(rt; index.len(), 89);
 }
 
 // The elements of a name, the unit at an address, and main, of an index that must be accepted.

@@ -114,7 +114,7 @@ module _ {V X : Type 0} (stage_of : V → ℕ) (subject : V → X) (fits : X →
                 back = λ _. (y, ap in_hand carries, refl, refl);
               },
             )),
-        refl,
+        (refl, reach_on me.0.floor r.now (stage_of y) l.1.reaches on'),
       )
 
   -- the same, as its caller has the facts

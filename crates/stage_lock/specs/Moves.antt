@@ -32,9 +32,9 @@ module _ {V X : Type 0} where
       × IsReachable before.0.floor found × (found ≤ stopped) × IfSome before.0.about (λ about. fits about found)
       × (before.0.turn ≡ Out → IfSome before.0.value_out (λ y. stage_of y ≡ found))
 
-  -- the value in hand goes home
+  -- the value in hand goes home, and the stage that is stored is reachable from the floor
   abbrev pub publishes : Step (Option V) → Stepper V X → ℕ → Stepper V X → Type 0
-  publishes step before stored after = after ≡ (record before.0 { turn = Back; floor = stored; value_back = in_hand before.1 }, rest before.1)
+  publishes step before stored after = (after ≡ (record before.0 { turn = Back; floor = stored; value_back = in_hand before.1 }, rest before.1)) × IsReachable before.0.floor stored
 
   -- the turn is given up
   abbrev pub unlocks : Step (Option V) → Stepper V X → ℕ → Stepper V X → Type 0

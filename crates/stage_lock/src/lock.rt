@@ -95,6 +95,7 @@ impl<V: Staged> StageLock<V> {
         requires holding { pass.old.holding ≡ true }
         requires follows { IfSome pass.old.value_out (λ taken. V.follows taken value) }
         ensures pass { pass.new ≡ record pass.old { holding = false; floor = V.stage_of value; value_back = Some value } }
+        ensures reach { IsReachable pass.old.floor (V.stage_of value) }
     {
         let shared = &self.table.shared;
         let stage = u64::from(value.stage());

@@ -1,0 +1,11 @@
+pub mod Writable
+pub mod Units
+pub mod Addresses
+pub mod Keys
+pub mod Symbols
+pub mod Vectors
+pub mod Pools
+pub mod Slots
+pub mod Sizes
+pub mod Places
+pub mod Header

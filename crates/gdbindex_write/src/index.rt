@@ -1,0 +1,72 @@
+//! The index as a whole.
+
+ghost use Rattle.std.specs.Prelude.{◌≡◌, ◌≤◌, ◌<◌, length, option_map, IfOk, Err};
+ghost use Rattle.index_model.specs.GdbIndex.{gdb_index_bytes};
+ghost use Rattle.index_model.specs.Seen.{main_seen};
+ghost use Rattle.gdbindex_write.specs.Writable.{IsWritable};
+ghost use Rattle.gdbindex_write.specs.declared.stop.WriteStop.TheVariants.{TooLarge};
+
+use crate::addresses::put_address_area;
+use crate::header::put_header;
+use crate::names::put_names;
+use crate::numbers::index_numbers;
+use crate::places::places;
+use crate::sizes::Sizes;
+use crate::slots::numbers_in_slots;
+use crate::stop::WriteStop;
+use crate::symbols::Symbols;
+use crate::table::{put_shortcut, put_symbol_table};
+use crate::units::{put_cu_list, put_types_list};
+use crate::vectors::{Vectors, put_vectors};
+use address_map::AddressMap;
+use index_model::{MainName, Unit};
+use query_engine::Table;
+use std::alloc::Global;
+
+/// The bytes of the `.gdb_index` of a program with these units, addresses, main and entries, version 8 or 9.
+///
+/// The units stand in section order and follow one another. The map and the table name no others, and each entry lies in its
+/// unit. Main has the name of an entry that isn't a linkage entry; only version 9 says it. The work beside two sorts, that of the
+/// names and that of their elements, is linear.
+///
+/// # Errors
+///
+/// `TooLarge` exactly where the index has more than 4,294,967,295 bytes, and `Memory` where memory was refused.
+pub fn write(
+    alloc: Global,
+    units: &[Unit],
+    map: &AddressMap,
+    main: Option<MainName<'_>>,
+    table: &Table<'_>,
+    version: u8,
+) -> Result<Vec<u8>, WriteStop>
+    requires { IsWritable units.now map.now (option_map main_seen main) table.now version }
+    ensures bytes { IfOk result (λ v. v.items ≡ gdb_index_bytes units.now map.now (option_map main_seen main.entry) table.now version) }
+    ensures fits { IfOk result (λ v. length v.items ≤ 4294967295) }
+    ensures too_large { result ≡ Err TooLarge → 4294967295 < length (gdb_index_bytes units.now map.now (option_map main_seen main.entry) table.now version) }
+{
+    let numbers = index_numbers(alloc, units)?;
+    let symbols = Symbols::of(alloc, &numbers, table.entries())?;
+    let vectors = Vectors::of(alloc, &symbols)?;
+    let Some(sizes) = Sizes::of(
+        units,
+        map.pieces(),
+        &symbols.list,
+        &vectors.distinct,
+        version,
+    ) else {
+        return Err(WriteStop::TooLarge);
+    };
+    let places = places(alloc, &symbols.list, &vectors, sizes.vectors)?;
+    let slots = numbers_in_slots(alloc, &symbols.list)?;
+    let mut out = Vec::with_capacity(alloc, sizes.total(version) as usize)?;
+    put_header(&mut out, version, &sizes)?;
+    put_cu_list(&mut out, units)?;
+    put_types_list(&mut out, units)?;
+    put_address_area(&mut out, &numbers, map.pieces())?;
+    put_symbol_table(&mut out, &slots, &places)?;
+    put_shortcut(&mut out, version, main, &symbols.list, &places)?;
+    put_vectors(&mut out, &vectors.distinct)?;
+    put_names(&mut out, &symbols.list)?;
+    Ok(out)
+}
