@@ -1,9 +1,8 @@
 -- The entries of the address area.
-use Rattle.std.proofs.Common.{◌≡◌, ℕ, ◌/◌, ◌<◌, ◌≤◌, Bool, true, false, length, map, find, Option, Some, None, Result, Ok, Err, ltb, refl, ap, sym, ◌∙◌}
+use Rattle.std.proofs.Common.{◌≡◌, ℕ, ◌/◌, ◌<◌, ◌≤◌, true, false, length, map, find, Option, Some, None, Ok, ltb, refl, ap, sym, ◌∙◌}
 use Rattle.std.specs.Prelude.{option_map}
 use Rattle.std.specs.List.{range_with_len}
 use Rattle.std.proofs.lemmas.Bool.{lt-ltb, le-ltb}
-use Rattle.ix_base.specs.declared.fault.Fault.{Fault}
 use Rattle.ix_base.specs.Reading.{Input}
 use Rattle.index_model.specs.declared.index_code.TheConstants.{GDB_ADDRESS_AREA}
 use Rattle.index_model.specs.Meaning.{◌>>◌, fault, holds_or, wrong_in}

@@ -1,6 +1,6 @@
 -- What a loop over numbered items has left to do.
-use Rattle.std.proofs.Common.{◌≡◌, ℕ, suc, ◌+◌, ◌-◌, ◌/◌, ◌<◌, ◌≤◌, Bool, true, false, not, ◌&&◌, cond, List, [], ◌∷◌, length, map, find, Option, Some, None, Result, Ok, Err, refl, arith, ap, sym, ◌∙◌}
-use Rattle.std.specs.List.{range_with_len, list_all}
+use Rattle.std.proofs.Common.{◌≡◌, ℕ, suc, ◌+◌, ◌-◌, ◌/◌, ◌<◌, ◌≤◌, Bool, true, false, cond, List, [], ◌∷◌, length, map, find, Option, Some, None, Result, Ok, Err, refl, arith, ap, sym, ◌∙◌}
+use Rattle.std.specs.List.{range_with_len}
 use Rattle.ix_base.specs.declared.fault.Fault.{Fault}
 use Rattle.ix_base.specs.Reading.{Input}
 use Rattle.index_model.specs.GdbAreas.{items}

@@ -1,5 +1,5 @@
 -- What an index means, or its first fault, step by step.
-use Rattle.std.proofs.Common.{◌≡◌, ◌<◌, ◌≤◌, ◌%◌, ◌/◌, ℕ, Bool, true, false, ◌&&◌, ◌||◌, eqb, leb, List, length, Option, Some, None, Result, Ok, Err, refl, arith, ap, sym, ◌∙◌}
+use Rattle.std.proofs.Common.{◌≡◌, ◌%◌, ℕ, Bool, true, false, eqb, List, length, Option, Some, None, Result, Ok, Err, refl, ap, sym, ◌∙◌}
 use Rattle.std.specs.List.{enumerate_from}
 use Rattle.std.proofs.lemmas.Bool.{eq-eqb, ne_eqb}
 use Rattle.ix_base.specs.declared.fault.Fault.{Fault}
@@ -7,7 +7,7 @@ use Rattle.index_model.specs.declared.answer.Main.{Main}
 use Rattle.index_model.specs.declared.index_code.TheConstants.{GDB_UNIT_LIST, GDB_ADDRESS_AREA}
 use Rattle.index_model.specs.Meaning.{◌>>=◌, ◌>>◌, each, fault, holds_or, wrong_in}
 use Rattle.index_model.specs.GdbAreas.{Areas, areas, areas_at, items, version_of}
-use Rattle.index_model.specs.GdbIndexRead.{Address, Slot, GdbIndex, address, gdb_index, is_table_size, reached, shortcut_at, slot_at, whole_items}
+use Rattle.index_model.specs.GdbIndexRead.{Address, Slot, GdbIndex, address, gdb_index, reached, shortcut_at, slot_at, whole_items}
 use Rattle.gdbindex_read.specs.declared.header.Version.{Version}
 use Rattle.gdbindex_read.specs.declared.header.Version.TheVariants.{Eight, Nine}
 use Rattle.gdbindex_read.specs.Header.{version_number, offsets, checked_offsets}

@@ -1,5 +1,5 @@
 -- Where the path of a name leads.
-use Rattle.std.proofs.Common.{◌≡◌, ℕ, zero, suc, ◌+◌, ◌-◌, ◌*◌, ◌^◌, ◌%◌, ◌/◌, ◌<◌, ◌≤◌, max, Bool, true, false, not, ◌||◌, ◌&&◌, cond, eqb, List, [], ◌∷◌, length, map, find, Option, Some, None, Contains, refl, arith, ap, sym, subst, ◌∙◌, add_comm}
+use Rattle.std.proofs.Common.{◌≡◌, ℕ, ◌+◌, ◌*◌, ◌^◌, ◌%◌, ◌/◌, ◌<◌, ◌≤◌, max, Bool, true, false, not, ◌||◌, ◌&&◌, cond, eqb, List, [], ◌∷◌, length, map, find, Option, Some, None, refl, arith, ap, sym, subst, ◌∙◌, add_comm}
 use Rattle.std.specs.List.{list_any, list_all, range_with_len}
 use Rattle.std.specs.Option.{option_eq}
 use Rattle.std.specs.Str.{bytes_eq}
@@ -14,7 +14,6 @@ use Rattle.index_model.specs.Hashes.{gdb_hash, odd, path, slot_on_path}
 use Rattle.index_model.specs.GdbIndexRead.{Slot, elements_of, is_found, is_other, is_table_size, places_before, slot_or_none}
 use Rattle.index_model.specs.GdbPath.{elements_at, path_end}
 use Rattle.index_model.proofs.PathLaws.{path_has_each_slot}
-use Rattle.gdbindex_read.specs.Slots.{is_found_from}
 
 -- ---- one place after the other
 

@@ -1,5 +1,5 @@
 -- The shortcut to main.
-use Rattle.std.proofs.Common.{◌≡◌, ℕ, Bool, true, false, eqb, List, length, Option, Some, None, Ok, Err, refl, ap, ◌∙◌}
+use Rattle.std.proofs.Common.{◌≡◌, ℕ, List, length, Some, None, Ok, Err, refl}
 use Rattle.std.proofs.lemmas.Bool.{eq-eqb, ne_eqb}
 use Rattle.std.proofs.lemmas.List.{nil_from_length}
 use Rattle.index_model.specs.declared.index_code.TheConstants.{GDB_BAD_NAME}

@@ -10,7 +10,7 @@ use Rattle.index_model.specs.declared.index_code.TheConstants.{GDB_BAD_NAME, GDB
 use Rattle.index_model.specs.Meaning.{◌>>=◌, ◌>>◌, each, fault, holds_or, some_or, wrong_in}
 use Rattle.index_model.specs.Layout.{field}
 use Rattle.index_model.specs.GdbAreas.{Areas, items, unit_count}
-use Rattle.index_model.specs.GdbIndexRead.{Slot as FullSlot, full_slot, slot_at, slot_or_none, unit_in, reached, is_found, is_table_size}
+use Rattle.index_model.specs.GdbIndexRead.{Slot as FullSlot, full_slot, slot_at, slot_or_none, unit_in, reached, is_table_size}
 use Rattle.gdbindex_read.specs.declared.slots.Slot.{Slot}
 use Rattle.gdbindex_read.specs.Pool.{string_in, vector_in}
 use Rattle.gdbindex_read.specs.declared.symbols.SymbolTable.{SymbolTable}

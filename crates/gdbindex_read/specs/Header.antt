@@ -1,5 +1,5 @@
 -- The header of an index: its version and its offsets.
-use Rattle.std.specs.Prelude.{◌≤◌, ℕ, ◌+◌, ◌*◌, nat_le, List, length, map, Result, Ok}
+use Rattle.std.specs.Prelude.{◌≤◌, ℕ, ◌+◌, ◌*◌, nat_le, List, length, map, Result}
 use Rattle.ix_base.specs.declared.fault.Fault.{Fault}
 use Rattle.index_model.specs.declared.index_code.TheConstants.{GDB_OFFSETS}
 use Rattle.index_model.specs.Meaning.{◌>>◌, fault, holds_or}

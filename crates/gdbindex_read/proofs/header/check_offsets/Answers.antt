@@ -1,5 +1,5 @@
-use Rattle.std.proofs.Common.{◌≡◌, ◌*◌, ◌+◌, ◌<◌, ◌≤◌, length, ap, sym, ◌∙◌, arith}
-use Rattle.gdbindex_read.specs.Header.{header_length, offset_count, offset_at}
+use Rattle.std.proofs.Common.{◌*◌, ◌+◌, ap, sym, ◌∙◌, arith}
+use Rattle.gdbindex_read.specs.Header.{header_length}
 use Rattle.gdbindex_read.proofs.Offsets.{cut_header, header_is, offset_fault, offset_next, offset_wrong, offset_none, refused, accepted}
 use Rattle.index_model.specs.declared.index_code.TheConstants.{GDB_OFFSETS}
 use Rattle.index_model.specs.Meaning.{fault}

@@ -1,10 +1,10 @@
-use Rattle.std.proofs.Common.{◌≡◌, Bor, List, ℕ, Some, false, true, ap, sym, ◌∙◌}
+use Rattle.std.proofs.Common.{Bor, List, ℕ, Some, ap, sym, ◌∙◌}
 use Rattle.std.specs.Prelude.{nat_lt}
 use Rattle.std.specs.List.{list_all}
 use Rattle.ix_base.specs.declared.fault.Fault.{Fault}
 use Rattle.index_model.specs.GdbIndexRead.{unit_in}
 use Rattle.gdbindex_read.specs.Areas.{area_seen, areas_seen}
-use Rattle.gdbindex_read.proofs.SlotsRead.{all_of, empty_slot, bad_name, bad_vector, bad_unit, good, none_text, some_text}
+use Rattle.gdbindex_read.proofs.SlotsRead.{empty_slot, bad_name, bad_vector, bad_unit, good, none_text, some_text}
 use Rattle.gdbindex_read.proofs.slots.check_slot.Goals as goal
 
 pub returns-in_default : goal.returns-in_default

@@ -1,4 +1,4 @@
-use Rattle.std.proofs.Common.{Bool, ◌||◌, eqb, refl, ap, sym, ◌∙◌}
+use Rattle.std.proofs.Common.{Bool, ◌||◌, eqb, ap, sym, ◌∙◌}
 use Rattle.std.specs.Int.RustNames.{count_ones}
 use Rattle.std.proofs.lemmas.Bool.{eq-eqb, ne_eqb}
 use Rattle.gdbindex_read.proofs.Powers.{table_size_is}

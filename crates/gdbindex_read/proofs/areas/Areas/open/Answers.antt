@@ -1,4 +1,3 @@
-use Rattle.std.proofs.Common.{sym}
 use Rattle.gdbindex_read.specs.Areas.{areas_seen}
 use Rattle.gdbindex_read.proofs.Opened.{no_version, wrong_offset, short_shortcut, areas_found}
 use Rattle.std.proofs.lemmas.Result.{err_from_is_err_and}

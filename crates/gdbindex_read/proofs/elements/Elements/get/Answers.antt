@@ -1,4 +1,4 @@
-use Rattle.std.proofs.Common.{◌<◌, length, arith, sym, ◌∙◌, ap, get_or}
+use Rattle.std.proofs.Common.{◌<◌, length, arith, sym, ◌∙◌}
 use Rattle.gdbindex_read.specs.Pool.{elements_seen}
 use Rattle.gdbindex_read.proofs.Vectors.{length-seen, element}
 use Rattle.gdbindex_read.proofs.elements.Elements.get.Goals as goal

@@ -1,7 +1,7 @@
-use Rattle.std.proofs.Common.{◌≡◌, ℕ, Some, None, true, false, ap, sym, ◌∙◌, arith}
+use Rattle.std.proofs.Common.{◌≡◌, ℕ, Some, true, false, ap, sym, ◌∙◌, arith}
 use Rattle.ix_base.specs.declared.fault.Fault.{Fault}
 use Rattle.index_model.specs.declared.index_code.TheConstants.{GDB_LOST_SLOT}
-use Rattle.index_model.specs.Meaning.{fault, wrong_in}
+use Rattle.index_model.specs.Meaning.{fault}
 use Rattle.index_model.specs.GdbIndexRead.{reached}
 use Rattle.gdbindex_read.specs.Areas.{item}
 use Rattle.gdbindex_read.specs.Slots.{slots_seen, slot_of, slot_in, table_of, is_found_from}

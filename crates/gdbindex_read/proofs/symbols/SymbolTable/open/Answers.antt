@@ -1,4 +1,3 @@
-use Rattle.std.proofs.Common.{sym}
 use Rattle.gdbindex_read.specs.Areas.{area_seen, areas_seen}
 use Rattle.gdbindex_read.proofs.SlotsRead.{wrong_size, wrong_slot, right_slots, right_size}
 use Rattle.std.proofs.lemmas.Result.{err_from_is_err_and}
