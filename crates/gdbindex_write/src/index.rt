@@ -26,8 +26,8 @@ use std::alloc::Global;
 /// The bytes of the `.gdb_index` of a program with these units, addresses, main and entries, version 8 or 9.
 ///
 /// The units stand in section order and follow one another. The map and the table name no others, and each entry lies in its
-/// unit. Main has the name of an entry that isn't a linkage entry; only version 9 says it. The work beside two sorts, that of the
-/// names and that of their elements, is linear.
+/// unit. Main has the name of an entry that isn't a linkage entry; only version 9 says it. The work beside one sort, that of the
+/// names with their elements, is linear.
 ///
 /// # Errors
 ///

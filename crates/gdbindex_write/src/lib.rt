@@ -18,6 +18,8 @@ mod slots;
 mod stop;
 mod symbols;
 mod table;
+#[cfg(test)]
+mod tests;
 mod units;
 mod vectors;
 
