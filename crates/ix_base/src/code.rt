@@ -48,5 +48,3 @@ pub const TOO_MANY_UNITS: u8 = 22;
 pub const TRAILING_BYTES: u8 = 23;
 /// A string or a qualified name is too long.
 pub const NAME_TOO_LONG: u8 = 24;
-/// The file has what this program doesn't read yet. It isn't a fault of the format.
-pub const NOT_BUILT: u8 = 29;

@@ -2,9 +2,9 @@
 use Rattle.std.proofs.Common.{◌≡◌, ℕ, List, [], ◌∷◌, Option, Some, None, Result, Ok, refl, sym, ap, subst, ◌∙◌, cond, eqb, flat_map}
 use Rattle.std.specs.Prelude.{option_and_then, codes}
 use Rattle.std.specs.Option.{option_map}
-use Rattle.ix_base.specs.declared.code.TheConstants.{NO_BASE, BAD_RANGE}
+use Rattle.ix_base.specs.declared.code.TheConstants.{BAD_RANGE}
 use Rattle.ix_base.specs.declared.fault.Fault.{Fault}
-use Rattle.ix_base.specs.Reading.{Input, number, uleb, offset, input}
+use Rattle.ix_base.specs.Reading.{Input, number, uleb}
 use Rattle.index_model.specs.declared.unit.Unit.{Unit as UnitHeader}
 use Rattle.index_model.specs.declared.range.Range.{Range}
 use Rattle.index_model.specs.declared.shard.Node.{Node}

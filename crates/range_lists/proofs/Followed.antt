@@ -1,6 +1,6 @@
 -- The links of units: one of each followed entry.
-use Rattle.std.proofs.Common.{◌≡◌, ℕ, zero, suc, ◌+◌, Bool, true, false, cond, eqb, not, ◌&&◌, ◌||◌, List, [], ◌∷◌, ◌++◌, map, filter, flat_map, Option, Some, None, Result, Ok, Err, refl, sym, ap, subst, ◌∙◌, arith, ⊎_elim, unwrap_or}
-use Rattle.std.specs.Prelude.{Contains, is_some, is_none}
+use Rattle.std.proofs.Common.{◌≡◌, ℕ, zero, suc, Bool, true, false, cond, eqb, not, ◌&&◌, ◌||◌, List, [], ◌∷◌, ◌++◌, map, filter, flat_map, Option, Some, None, Result, Ok, Err, refl, sym, ap, subst, ◌∙◌, arith, ⊎_elim, unwrap_or}
+use Rattle.std.specs.Prelude.{Contains, is_none}
 use Rattle.std.specs.Option.{option_or}
 use Rattle.std.proofs.lemmas.Bool.{true≢false, and_parts}
 use Rattle.std.proofs.lemmas.List.Elements.{filter-append}
@@ -9,7 +9,7 @@ use Rattle.ix_base.specs.declared.fault.Fault.{Fault}
 use Rattle.index_model.specs.declared.rules.Parent.{Parent}
 use Rattle.index_model.specs.declared.rules.Parent.TheVariants.{Root, Other, Seen}
 use Rattle.index_model.specs.Meaning.{◌>>=◌, ◌>>◌, holds_or, at_place, each}
-use Rattle.index_model.specs.Tags.{is_record_tag, namespace, enumeration, subprogram, partial_unit}
+use Rattle.index_model.specs.Tags.{is_record_tag, namespace, enumeration, subprogram}
 use Rattle.index_model.specs.Walk.{Item, parent_of}
 use Rattle.index_model.specs.Program.{Walked, Program, Located, items_of, located, root_of}
 use Rattle.index_model.specs.Languages.{class_of, class_of_unit, language_of, language_by_import, own_language}
@@ -18,7 +18,7 @@ use Rattle.index_model.specs.Rules.{is_in_table, is_visited, is_visited_at, is_v
 use Rattle.index_model.specs.Names.{Member, scope_path}
 use Rattle.index_model.specs.Links.{Link, link_of, is_link_indexed, is_within_limit, qualified_of, followed}
 use Rattle.index_model.specs.ShardParts.{is_kept, is_partial, may_be_ada}
-use Rattle.index_model.proofs.Meanings.{bind_ok, holds_ok, same_ok, contains_here, contains_later, contains_cases}
+use Rattle.index_model.proofs.Meanings.{bind_ok, holds_ok, same_ok, contains_cases}
 use Rattle.range_lists.proofs.Filters.{filter_agree}
 use Rattle.range_lists.proofs.Located.{of_located}
 

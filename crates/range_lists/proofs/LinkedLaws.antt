@@ -1,18 +1,13 @@
 -- The subprograms of a unit that are linked are its indexed subprograms.
-use Rattle.std.proofs.Common.{◌≡◌, ℕ, ◌+◌, ◌<◌, ◌≤◌, Bool, true, false, cond, eqb, ◌&&◌, ◌||◌, List, [], ◌∷◌, ◌++◌, get_or, length, map, filter, flat_map, Option, Some, None, Result, Ok, Err, refl, sym, ap, subst, ◌∙◌, arith, ⊎_elim}
+use Rattle.std.proofs.Common.{◌≡◌, ℕ, ◌<◌, ◌≤◌, Bool, true, false, eqb, ◌&&◌, ◌||◌, List, [], ◌∷◌, ◌++◌, get_or, map, filter, flat_map, Ok, refl, sym, ap, subst, ◌∙◌, arith, ⊎_elim}
 use Rattle.std.specs.Prelude.{Contains}
-use Rattle.std.specs.List.{AllZip, list_any}
-use Rattle.std.specs.List.Sorted.{IsNonDecreasingBy}
-use mathlib.Core.Logic.{◌⊎◌}
-use Rattle.std.proofs.lemmas.Bool.{true≢false, false≢true, eqb-true, eq-eqb, and_parts, or_parts, cases_lt}
+use Rattle.std.specs.List.{AllZip}
+use Rattle.std.proofs.lemmas.Bool.{false≢true, eqb-true, eq-eqb, and_parts, cases_lt}
 use Rattle.std.proofs.lemmas.List.Concat.{flat_map-append}
 use Rattle.std.proofs.lemmas.List.Elements.{Contains-append_left, Contains-append_right, Contains-append_cases}
-use Rattle.ix_base.specs.declared.fault.Fault.{Fault}
 use Rattle.index_model.specs.declared.shard.LinkedEntry.{LinkedEntry}
-use Rattle.index_model.specs.declared.shard.Linked.{Linked}
-use Rattle.index_model.specs.Meaning.{◌>>=◌, each}
+use Rattle.index_model.specs.Meaning.{each}
 use Rattle.index_model.specs.Tags.{subprogram}
-use Rattle.index_model.specs.Walk.{Item}
 use Rattle.index_model.specs.Program.{Walked, Program, Located, located}
 use Rattle.index_model.specs.Links.{Link, is_link_indexed, indexed_in, followed, links_in}
 use Rattle.index_model.specs.Ranges.{subprograms_in}
@@ -20,10 +15,10 @@ use Rattle.index_model.specs.Faults.{links_of}
 use Rattle.index_model.specs.Shards.{IsLinkedEntryOf, IsRunOf}
 use Rattle.index_model.proofs.Meanings.{same_ok, contains_here, contains_later, contains_cases}
 use Rattle.index_model.proofs.EachLaws.{in_two}
-use Rattle.index_model.proofs.Pairs.{Pairs, On, all_pairs, of_filter, to_filter, to_map, of_map, of_flat_map, pairs_filter, pairs_of_map}
+use Rattle.index_model.proofs.Pairs.{Pairs, On, all_pairs, of_filter, to_filter, to_map, of_flat_map}
 use Rattle.index_model.proofs.UnitsApart.{Apart, pairs_back}
 use Rattle.range_lists.specs.Nodes.{is_linked, EntriesRise}
-use Rattle.range_lists.proofs.Filters.{filter_agree, filter_within, filter_both, map_filter, map_map}
+use Rattle.range_lists.proofs.Filters.{filter_within, filter_both, map_filter, map_map}
 use Rattle.range_lists.proofs.Located.{Before, same_place, at_number, of_located}
 use Rattle.range_lists.proofs.Followed.{is_followed, all_followed, placed, AreLinks, links_are}
 

@@ -1,5 +1,5 @@
 -- Entries of the units of a file, by their offsets and homes.
-use Rattle.std.proofs.Common.{◌≡◌, ℕ, suc, ◌+◌, ◌<◌, ◌≤◌, Bool, true, false, cond, eqb, ◌&&◌, List, [], ◌∷◌, ◌++◌, map, filter, flat_map, refl, sym, ap, subst, ◌∙◌, arith, ⊎_elim}
+use Rattle.std.proofs.Common.{◌≡◌, ℕ, suc, ◌+◌, ◌<◌, Bool, eqb, ◌&&◌, List, [], ◌∷◌, ◌++◌, filter, flat_map, refl, sym, ap, subst, ◌∙◌, arith, ⊎_elim}
 use Rattle.std.specs.Prelude.{Contains}
 use mathlib.Core.Logic.{◌⊎◌}
 use Rattle.std.proofs.lemmas.Bool.{eq-eqb, ne_eqb}
@@ -9,11 +9,11 @@ use Rattle.index_model.specs.Sections.{Section}
 use Rattle.index_model.specs.Walk.{Item}
 use Rattle.index_model.specs.Program.{Walked, Located, items_of, located}
 use Rattle.index_model.proofs.Meanings.{contains_here, contains_later, contains_cases}
-use Rattle.index_model.proofs.Pairs.{Pairs, On, of_map, of_flat_map, pairs_append, pairs_map}
+use Rattle.index_model.proofs.Pairs.{Pairs, of_map, of_flat_map, pairs_append, pairs_map}
 use Rattle.index_model.proofs.ParentLaws.{Rise, rise_below}
 use Rattle.index_model.proofs.OrderLaws.{walk_rises, walks_in_order}
 use Rattle.index_model.proofs.ShardRoots.{Numbered, numbered_low}
-use Rattle.index_model.proofs.UnitsApart.{Apart, AreApart, IsWalk, pairs_cases}
+use Rattle.index_model.proofs.UnitsApart.{AreApart, IsWalk, pairs_cases}
 use Rattle.range_lists.proofs.Filters.{filter_agree, filter_none}
 
 abbrev pub at_home : Walked → Item → Located

@@ -1,17 +1,13 @@
 -- What a node says of the ranges of its entry.
-use Rattle.std.proofs.Common.{◌≡◌, ℕ, Bool, true, false, cond, eqb, leb, ◌&&◌, ◌||◌, Option, Some, None, List, Result, refl, sym, ap, ◌∙◌}
+use Rattle.std.proofs.Common.{◌≡◌, ℕ, Bool, true, false, cond, eqb, leb, ◌&&◌, ◌||◌, Option, Some, None, List, refl, sym, ap, ◌∙◌}
 use Rattle.std.specs.Prelude.{pos, negsuc, is_some, option_and_then}
-use Rattle.std.specs.Option.{option_map, option_or}
-use Rattle.ix_base.specs.declared.fault.Fault.{Fault}
-use Rattle.index_model.specs.declared.range.Range.{Range}
+use Rattle.std.specs.Option.{option_map}
 use Rattle.index_model.specs.declared.shard.Node.{Node}
-use Rattle.index_model.specs.declared.shard.Raw.{Raw}
 use Rattle.index_model.specs.Meaning.{at_place}
 use Rattle.index_model.specs.Sections.{Section}
 use Rattle.index_model.specs.Forms.{Value, Addr, Unsigned, AddrIndex, Offset, RangeIndex, Signed}
-use Rattle.index_model.specs.Attributes.{High, EndsAt, Bytes, attribute, as_address, as_high as high_of, as_ranges, as_unsigned, low_pc, high_pc, ranges_value}
-use Rattle.index_model.specs.Walk.{Item}
-use Rattle.index_model.specs.Program.{Walked, Located}
+use Rattle.index_model.specs.Attributes.{High, attribute, as_address, as_high as high_of, as_ranges, as_unsigned, low_pc, high_pc, ranges_value}
+use Rattle.index_model.specs.Program.{Located}
 use Rattle.index_model.specs.Ranges.{ranges_by, entry_ranges, has_ranges}
 use Rattle.index_model.specs.ShardParts.{raw_of, raw_of_high, node_facts}
 use Rattle.range_lists.specs.Homes.{as_value, as_high}

@@ -10,7 +10,6 @@ use Rattle.std.specs.Prelude.{option_and_then}
 use Rattle.std.specs.Option.{option_map}
 use Rattle.index_model.specs.declared.unit.Unit.{Unit as UnitHeader}
 use Rattle.index_model.specs.declared.shard.Raw.{Raw}
-use Rattle.index_model.specs.declared.shard.Raw.TheVariants.{Address, AddressIndex, Constant, Offset as OffsetRaw, RangeIndex as RangeIndexRaw}
 use Rattle.index_model.specs.Attributes.{read_as, as_address, as_offset, low_pc}
 use Rattle.index_model.specs.Program.{root_of}
 use Rattle.index_model.specs.Strings.{base_of, offset_size}

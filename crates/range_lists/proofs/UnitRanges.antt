@@ -1,12 +1,11 @@
 -- The ranges of a unit, by the shard and the links of its run.
-use Rattle.std.proofs.Common.{◌≡◌, ℕ, ◌+◌, ◌-◌, ◌<◌, Bool, true, false, cond, eqb, ◌&&◌, ◌||◌, List, [], ◌∷◌, ◌++◌, length, map, filter, flat_map, Option, Some, None, Result, Ok, refl, sym, ap, subst, ◌∙◌, arith, inl, inr, ⊎_elim}
+use Rattle.std.proofs.Common.{◌≡◌, ℕ, ◌-◌, Bool, true, false, cond, eqb, ◌&&◌, ◌||◌, List, [], ◌∷◌, ◌++◌, map, filter, flat_map, Option, Some, None, Result, Ok, refl, sym, ap, subst, ◌∙◌, arith, inl, inr, ⊎_elim}
 use Rattle.std.specs.Prelude.{Contains, find, slice_get, is_some, option_and_then}
 use Rattle.std.specs.Option.{option_map}
 use Rattle.std.specs.List.{AllZip}
 use mathlib.Core.Logic.{◌⊎◌}
-use Rattle.std.proofs.lemmas.Bool.{true≢false, false≢true, eq-eqb, and_parts}
+use Rattle.std.proofs.lemmas.Bool.{false≢true, eq-eqb, and_parts}
 use Rattle.std.proofs.lemmas.List.{append-nil}
-use Rattle.std.proofs.lemmas.List.Concat.{flat_map-append}
 use Rattle.std.proofs.lemmas.List.Elements.{Contains-append_left, Contains-append_right}
 use Rattle.ix_base.specs.declared.fault.Fault.{Fault}
 use Rattle.ix_base.specs.Reading.{Input}
@@ -32,7 +31,7 @@ use Rattle.index_model.specs.Ranges.{entry_ranges, entries_with_ranges, has_rang
 use Rattle.index_model.specs.Faults.{program_of, links_of}
 use Rattle.index_model.specs.Rules.{is_visited}
 use Rattle.index_model.specs.ShardParts.{IsNodeOf, is_kept, kept_in, may_be_ada, root_facts}
-use Rattle.index_model.specs.Shards.{StandsFor, IsRunOf, AreShardsOf}
+use Rattle.index_model.specs.Shards.{IsRunOf, AreShardsOf}
 use Rattle.index_model.specs.ShardLanguages.{first_some, root_in, NodesRise}
 use Rattle.index_model.proofs.Meanings.{same_ok, contains_cases}
 use Rattle.index_model.proofs.TokenReads.{Follow, start}
@@ -44,7 +43,7 @@ use Rattle.index_model.proofs.ShardNodes.{all_rise}
 use Rattle.index_model.proofs.UnitsApart.{program_apart, run_apart}
 use Rattle.range_lists.specs.Homes.{as_value}
 use Rattle.range_lists.specs.Nodes.{node_ranges, all_node_ranges, has_node_ranges, is_linked, is_linked_subprogram, nodes_with_ranges, EntriesRise}
-use Rattle.range_lists.specs.Units.{IsLinkedRun, AreLinkedOf, Keeps, unit_nodes, first_low}
+use Rattle.range_lists.specs.Units.{AreLinkedOf, Keeps, unit_nodes, first_low}
 use Rattle.range_lists.proofs.Filters.{filter_within, filter_both, zip_filter, each_zip, each_map}
 use Rattle.range_lists.proofs.Located.{Before, located_before, of_located, at_home, at_number, home_only}
 use Rattle.range_lists.proofs.Followed.{is_followed, all_followed, followed_kept}

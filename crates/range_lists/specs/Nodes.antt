@@ -1,5 +1,5 @@
 -- The ranges of entries, by the nodes that a shard keeps of them.
-use Rattle.std.specs.Prelude.{ℕ, Bool, ◌&&◌, ◌||◌, ◌==◌, if◌then◌else◌, List, [], ◌∷◌, filter, find, flat_map, nat_le, Option, Some, None, option_map, is_some, Result, Ok}
+use Rattle.std.specs.Prelude.{ℕ, Bool, ◌&&◌, ◌||◌, ◌==◌, if◌then◌else◌, List, [], ◌∷◌, filter, flat_map, option_map, is_some, Result, Ok}
 use Rattle.std.specs.List.Sorted.{IsNonDecreasingBy}
 use Rattle.std.specs.List.{list_any}
 use Rattle.ix_base.specs.declared.fault.Fault.{Fault}

@@ -1,4 +1,4 @@
-use Rattle.std.proofs.Common.{ℕ, ◌<◌, get_or}
+use Rattle.std.proofs.Common.{◌<◌}
 use Rattle.std.specs.Prelude.{All}
 use Rattle.std.proofs.Common.{take}
 use Rattle.gdbindex_write.proofs.tests.are_of_units.Given as goal

@@ -1,4 +1,4 @@
-use Rattle.std.proofs.Common.{◌≡◌, ◌≤◌, ◌+◌, drop, take}
+use Rattle.std.proofs.Common.{◌≡◌, drop, take}
 use Rattle.gdbindex_write.specs.Writable.{FollowFrom, InfoFirst, unit_bytes}
 use Rattle.gdbindex_write.proofs.tests.are_units.Given as goal
 

@@ -1,4 +1,4 @@
-use Rattle.std.proofs.Common.{◌≡◌, ◌∷◌, [], length, map, List, sym, subst, ◌∙◌}
+use Rattle.std.proofs.Common.{◌∷◌, [], map, sym, subst, ◌∙◌}
 use Rattle.std.specs.Arc.{arc_value}
 use Rattle.index_model.specs.declared.shard.Linked.{Linked}
 use Rattle.range_lists.proofs.Runs.{map_length}

@@ -1,10 +1,8 @@
-use Rattle.std.proofs.Common.{◌≡◌, List, Result, Vec, Global, sym, ap, subst, ◌∙◌}
+use Rattle.std.proofs.Common.{List, Result, Vec, Global, sym, ap, subst, ◌∙◌}
 use Rattle.std.specs.Prelude.{option_and_then}
 use Rattle.std.specs.List.Sorted.{IsNonDecreasingBy}
-use Rattle.index_model.specs.declared.shard.Raw.{Raw}
 use Rattle.index_model.specs.declared.shard.Root.{Root}
 use Rattle.index_model.specs.declared.shard.Node.{Node}
-use Rattle.index_model.specs.declared.shard.LinkedEntry.{LinkedEntry}
 use Rattle.index_model.specs.Attributes.{as_address}
 use Rattle.index_model.proofs.Meanings.{same_some}
 use Rattle.ix_base.specs.declared.fault.Fault.{Fault}

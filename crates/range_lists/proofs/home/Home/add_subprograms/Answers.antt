@@ -1,4 +1,4 @@
-use Rattle.std.proofs.Common.{◌≡◌, ◌+◌, drop, filter, Err, ap, sym, ◌∙◌}
+use Rattle.std.proofs.Common.{◌+◌, drop, filter, Err, ap, sym, ◌∙◌}
 use Rattle.std.proofs.lemmas.Result.{err_from_is_err_and}
 use Rattle.range_lists.specs.Homes.{unit_with}
 use Rattle.range_lists.specs.Lists.{behind}

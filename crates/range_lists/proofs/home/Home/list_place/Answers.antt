@@ -1,6 +1,5 @@
-use Rattle.std.proofs.Common.{rules, arith, ap}
+use Rattle.std.proofs.Common.{rules, arith}
 use Rattle.std.proofs.lemmas.Grind.{common_steps}
-use Rattle.range_lists.specs.Lists.{capped}
 use Rattle.range_lists.proofs.Roots.{list_offset_at}
 use Rattle.range_lists.proofs.home.Home.list_place.Goals as goal
 
