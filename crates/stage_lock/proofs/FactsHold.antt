@@ -3,6 +3,7 @@ use Rattle.std.proofs.Common.{◌≡◌, ◌≢◌, ℕ, ◌≤◌, All, Some, N
 use Rattle.std.specs.Prelude.{IsSome, IfSome, ◌↔◌, ◌⊎◌}
 use mathlib.Core.Logic.{dite}
 use mathlib.Core.Option.{some, some-injective, some-ne-none}
+use native.Mathlib.Decide.{ℕ_discrete}
 use lib.ListN.{get_elem?}
 use Rattle.index_model.specs.Stages.{IsReachable}
 use Rattle.stage_lock.specs.declared.known.Known.{Known}
@@ -10,6 +11,8 @@ use Rattle.stage_lock.specs.declared.known.Turn.TheVariants.{Without, Out}
 use Rattle.stage_lock.specs.Rule.{word_of, Lives, Holds}
 use Rattle.stage_lock.specs.Facts.{LockState, turn, IsAway, IsPass, HasTurn, IsTaken, IsPublished, Facts}
 use Rattle.stage_lock.proofs.Seats.{lives, stage_at, turn_at}
+use Rattle.stage_lock.specs.Shares.{IsWhole}
+use Rattle.stage_lock.proofs.Shares.{none_beside}
 use Rattle.stage_lock.proofs.Turns.{dec_without, dec_out, free, taken, not_taken}
 
 module _ {V X : Type 0} (stage_of : V → ℕ) (subject : V → X) (fits : X → ℕ → Type 0) (about : X) where
@@ -66,6 +69,10 @@ module _ {V X : Type 0} (stage_of : V → ℕ) (subject : V → X) (fits : X →
     λ t. r.away (sym (as_far s r t.0 t.1 t.2 (λ z. let q = sym t.3 ∙ z in cc)) ∙ t.3),
   )
 
+  -- a pass with the whole share is the only one
+  pub alone_of : (s : State) (r : R s) (i j : ℕ) (u v : Known V X) → IsPass s i u → IsWhole u.share → IsPass s j v → i ≡ j
+  alone_of s r i j u v p whole q = dite (ℕ_discrete i j) (λ e. e) (λ apart. absurd (none_beside r.scale s.views i j u v r.fine r.whole apart p.0 whole q.0 (live s r j v q).1.has_share))
+
   -- the facts hold of each state that has the rule
   pub facts_hold : (s : State) → R s → Facts stage_of subject fits about s
   facts_hold s r =
@@ -90,4 +97,5 @@ module _ {V X : Type 0} (stage_of : V → ℕ) (subject : V → X) (fits : X →
         stage_fits = subst (fits about) (sym is) r.fitting;
         floors_fit = λ seat v p. (live s r seat v p).1.fitting;
         marks_fit = λ seat v p. (live s r seat v p).1.marks;
+        alone = alone_of s r;
       }

@@ -1,5 +1,6 @@
 pub mod Stages
 pub mod Turns
+pub mod Shares
 pub mod Seats
 pub mod Steps
 pub mod TurnSteps

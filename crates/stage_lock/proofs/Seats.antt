@@ -14,6 +14,7 @@ use Rattle.stage_lock.specs.declared.known.Known.{Known}
 use Rattle.stage_lock.specs.declared.known.Turn.{Turn}
 use Rattle.stage_lock.specs.declared.known.Turn.TheVariants.{Without, Out}
 use Rattle.stage_lock.specs.Rule.{word_of, Lives, Knows, Holds}
+use Rattle.stage_lock.proofs.Shares.{kept_fine, kept_whole}
 use Rattle.stage_lock.proofs.Stages.{reach_on}
 use Rattle.stage_lock.proofs.Turns.{dec_without}
 
@@ -63,8 +64,8 @@ module _ {V X : Type 0} (stage_of : V → ℕ) (subject : V → X) (fits : X →
       (λ other. (h.0, set_else views seat holder w other ∙ h.1, h.2))
 
   -- a load of the word i, at which one view changes and its turn stays
-  pub unmoved : (s : St) (r : Rule s) (i seat : ℕ) (cs : List (ℕ × Option V)) (v w : View) → get_elem? s.views seat ≡ some v → w.turn ≡ v.turn → K r.turn r.holder r.now seat w → Rule (stepped s i (get_or s.words i 0) seat cs w keeps)
-  unmoved s r i seat cs v w at same mine = subst (λ (ws : List ℕ). Rule record { words = ws; homes = s.homes; views = set s.views seat w }) (sym (set-get_or s.words i 0)) record {
+  pub unmoved : (s : St) (r : Rule s) (i seat : ℕ) (cs : List (ℕ × Option V)) (v w : View) → get_elem? s.views seat ≡ some v → w.turn ≡ v.turn → w.share ≡ v.share → K r.turn r.holder r.now seat w → Rule (stepped s i (get_or s.words i 0) seat cs w keeps)
+  unmoved s r i seat cs v w at same shared mine = subst (λ (ws : List ℕ). Rule record { words = ws; homes = s.homes; views = set s.views seat w }) (sym (set-get_or s.words i 0)) record {
     turn = r.turn;
     holder = r.holder;
     now = r.now;
@@ -74,6 +75,9 @@ module _ {V X : Type 0} (stage_of : V → ℕ) (subject : V → X) (fits : X →
     small = r.small;
     fitting = r.fitting;
     held = λ l. still_held s.views r.holder r.turn seat v w at same (r.held l);
+    scale = r.scale;
+    fine = kept_fine r.scale s.views seat v w at shared r.fine;
+    whole = kept_whole r.scale s.views seat v w at shared r.whole;
     each = each_seat (K r.turn r.holder r.now) s.views seat w mine (λ j u _. r.each j u);
   }
 
@@ -85,6 +89,7 @@ module _ {V X : Type 0} (stage_of : V → ℕ) (subject : V → X) (fits : X →
       inr (
         t.0,
         record {
+          has_share = t.1.has_share;
           fitting = t.1.fitting;
           reaches = reach_on u.floor now now' t.1.reaches on;
           olds = λ i d l. reach_on _ now now' (t.1.olds i d l) on;
@@ -105,10 +110,10 @@ module _ {V X : Type 0} (stage_of : V → ℕ) (subject : V → X) (fits : X →
       (r.each seat u at)
 
   -- a pass that alone has the turn afterwards, if anyone has it, goes from the view v to w
-  pub moved : (s : St) (r : Rule s) (seat : ℕ) (v w : View) (words' : List ℕ) (homes' : List (mathlib.Core.Option.Option (Option V))) (turn' : Turn) (now' : ℕ) → get_elem? s.views seat ≡ some v → w.turn ≡ turn' → (r.turn ≢ Without → seat ≡ r.holder) → IsReachable r.now now' → now' ≤ 5 → fits about now'
+  pub moved : (s : St) (r : Rule s) (seat : ℕ) (v w : View) (words' : List ℕ) (homes' : List (mathlib.Core.Option.Option (Option V))) (turn' : Turn) (now' : ℕ) → get_elem? s.views seat ≡ some v → w.turn ≡ turn' → w.share ≡ v.share → (r.turn ≢ Without → seat ≡ r.holder) → IsReachable r.now now' → now' ≤ 5 → fits about now'
       → words' ≡ word_of turn' ∷ now' ∷ [] → (turn' ≢ Out → (y : V) × (homes' ≡ some (Some y) ∷ []) × (stage_of y ≡ now') × (subject y ≡ about)) → (turn' ≡ Out → homes' ≡ none ∷ []) → K turn' seat now' seat w
       → Rule record { words = words'; homes = homes'; views = set s.views seat w }
-  moved s r seat v w words' homes' turn' now' at is own on small fit words home away mine = record {
+  moved s r seat v w words' homes' turn' now' at is shared own on small fit words home away mine = record {
     turn = turn';
     holder = seat;
     now = now';
@@ -118,5 +123,8 @@ module _ {V X : Type 0} (stage_of : V → ℕ) (subject : V → X) (fits : X →
     small = small;
     fitting = fit;
     held = λ l. (w, set_at s.views seat v w at, is);
+    scale = r.scale;
+    fine = kept_fine r.scale s.views seat v w at shared r.fine;
+    whole = kept_whole r.scale s.views seat v w at shared r.whole;
     each = each_seat (K turn' seat now') s.views seat w mine (λ j u other there. quiet_on r.turn r.holder r.now turn' seat now' j u on (quiet s r j u there (λ e. dite (dec_without r.turn) (λ none_has. none_has) (λ busy. absurd (other (e ∙ sym (own busy)))))) (r.each j u there));
   }

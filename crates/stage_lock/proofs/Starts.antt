@@ -1,5 +1,5 @@
 -- The lock's first state has the rule.
-use Rattle.std.proofs.Common.{◌≡◌, ℕ, zero, suc, ◌≤◌, List, [], ◌∷◌, Option, Some, sym, refl, subst, inr}
+use Rattle.std.proofs.Common.{◌≡◌, ℕ, zero, suc, ◌≤◌, List, [], ◌∷◌, Option, Some, sym, refl, subst, inr, arith}
 use Rattle.std.proofs.lemmas.List.Elements.{All-nil}
 use mathlib.Core.Option.{some, some-injective, some-ne-none}
 use lib.ListN.{get_elem?}
@@ -22,14 +22,22 @@ module _ {V X : Type 0} (stage_of : V → ℕ) (subject : V → X) (fits : X →
     small = small;
     fitting = fit;
     held = λ l. absurd (l refl);
+    scale = 0;
+    fine = fine;
+    whole = refl;
     each = one;
   }
     where
+      fine : (j : ℕ) (u : Known V X) → get_elem? (starting (subject v) (stage_of v) ∷ []) j ≡ some u → u.share.halvings ≤ 0
+      fine (suc j) u e = absurd (some-ne-none u (sym e))
+      fine zero u e = subst (λ (z : Known V X). z.share.halvings ≤ 0) (some-injective _ _ e) (omega arith)
+
       one : (j : ℕ) (u : Known V X) → get_elem? (starting (subject v) (stage_of v) ∷ []) j ≡ some u → Knows stage_of subject fits (subject v) Without 0 (stage_of v) j u
       one (suc j) u e = absurd (some-ne-none u (sym e))
       one zero u e = subst (Knows stage_of subject fits (subject v) Without 0 (stage_of v) 0) (some-injective _ _ e) (inr (
         refl,
         record {
+          has_share = omega arith;
           fitting = fit;
           reaches = reach_self (stage_of v);
           olds = All-nil (λ o. IsReachable o (stage_of v));

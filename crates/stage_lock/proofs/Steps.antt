@@ -27,9 +27,10 @@ module _ {V X : Type 0} (stage_of : V → ℕ) (subject : V → X) (fits : X →
         w,
         keeps,
         tt,
-        unmoved stage_of subject fits about s r 1 seat me.1 me.0 w at refl (inr (
+        unmoved stage_of subject fits about s r 1 seat me.1 me.0 w at refl refl (inr (
           l.0,
           record {
+            has_share = l.1.has_share;
             fitting = subst (fits about) (sym is) r.fitting;
             reaches = subst (λ (z : ℕ). IsReachable z r.now) (sym is) (reach_self r.now);
             olds = l.1.olds;
@@ -56,9 +57,10 @@ module _ {V X : Type 0} (stage_of : V → ℕ) (subject : V → X) (fits : X →
         w,
         keeps,
         tt,
-        unmoved stage_of subject fits about s r 1 seat me.1 me.0 w at refl (inr (
+        unmoved stage_of subject fits about s r 1 seat me.1 me.0 w at refl refl (inr (
           l.0,
           record {
+            has_share = l.1.has_share;
             fitting = l.1.fitting;
             reaches = l.1.reaches;
             olds = All-nil (λ o. IsReachable o r.now);

@@ -36,10 +36,11 @@ module _ {V X : Type 0} (stage_of : V → ℕ) (subject : V → X) (fits : X →
         keeps,
         tt,
         subst (λ b. R (stepped s 0 (either b 1 x) seat me.1 w keeps)) (sym (eq-eqb x 0 hit))
-            (moved stage_of subject fits about s r seat me.0 w (set s.words 0 1) s.homes Won r.now at refl (λ z. absurd (z none_has)) (reach_self r.now) r.small r.fitting (ap (λ ws. set ws 0 1) r.words) (λ _. r.home (λ e. cc)) (λ e. absurd (cc))
+            (moved stage_of subject fits about s r seat me.0 w (set s.words 0 1) s.homes Won r.now at refl refl (λ z. absurd (z none_has)) (reach_self r.now) r.small r.fitting (ap (λ ws. set ws 0 1) r.words) (λ _. r.home (λ e. cc)) (λ e. absurd (cc))
             (inr (
               l.0,
               record {
+                has_share = l.1.has_share;
                 fitting = l.1.fitting;
                 reaches = l.1.reaches;
                 olds = l.1.olds;
@@ -51,7 +52,7 @@ module _ {V X : Type 0} (stage_of : V → ℕ) (subject : V → X) (fits : X →
             ))),
         ((λ _. refl), (λ not. absurd (not hit))),
       ))
-      (λ miss. (me.0, keeps, tt, subst (λ b. R (stepped s 0 (either b 1 x) seat me.1 me.0 keeps)) (sym (ne_eqb x 0 miss)) (unmoved stage_of subject fits about s r 0 seat me.1 me.0 me.0 at refl (r.each seat me.0 at)), ((λ hit. absurd (miss hit)), (λ _. refl))))
+      (λ miss. (me.0, keeps, tt, subst (λ b. R (stepped s 0 (either b 1 x) seat me.1 me.0 keeps)) (sym (ne_eqb x 0 miss)) (unmoved stage_of subject fits about s r 0 seat me.1 me.0 me.0 at refl refl (r.each seat me.0 at)), ((λ hit. absurd (miss hit)), (λ _. refl))))
 
   -- the pass with the turn loads the stage and takes the value
   pub note_allowed : (slots seat : ℕ) (me : M stage_of subject fits about) → IsSome me.0.about → me.0.turn ≡ Won → me.1 ≡ [] → Allows R slots seat me 1 (λ n. n) (notes_stage stage_of subject (step slots 1 0 0 none) me)
@@ -67,10 +68,11 @@ module _ {V X : Type 0} (stage_of : V → ℕ) (subject : V → X) (fits : X →
         w,
         takes 0 (Some y),
         ap (λ hs. get_elem? hs 0) h.1,
-        moved stage_of subject fits about s r seat me.0 w (set s.words 1 g) (set s.homes 0 none) Out r.now at refl (λ _. own.0) (reach_self r.now) r.small r.fitting (set-get_or s.words 1 0 ∙ (r.words ∙ ap (λ t. word_of t ∷ r.now ∷ []) turn_is)) (λ ne. absurd (ne refl)) (λ _. ap (λ hs. set hs 0 none) h.1)
+        moved stage_of subject fits about s r seat me.0 w (set s.words 1 g) (set s.homes 0 none) Out r.now at refl refl (λ _. own.0) (reach_self r.now) r.small r.fitting (set-get_or s.words 1 0 ∙ (r.words ∙ ap (λ t. word_of t ∷ r.now ∷ []) turn_is)) (λ ne. absurd (ne refl)) (λ _. ap (λ hs. set hs 0 none) h.1)
             (inr (
               l.0,
               record {
+                has_share = l.1.has_share;
                 fitting = subst (fits about) (sym is) r.fitting;
                 reaches = subst (λ (z : ℕ). IsReachable z r.now) (sym is) (reach_self r.now);
                 olds = l.1.olds;
@@ -100,11 +102,12 @@ module _ {V X : Type 0} (stage_of : V → ℕ) (subject : V → X) (fits : X →
         w,
         gives,
         tt,
-        moved stage_of subject fits about s r seat me.0 w (set s.words 1 (stage_of y)) (put_back s.homes me.1) Back (stage_of y) at refl (λ _. own.0) on' small fit' (ap (λ ws. set ws 1 (stage_of y)) r.words ∙ ap (λ t. word_of t ∷ stage_of y ∷ []) turn_is)
+        moved stage_of subject fits about s r seat me.0 w (set s.words 1 (stage_of y)) (put_back s.homes me.1) Back (stage_of y) at refl refl (λ _. own.0) on' small fit' (ap (λ ws. set ws 1 (stage_of y)) r.words ∙ ap (λ t. word_of t ∷ stage_of y ∷ []) turn_is)
             (λ _. (y, ap (put_back s.homes) carries ∙ ap (λ hs. set hs 0 (some (Some y))) (r.away turn_is), refl, about_is)) (λ e. absurd (cc))
             (inr (
               l.0,
               record {
+                has_share = l.1.has_share;
                 fitting = fit';
                 reaches = reach_self (stage_of y);
                 olds = λ i d z. reach_on _ r.now (stage_of y) (l.1.olds i d z) on';
@@ -135,10 +138,11 @@ module _ {V X : Type 0} (stage_of : V → ℕ) (subject : V → X) (fits : X →
         w,
         keeps,
         tt,
-        moved stage_of subject fits about s r seat me.0 w (set s.words 0 0) s.homes Without r.now at refl (λ _. own.0) (reach_self r.now) r.small r.fitting (ap (λ ws. set ws 0 0) r.words) (λ _. r.home (λ e. cc)) (λ e. absurd (cc))
+        moved stage_of subject fits about s r seat me.0 w (set s.words 0 0) s.homes Without r.now at refl refl (λ _. own.0) (reach_self r.now) r.small r.fitting (ap (λ ws. set ws 0 0) r.words) (λ _. r.home (λ e. cc)) (λ e. absurd (cc))
             (inr (
               l.0,
               record {
+                has_share = l.1.has_share;
                 fitting = l.1.fitting;
                 reaches = l.1.reaches;
                 olds = l.1.olds;

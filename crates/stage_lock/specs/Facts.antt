@@ -6,6 +6,7 @@ use Rattle.atomic_table.specs.Table.{State}
 use Rattle.index_model.specs.Stages.{IsReachable, stopped}
 use Rattle.stage_lock.specs.declared.known.Known.{Known}
 use Rattle.stage_lock.specs.declared.known.Turn.TheVariants.{Without, Won, Out, Back}
+use Rattle.stage_lock.specs.Shares.{IsWhole}
 
 -- the lock's words, its one slot, and what each pass knows
 abbrev pub LockState : Type 0 → Type 0 → Type 0
@@ -69,3 +70,5 @@ module _ {V X : Type 0} (stage_of : V → ℕ) (subject : V → X) (fits : X →
     pub stage_fits : fits about (stage s)
     pub floors_fit : (seat : ℕ) (v : Known V X) → IsPass s seat v → fits about v.floor
     pub marks_fit : (seat : ℕ) (v : Known V X) → IsPass s seat v → All (fits about) v.marks
+    -- 8. a pass with the whole share is the only one
+    pub alone : (i j : ℕ) (u v : Known V X) → IsPass s i u → IsWhole u.share → IsPass s j v → i ≡ j

@@ -1,3 +1,4 @@
+pub mod Shares
 pub mod Seen
 pub mod Rule
 pub mod Moves

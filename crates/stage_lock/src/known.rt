@@ -16,10 +16,18 @@ pub enum Turn {
     Back,
 }
 
+/// A pass's share in the lock: so many of `2 ^ halvings` equal parts. The shares of all passes make up the whole.
+pub struct Share {
+    pub part: u64,
+    pub halvings: u64,
+}
+
 /// What a pass knows, its seat's view. Only steps of the pass itself change it. No value of it is made.
 pub struct Known<V, X> {
     /// The subject of the lock. `None` where another pass took this one in.
     pub about: Option<X>,
+    /// Its share in the lock, none where another pass took this one in.
+    pub share: Share,
     /// The stages that its own marks loaded, in order.
     pub marks: List<u64>,
     /// The highest stage that it has seen or was told.

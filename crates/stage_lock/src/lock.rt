@@ -1,9 +1,10 @@
 //! The lock.
 
-ghost use Rattle.std.specs.Prelude.{◌≡◌, ◌+◌, ◌≤◌, [], ◌∷◌, ◌++◌, max, Some, true, false, IsTrue, IfOk, IfSome};
+ghost use Rattle.std.specs.Prelude.{◌≡◌, ◌+◌, ◌≤◌, [], ◌∷◌, ◌++◌, max, Some, true, false, IsTrue, IsSome, IfOk, IfSome};
 ghost use Rattle.index_model.specs.Stages.{stopped, IsReachable};
 ghost use Rattle.stage_lock.specs.Closing.{ClosesWith};
-ghost use Rattle.stage_lock.specs.Seen.{IsPassOf, first_pass, split_pass};
+ghost use Rattle.stage_lock.specs.Seen.{IsPassOf, first_pass, parted_pass, split_pass};
+ghost use Rattle.stage_lock.specs.Shares.{sum_of, IsWhole};
 
 use crate::known::{Known, LockRule};
 use crate::moves::{JoinPass, Mark, Note, Publish, Settle, SplitPass, Unlock, Win};
@@ -119,22 +120,22 @@ impl<V: Staged> StageLock<V> {
         self.table.shared.load::<Mark>(&mut pass.seat, STAGE) as u8
     }
 
-    /// A new pass, which begins where this one is.
+    /// A new pass, which begins where this one is. Each has half of the share that this one had.
     pub fn split(&self, pass: &mut Pass<V>) -> Pass<V>
         requires own { IsPassOf self.now pass.old }
-        ensures same { pass.new ≡ pass.old }
+        ensures parted { pass.new ≡ parted_pass pass.old }
         ensures new { result ≡ split_pass pass.old }
     {
         let seat = self.table.shared.split_seat::<SplitPass>(&mut pass.seat);
         Pass { seat }
     }
 
-    /// Takes another pass in: its marks, turns and values go, and the floor becomes the greater of both.
+    /// Takes another pass in: its marks, turns and values go, the floor becomes the greater of both, and the shares are added.
     pub fn join(&self, pass: &mut Pass<V>, other: Pass<V>)
         requires own { IsPassOf self.now pass.old }
         requires other { IsPassOf self.now other }
         requires idle { other.holding ≡ false }
-        ensures pass { pass.new ≡ record pass.old { floor = max pass.old.floor other.floor } }
+        ensures pass { pass.new ≡ record pass.old { floor = max pass.old.floor other.floor; share = sum_of pass.old.share other.share } }
         ensures reach { IsReachable pass.old.floor pass.new.floor }
         ensures other_reach { IsReachable other.floor pass.new.floor }
     {
@@ -144,7 +145,8 @@ impl<V: Staged> StageLock<V> {
         shared.load::<Settle>(&mut pass.seat, STAGE);
     }
 
-    /// The value. None exactly where the turn is taken, because another pass entered and didn't leave.
+    /// The value. None exactly where the turn is taken, because another pass entered and didn't leave. So a pass with the whole
+    /// share, which all others were joined to, gives the value.
     pub fn close(self, pass: Pass<V>) -> Option<V>
     where
         V: Drop,
@@ -152,6 +154,7 @@ impl<V: Staged> StageLock<V> {
         requires idle { pass.holding ≡ false }
         ensures reach { IfSome result (λ value. IsReachable pass.floor (V.stage_of value)) }
         ensures subject { IfSome result (λ value. V.subject value ≡ self.subject) }
+        ensures whole { IsWhole pass.share → IsSome result }
         ensures last { ClosesWith V.stage_of V.subject V.fits self pass result }
     {
         let StageLock { table } = self;

@@ -1,7 +1,7 @@
 //! What each step of the lock tells the pass that makes it.
 
 ghost use Rattle.stage_lock.specs.Moves.{tries_turn, notes_stage, adds_mark, publishes, unlocks, settles};
-ghost use Rattle.stage_lock.specs.Rule.{newcomer, joined, spent};
+ghost use Rattle.stage_lock.specs.Rule.{parted, newcomer, joined, spent};
 
 use crate::known::Known;
 use atomic_table::{Join, Play, Split};
@@ -49,11 +49,11 @@ impl<V: Staged> Play<Option<V>, Known<V, V::Subject>> for Settle {
     ghost then = { settles };
 }
 
-/// A new pass comes from an old one, which stays as it is.
+/// A new pass comes from an old one, and each has half of its share.
 pub struct SplitPass;
 
 impl<V: Staged> Split<Known<V, V::Subject>> for SplitPass {
-    ghost left = { λ v. v };
+    ghost left = { parted };
 
     ghost right = { newcomer };
 }

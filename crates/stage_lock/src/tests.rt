@@ -1,11 +1,13 @@
 //! Locks under several threads, over a build that counts its turns.
 
-ghost use Rattle.std.specs.Prelude.{◌≡◌, ◌≤◌, ◌+◌, ◌++◌, [], ◌∷◌, false};
+ghost use Rattle.std.specs.Prelude.{◌≡◌, ◌≤◌, ◌+◌, ◌++◌, [], ◌∷◌, false, IsSome, IfOk};
 ghost use Rattle.index_model.specs.Stages.{IsReachable};
-ghost use Rattle.stage_lock.specs.Seen.{IsPassOf};
+ghost use Rattle.stage_lock.specs.Seen.{IsPassOf, parted_pass};
 
 use crate::{Pass, StageLock};
 use index_model::Staged;
+use ix_base::NoMemory;
+use std::alloc::Global;
 use std::sync::Wait;
 use std::test::Fail;
 use std::thread::{Threads, join, yield_now};
@@ -77,7 +79,7 @@ struct Worker<'l, V: Staged> {
 
 fn split_worker<'l, V: Staged>(lock: &'l StageLock<V>, pass: &mut Pass<V>) -> Worker<'l, V>
     requires own { IsPassOf lock.now pass.old }
-    ensures same { pass.new ≡ pass.old }
+    ensures parted { pass.new ≡ parted_pass pass.old }
     ensures lock { result.lock.now ≡ lock.now }
     ensures turns { result.pass.turns ≡ 0 }
 {
@@ -162,7 +164,8 @@ fn all_at_once<R: Threads + Wait + Sync>(
     pass: &mut Pass<Build>,
 ) -> bool
     requires own { IsPassOf lock.now pass.old }
-    ensures same { pass.new ≡ pass.old }
+    ensures own { IsPassOf lock.now pass.new }
+    ensures idle { pass.new.holding ≡ pass.old.holding }
 {
     let (first, second) = (split_worker(lock, pass), split_worker(lock, pass));
     let (third, fourth) = (split_worker(lock, pass), split_worker(lock, pass));
@@ -220,6 +223,27 @@ fn a_stage_is_published_by_leave(rt: HostRuntime) -> Result<(), Fail> {
     assert_eq!(rt; marks_of_a_turn(&rt, &lock, &mut other), (0, 0, 1));
     lock.join(&mut pass, other);
     assert_eq!(rt; lock.mark(&mut pass), 1);
+    Ok(())
+}
+
+// Where all passes came back, the value is there.
+fn close_after_joins(alloc: Global, build: Build) -> Result<Option<Build>, NoMemory>
+    ensures { IfOk result (λ value. IsSome value) }
+{
+    let (lock, mut pass) = StageLock::new(alloc, build)?;
+    let mut other = lock.split(&mut pass);
+    let third = lock.split(&mut other);
+    lock.join(&mut pass, third);
+    lock.join(&mut pass, other);
+    Ok(lock.close(pass))
+}
+
+#[test]
+fn close_gives_the_value_to_the_whole_share(rt: HostRuntime) -> Result<(), Fail> {
+    let mut build = new_build();
+    step(&mut build);
+    let closed = close_after_joins(rt.alloc(), build).map_err(|_| "memory")?;
+    assert_eq!(rt; closed.map(|build| build.turns), Some(1));
     Ok(())
 }
 
