@@ -9,3 +9,4 @@ mod KindLaws
 mod FinishLaws
 mod UnitCount
 mod CoreLaws
+pub mod Crossing
