@@ -1,0 +1,2 @@
+pub mod GdbAlike
+pub mod NamesAlike
