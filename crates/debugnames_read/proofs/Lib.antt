@@ -1,0 +1,13 @@
+pub mod NumberTables
+pub mod Fuel
+pub mod Readings
+pub mod ValueLaws
+pub mod Opened
+pub mod BucketLaws
+pub mod Headers
+pub mod Counted
+pub mod EntryLaws
+pub mod NameLaws
+pub mod HitLaws
+pub mod LeftLaws
+pub mod SeenLaws

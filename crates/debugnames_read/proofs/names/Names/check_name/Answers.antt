@@ -1,0 +1,38 @@
+use Rattle.std.proofs.Common.{◌≡◌, ap, sym, ◌∙◌, arith}
+use Rattle.std.proofs.lemmas.Result.{err_from_is_err_and}
+use Rattle.index_model.specs.declared.index_code.TheConstants.{NAMES_STRING_OFFSET}
+use Rattle.index_model.specs.Meaning.{fault, wrong_in}
+use Rattle.debugnames_read.specs.Abbreviations.{abbreviations_in}
+use Rattle.debugnames_read.specs.Names.{tables_of}
+use Rattle.debugnames_read.proofs.Counted.{string_place, string_total}
+use Rattle.debugnames_read.proofs.NameLaws.{string_fault, string_found, string_wrong}
+use Rattle.debugnames_read.proofs.Opened.{as_entries, no_hash, no_text}
+use Rattle.debugnames_read.proofs.names.Names.check_name.Goals as goal
+
+pub place-requires : goal.place-requires
+place-requires c = omega (arith, string_total c.args.self.now.tables, c.requires.within)
+
+pub returns-in_default : goal.returns-in_default
+returns-in_default c =
+    let n = c.args.self.now in
+    let t = tables_of n in
+    let k = c.args.number in
+    let is : c.fault.result ≡ string_wrong t n.strings.now n.base k = c.fault.ensures ∙ ap (fault NAMES_STRING_OFFSET) (c.place.ensures ∙ string_place n.tables k) in
+    rw is (sym (ap wrong_in (no_text t (abbreviations_in t.abbreviations) n.strings.now n.base k (string_wrong t n.strings.now n.base k) (string_fault t n.strings.now n.base k (sym c.in_default.ensures)))))
+
+pub returns-in_err-check_hash : goal.returns-in_err-check_hash
+returns-in_err-check_hash c =
+    let n = c.args.self.now in
+    let t = tables_of n in
+    let k = c.args.number in
+    let p = err_from_is_err_and c.from_residual.result c.from_residual.ensures.1 in
+    let text = string_found t n.strings.now n.base k c.in-Some.name.now (sym c.in-Some.ensures) in
+    rw (p.1, p.2) (sym (ap wrong_in (no_hash t (abbreviations_in t.abbreviations) n.strings.now n.base k c.in-Some.name.now text c.in_err-check_hash.field-0.0 c.in_err-check_hash.ensures)))
+
+pub returns : goal.returns
+returns c =
+    let n = c.args.self.now in
+    let t = tables_of n in
+    let k = c.args.number in
+    let text = string_found t n.strings.now n.base k c.in-Some.name.now (sym c.in-Some.ensures) in
+    c.check_entries.ensures ∙ sym (as_entries t (abbreviations_in t.abbreviations) n.strings.now n.base k c.in-Some.name.now text c.in_ok-check_hash.ensures)

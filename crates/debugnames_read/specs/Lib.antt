@@ -1,0 +1,9 @@
+pub mod Results
+pub mod Numbers
+pub mod Tables
+pub mod Specs
+pub mod Abbreviations
+pub mod Values
+pub mod Entries
+pub mod Names
+pub mod Hits

@@ -1,0 +1,82 @@
+//! The attributes of an entry that say what it stands for (DWARF 5, section 6.1.1.4.7, table 6.1).
+
+ghost use Rattle.std.specs.Prelude.{◌≡◌, [], option_map};
+ghost use Rattle.ix_base.specs.Moves.{MovesOn, Reads};
+ghost use Rattle.debugnames_read.specs.Specs.{specs_in, HasSpecs};
+ghost use Rattle.index_model.specs.NameIndexRead.{number_or_none};
+ghost use Rattle.debugnames_read.specs.Values.{first_values, kept_of, kept_seen, value_seen, with_value};
+
+use crate::abbreviation::Spec;
+use crate::form::{Value, read_value};
+use ix_base::Cursor;
+
+/// The compile unit, by its place in its list.
+const COMPILE_UNIT: u64 = 1;
+
+/// The type unit, by its place among local and then foreign ones.
+const TYPE_UNIT: u64 = 2;
+
+/// The offset of the entry in its unit.
+const DIE_OFFSET: u64 = 3;
+
+/// The first value of each attribute that counts.
+#[derive(Clone, Copy)]
+pub(crate) struct Attributes {
+    pub compile_unit: Option<Value>,
+    pub type_unit: Option<Value>,
+    pub die_offset: Option<Value>,
+}
+
+impl Attributes {
+    // None was read yet.
+    fn none() -> Attributes
+        ensures { kept_seen result ≡ kept_of [] }
+    {
+        Attributes {
+            compile_unit: None,
+            type_unit: None,
+            die_offset: None,
+        }
+    }
+
+    // Keeps the value of an attribute, if it counts and has none yet.
+    fn keep(&mut self, attribute: u64, value: Value)
+        ensures { kept_seen self.new ≡ with_value (kept_seen self.old) attribute (value_seen value) }
+    {
+        match attribute {
+            COMPILE_UNIT => self.compile_unit = self.compile_unit.or(Some(value)),
+            TYPE_UNIT => self.type_unit = self.type_unit.or(Some(value)),
+            DIE_OFFSET => self.die_offset = self.die_offset.or(Some(value)),
+            _ => {}
+        }
+    }
+
+    /// The values of attributes at the cursor, each in its form. Those that don't count are passed.
+    pub fn read(wide: bool, mut specs: Cursor<'_>, cursor: &mut Cursor<'_>) -> Option<Attributes>
+        requires { HasSpecs specs }
+        ensures value { Reads kept_seen (first_values wide (specs_in specs.entry)) cursor.old cursor.new result }
+        ensures place { MovesOn cursor.old cursor.new }
+    {
+        let mut found = Attributes::none();
+        'attributes: for _ in 0..specs.rest().len() + 1 {
+            let spec = Spec::read(&mut specs)?;
+            if spec.is_last() {
+                return Some(found);
+            }
+            let value = read_value(wide, spec.form, cursor)?;
+            found.keep(spec.attribute, value);
+        }
+        None
+    }
+}
+
+/// The number that an attribute has, if it is there. None where its value isn't a number.
+pub(crate) fn number_in(value: Option<Value>) -> Option<Option<u64>>
+    ensures { result ≡ number_or_none (option_map value_seen value) }
+{
+    match value {
+        None => Some(None),
+        Some(Value::Number(number)) => Some(Some(number)),
+        Some(Value::NotANumber) => None,
+    }
+}

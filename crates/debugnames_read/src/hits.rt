@@ -1,0 +1,149 @@
+//! The entries of a name.
+
+ghost use Rattle.std.specs.Prelude.{◌≡◌, IsOk, ◌++◌, [], MatchOption, ◌∷◌};
+ghost use Rattle.std.specs.Iterator.{YieldsFirstBy, item_count};
+ghost use Rattle.index_model.specs.NameAbbreviations.{abbreviations};
+ghost use Rattle.index_model.specs.NameIndexRead.{name_index_hits};
+ghost use Rattle.debugnames_read.specs.Entries.{hit_seen};
+ghost use Rattle.debugnames_read.specs.Hits.{entries_left, hits_left, IsLeft, IsList};
+ghost use Rattle.debugnames_read.specs.Names.{index_seen, tables_of, IsHashOf, IsOpened};
+ghost use Rattle.debugnames_read.specs.Tables.{tables_seen};
+
+use crate::buckets::{Sought, Span};
+use crate::entry::NameHit;
+use crate::names::Names;
+use crate::tables::Tables;
+use ix_base::Cursor;
+use std::marker::Model;
+
+/// The entries of a name that are still to come, in the order of the table. Contracts see them as a list.
+#[derive(Drop)]
+pub struct NameHits<'a> {
+    names: Names<'a>,
+    sought: Sought<'a>,
+    left: Left<'a>,
+}
+
+// What is left of a look-up: of the entries of one name, and of the names.
+#[derive(Drop)]
+pub(crate) struct Left<'a> {
+    entries: Option<Cursor<'a>>,
+    names: Span,
+}
+
+impl<'a> Model for NameHits<'a> {
+    ghost use Rattle.std.specs.Prelude.{List};
+    ghost use Rattle.index_model.specs.NameIndexRead.{NameHit as Meaning};
+
+    ghost Value = { List Meaning };
+
+    ghost use Rattle.debugnames_read.specs.Hits.{hits_left, IsLookUp};
+
+    ghost view = { λ h. hits_left h.names h.sought.name.now h.left };
+
+    ghost invariant = { λ h. IsLookUp h.names h.sought h.left };
+}
+
+impl<'a> NameHits<'a> {
+    /// The entries of a name of an index without a fault.
+    pub(crate) fn of(names: &Names<'a>, name: &[u8]) -> NameHits<'a>
+        requires { IsOpened names.now }
+        ensures { result ≡ name_index_hits (index_seen names.now) name.now }
+    {
+        let asked = names.sought(name);
+        let span = names.span(&asked);
+        let Some(first) = names.first(&asked, span) else {
+            return NameHits::none(names);
+        };
+        // The name itself isn't kept, but an equal one of the index.
+        let Some(name) = names.string(first) else {
+            return NameHits::none(names);
+        };
+        let sought = Sought {
+            name,
+            hash: asked.hash,
+        };
+        let left = Left {
+            entries: names.tables.entries_of(first),
+            names: Span {
+                from: first + 1,
+                to: span.to,
+            },
+        };
+        NameHits {
+            names: names.again(),
+            sought,
+            left,
+        }
+    }
+
+    // No entries.
+    fn none(names: &Names<'a>) -> NameHits<'a>
+        requires { IsOpened names.now }
+        ensures { result ≡ [] }
+    {
+        NameHits {
+            names: names.again(),
+            sought: Sought {
+                name: &[],
+                hash: None,
+            },
+            left: Left {
+                entries: None,
+                names: Span { from: 0, to: 0 },
+            },
+        }
+    }
+}
+
+impl<'a> Iterator for NameHits<'a> {
+    type Item = NameHit;
+
+    ghost next_gives = { YieldsFirstBy hit_seen (λ hits. hits) };
+
+    ghost remaining = { item_count (λ hits. hits) };
+
+    fn next(&mut self) -> Option<NameHit> {
+        self.names.next_hit(&self.sought, &mut self.left)
+    }
+}
+
+impl<'a> Names<'a> {
+    // The next entry of what is left.
+    fn next_hit(&self, sought: &Sought<'a>, left: &mut Left<'a>) -> Option<NameHit>
+        requires opened { IsOpened self.now }
+        requires hash { IsHashOf (tables_of self.now) sought.now }
+        requires left { IsLeft self.now left.old }
+        ensures value { MatchOption result ((hits_left self.now sought.now.name.now left.old ≡ []) × (hits_left self.now sought.now.name.now left.new ≡ [])) (λ h. hits_left self.now sought.now.name.now left.old ≡ hit_seen h ∷ hits_left self.now sought.now.name.now left.new) }
+        ensures left { IsLeft self.now left.new }
+    {
+        'names: loop {
+            if let Some(hit) = self.tables.next_entry(&mut left.entries) {
+                return Some(hit);
+            }
+            let first = self.first(sought, left.names)?;
+            left.names.from = first + 1;
+            left.entries = self.tables.entries_of(first);
+        }
+    }
+}
+
+impl<'a> Tables<'a> {
+    // The next entry of a list. Behind the last one the list is gone.
+    fn next_entry(&self, entries: &mut Option<Cursor<'a>>) -> Option<NameHit>
+        requires known { IsOk (abbreviations (tables_seen self.now).abbreviations) }
+        requires list { IsList (tables_seen self.now) entries.old }
+        ensures value { MatchOption result ((entries_left (tables_seen self.now) entries.old ≡ []) × (entries_left (tables_seen self.now) entries.new ≡ [])) (λ h. entries_left (tables_seen self.now) entries.old ≡ hit_seen h ∷ entries_left (tables_seen self.now) entries.new) }
+        ensures list { IsList (tables_seen self.now) entries.new }
+    {
+        let mut cursor = entries.take()?;
+        match self.read_entry(&mut cursor) {
+            Ok(Some(hit)) => {
+                *entries = Some(cursor);
+                Some(hit)
+            }
+            Ok(None) => None,
+            Err(_) => None,
+        }
+    }
+}

@@ -1,0 +1,167 @@
+//! The name table: the string, the hash and the entries of each name (DWARF 5, sections 6.1.1.4.3 to 6.1.1.4.6).
+
+ghost use Rattle.std.specs.Prelude.{◌≡◌, IsOk, ◌<◌, ◌+◌, ◌-◌, length, option_map};
+ghost use Rattle.index_model.specs.Gives.{GivesAlways};
+ghost use Rattle.index_model.specs.Layout.{below, nth};
+ghost use Rattle.index_model.specs.Meaning.{each, wrong_in};
+ghost use Rattle.index_model.specs.NameAbbreviations.{abbreviations};
+ghost use Rattle.index_model.specs.NameIndexRead.{entries_at, entries_of_name, has_hash, is_hashed, name_at};
+ghost use Rattle.debugnames_read.specs.Abbreviations.{abbreviations_in};
+ghost use Rattle.debugnames_read.specs.Names.{list_at, names_seen, string_at, tables_of, text_in, HasAbbreviations, IsRight};
+ghost use Rattle.debugnames_read.specs.Tables.{tables_seen};
+
+use crate::hash::{is_beyond_ascii, name_hash};
+use crate::header::fault;
+use crate::tables::Tables;
+use index_model::index_code::{NAMES_BUCKET, NAMES_ENTRY_POOL, NAMES_HASH, NAMES_STRING_OFFSET};
+use ix_base::{Cursor, Fault};
+
+/// The tables of an index, and the strings of its names.
+#[derive(Drop)]
+pub(crate) struct Names<'a> {
+    pub tables: Tables<'a>,
+    /// The string section from `base` on.
+    pub strings: &'a [u8],
+    pub base: u32,
+}
+
+impl<'a> Names<'a> {
+    /// The same names again.
+    pub fn again(&self) -> Names<'a>
+        ensures { names_seen result ≡ names_seen self.now }
+    {
+        Names {
+            tables: self.tables.again(),
+            strings: self.strings,
+            base: self.base,
+        }
+    }
+
+    /// How many names there are.
+    pub fn len(&self) -> usize
+        ensures { result ≡ (tables_of self.now).counts.names }
+    {
+        self.tables.counts.names as usize
+    }
+
+    /// The first fault of the names, one after the other: of its string, its hash, its bucket or its entries.
+    pub fn check(&self) -> Result<(), Fault>
+        requires { HasAbbreviations self.now }
+        ensures { wrong_in result ≡ wrong_in (each (name_at (tables_of self.now) (abbreviations_in (tables_of self.now).abbreviations) self.now.strings.now self.now.base) (below (tables_of self.now).counts.names)) }
+    {
+        let count = self.len();
+        for number in 0..count {
+            self.check_name(number)?;
+        }
+        Ok(())
+    }
+
+    // The first fault of a name.
+    fn check_name(&self, number: usize) -> Result<(), Fault>
+        requires known { HasAbbreviations self.now }
+        requires within { number < (tables_of self.now).counts.names }
+        requires before { 0 < number → IsRight self.now (number - 1) }
+        ensures { wrong_in result ≡ wrong_in (name_at (tables_of self.now) (abbreviations_in (tables_of self.now).abbreviations) self.now.strings.now self.now.base number) }
+    {
+        let Some(name) = self.string(number) else {
+            return Err(fault(NAMES_STRING_OFFSET, self.tables.strings.place(number)));
+        };
+        self.check_hash(number, name)?;
+        self.check_entries(number)
+    }
+
+    /// The string of a name, None where its offset is no offset of the strings or no zero ends it.
+    pub fn string(&self, number: usize) -> Option<&'a [u8]>
+        requires { number < (tables_of self.now).counts.names }
+        ensures { option_map (λ s. s.now) result ≡ string_at (tables_of self.now) self.now.strings.now self.now.base number }
+    {
+        let offset = self.tables.strings.get(number);
+        let base = u64::from(self.base);
+        if offset < base {
+            return None;
+        }
+        text_at(self.strings, offset - base)
+    }
+
+    // Where there are buckets, whether a name has its hash and stands in its bucket.
+    fn check_hash(&self, number: usize, name: &[u8]) -> Result<(), Fault>
+        requires within { number < (tables_of self.now).counts.names }
+        requires before { 0 < number → IsRight self.now (number - 1) }
+        ensures { GivesAlways (λ _. record {}) result (is_hashed (tables_of self.now) number name.now) }
+    {
+        let tables = &self.tables;
+        if tables.counts.buckets == 0 {
+            return Ok(());
+        }
+        if !tables.has_hash(number, name) {
+            return Err(fault(NAMES_HASH, tables.hashes.place(number)));
+        }
+        if !tables.is_in_bucket(number) {
+            return Err(fault(NAMES_BUCKET, tables.hashes.place(number)));
+        }
+        Ok(())
+    }
+
+    // The first fault of the entries of a name. Those of the name before aren't read again.
+    fn check_entries(&self, number: usize) -> Result<(), Fault>
+        requires known { HasAbbreviations self.now }
+        requires within { number < (tables_of self.now).counts.names }
+        requires before { 0 < number → IsRight self.now (number - 1) }
+        ensures { wrong_in result ≡ wrong_in (entries_of_name (tables_of self.now) (abbreviations_in (tables_of self.now).abbreviations) number) }
+    {
+        let entries = &self.tables.entries;
+        if number > 0 && entries.get(number - 1) == entries.get(number) {
+            return Ok(());
+        }
+        match self.tables.entries_of(number) {
+            None => Err(fault(NAMES_ENTRY_POOL, entries.place(number))),
+            Some(cursor) => self.tables.check_list(cursor),
+        }
+    }
+}
+
+// The string at an offset, None where the offset passes the strings or no zero follows.
+fn text_at(strings: &[u8], offset: u64) -> Option<&[u8]>
+    ensures { option_map (λ t. t.now) result ≡ text_in strings.now offset }
+{
+    if offset > strings.len() as u64 {
+        return None;
+    }
+    Cursor::new(strings, offset as usize).zstr()
+}
+
+impl<'a> Tables<'a> {
+    // Whether a name has its hash. One with a byte from 80 on may have any.
+    fn has_hash(&self, number: usize, name: &[u8]) -> bool
+        requires some { 0 < (tables_seen self.now).counts.buckets }
+        requires within { number < (tables_seen self.now).counts.names }
+        ensures { result ≡ has_hash name.now (nth (tables_seen self.now).hashes.numbers number) }
+    {
+        is_beyond_ascii(name) || self.hashes.get(number) == u64::from(name_hash(name))
+    }
+
+    /// Where the entries of a name begin, None where that is past the end of the pool.
+    pub fn entries_of(&self, number: usize) -> Option<Cursor<'a>>
+        requires { number < (tables_seen self.now).counts.names }
+        ensures { result ≡ list_at (tables_seen self.now) number }
+    {
+        let mut cursor = self.pool.copied();
+        cursor.skip(self.entries.get(number))?;
+        Some(cursor)
+    }
+
+    // The first fault of the entries from a place of the pool on.
+    fn check_list(&self, mut cursor: Cursor<'a>) -> Result<(), Fault>
+        requires { IsOk (abbreviations (tables_seen self.now).abbreviations) }
+        ensures { wrong_in result ≡ wrong_in (entries_at (tables_seen self.now) (abbreviations_in (tables_seen self.now).abbreviations) (length (tables_seen self.now).pool.rest + 1) cursor.entry) }
+    {
+        // There are fewer entries than bytes.
+        'entries: for _ in 0..self.pool.rest().len() + 1 {
+            match self.read_entry(&mut cursor)? {
+                None => return Ok(()),
+                Some(_) => {}
+            }
+        }
+        Err(fault(NAMES_ENTRY_POOL, cursor.at()))
+    }
+}
