@@ -45,13 +45,13 @@ weaker R S (x ∷ xs) h f = (λ y c. f x y (contains_here x xs) (contains_later 
 
 module _ (f : List ℕ) (p : Program) (file : program_of f ≡ Ok p) (ks : List Link) (is : links_in p p.walks ≡ Ok ks) where
   -- an entry whose references are followed stands behind its unit's header, and isn't a root
-  record Stands (k : Link) : Type 0 where
-    home : Contains p.walks k.entry.home
-    begins : k.entry.home.unit.start ≤ k.entry.item.at
-    not_first : 0 < k.entry.item.at
-    ends : k.entry.item.at < k.entry.home.unit.start + k.entry.home.unit.length
+  pub record Stands (k : Link) : Type 0 where
+    pub home : Contains p.walks k.entry.home
+    pub begins : k.entry.home.unit.start ≤ k.entry.item.at
+    pub not_first : 0 < k.entry.item.at
+    pub ends : k.entry.item.at < k.entry.home.unit.start + k.entry.home.unit.length
 
-  stands : (k : Link) → Contains ks k → Stands k
+  pub stands : (k : Link) → Contains ks k → Stands k
   stands k c =
       let l = link_is_followed p p.walks ks is k c in
       let walk = (program_apart f p file).walks k.entry.home l.home in

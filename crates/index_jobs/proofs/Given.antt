@@ -1,17 +1,20 @@
 -- What a job is given, by its kind.
 use Rattle.std.proofs.Common.{◌≡◌, ℕ, ◌<◌, List, [], ◌∷◌, length, filter_map, Option, None, refl, subst}
+use Rattle.std.specs.Prelude.{IsSomeAnd, slice_get}
 use Rattle.index_model.specs.declared.entry.Entry.{Entry}
+use Rattle.index_model.specs.declared.job.CacheKind.{CacheKind}
 use Rattle.index_model.specs.declared.job.Job.{Job}
-use Rattle.index_model.specs.declared.job.Job.TheVariants.{Scan, Link, Main, Name, Merge}
+use Rattle.index_model.specs.declared.job.Job.TheVariants.{Scan, Link, Main, Name, Merge, Write}
 use Rattle.index_model.specs.declared.shard.Shard.{Shard}
 use Rattle.index_model.specs.declared.shard.Linked.{Linked}
 use Rattle.index_model.specs.Faults.{first_fault}
 use Rattle.index_model.specs.Machine.{State, Output, End, jobs_at}
-use Rattle.index_model.specs.Outputs.{Subject, Made, run_of}
+use Rattle.index_model.specs.Outputs.{Subject, Made, ShardOf, LinkedOf, SummaryOf, RunOf, TableOf, CacheOf, Makes, run_of}
+use Rattle.index_model.specs.Parts.{Parts, parts, summary_in, table_in}
 use Rattle.index_model.specs.LawsCore.{plan_of, HasRuns}
 use Rattle.index_model.proofs.MachineHolds.{Closed, AllMade}
 use Rattle.index_model.proofs.JobFaults.{FaultAt, MakesAt}
-use Rattle.stage_core.specs.Inputs.{UnitsOf, ScansOf, LinksOf, RunsOf, input_of, first_of, shard_in, linked_in, run_in}
+use Rattle.stage_core.specs.Inputs.{UnitsOf, ScansOf, LinksOf, RunsOf, PublishedOf, input_of, first_of, shard_in, linked_in, run_in}
 use Rattle.index_jobs.proofs.Next.{AtKind, scan, link, main, name, merge, write}
 use Rattle.index_jobs.proofs.Walks.{Scanned, scans, Links, links, from_all}
 
@@ -113,3 +116,46 @@ module _ (s : Subject) (h : HasRuns s) (brought : List (Option (Output Made))) (
   is_merge closed k job runs made main lt is = absurd (cc is)
   is_merge closed k job runs made name lt is = absurd (cc is)
   is_merge closed k job runs made write lt is = absurd (cc is)
+
+  -- ---- Write
+
+  pub record IsWrite (job : Job) (parts : Parts) (kind : CacheKind) : Type 0 where
+    pub job_is : Write ≡ job
+    pub kind_is : s.cache ≡ kind
+    pub accepted : first_fault s.file ≡ None
+    pub summary : IsSomeAnd parts.summary (λ m. Makes s Main (SummaryOf m))
+    pub table : IsSomeAnd parts.table (λ es. Makes s Merge (TableOf es))
+
+  summary_made : (c : List Made) → AllMade (FaultAt s) (MakesAt s) 2 0 1 c → IsSomeAnd (summary_in (slice_get c 0)) (λ m. Makes s Main (SummaryOf m))
+  summary_made [] made = absurd made
+  summary_made (SummaryOf m ∷ ms) made = made.1
+  summary_made (ShardOf x ∷ ms) made = absurd made.1
+  summary_made (LinkedOf x ∷ ms) made = absurd made.1
+  summary_made (RunOf x ∷ ms) made = absurd made.1
+  summary_made (TableOf x ∷ ms) made = absurd made.1
+  summary_made (CacheOf x ∷ ms) made = absurd made.1
+
+  table_made : (e : List Made) → AllMade (FaultAt s) (MakesAt s) 4 0 1 e → IsSomeAnd (table_in (slice_get e 0)) (λ es. Makes s Merge (TableOf es))
+  table_made [] made = absurd made
+  table_made (TableOf es ∷ ms) made = made.1
+  table_made (ShardOf x ∷ ms) made = absurd made.1
+  table_made (LinkedOf x ∷ ms) made = absurd made.1
+  table_made (SummaryOf x ∷ ms) made = absurd made.1
+  table_made (RunOf x ∷ ms) made = absurd made.1
+  table_made (CacheOf x ∷ ms) made = absurd made.1
+
+  pub is_write : (closed : List (List Made)) (k : ℕ) (job : Job) (given : Parts) (kind : CacheKind) → All closed → AtKind closed k job → input_of s (state closed k brought end) job ≡ PublishedOf given kind → IsWrite job given kind
+  is_write closed k job given kind made (write {a = a} {b = b} {c = c} {d = d} {e = e}) is =
+      let parts_are : parts (state (a ∷ b ∷ c ∷ d ∷ e ∷ []) k brought end) ≡ given = cc is in
+      record {
+        job_is = refl;
+        kind_is = cc is;
+        accepted = accepted_by c made.1.1.0;
+        summary = subst (λ (p : Parts). IsSomeAnd p.summary (λ m. Makes s Main (SummaryOf m))) parts_are (summary_made c made.1.1.0);
+        table = subst (λ (p : Parts). IsSomeAnd p.table (λ es. Makes s Merge (TableOf es))) parts_are (table_made e made.1.1.1.1.0);
+      }
+  is_write closed k job given kind made scan is = absurd (cc is)
+  is_write closed k job given kind made link is = absurd (cc is)
+  is_write closed k job given kind made main is = absurd (cc is)
+  is_write closed k job given kind made name is = absurd (cc is)
+  is_write closed k job given kind made merge is = absurd (cc is)

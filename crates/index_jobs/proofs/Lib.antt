@@ -13,3 +13,6 @@ pub mod NameJob
 pub mod Counts
 pub mod MergeJob
 pub mod Performs
+pub mod FileUnits
+pub mod FileEntries
+pub mod WriteJob

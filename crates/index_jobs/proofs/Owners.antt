@@ -84,7 +84,7 @@ module _ (p : Program) where
   unfolding entry_of
   entry_unit k = refl
 
-  link_unit : (k : Link) (y : Entry) → Contains (entries_of_link p k) y → y.unit ≡ k.entry.home.number
+  pub link_unit : (k : Link) (y : Entry) → Contains (entries_of_link p k) y → y.unit ≡ k.entry.home.number
   unfolding entries_of_link
   link_unit k y c = ⊎_elim
       (λ (same : entry_of k ≡ y). ap (λ (x : Entry). x.unit) (sym same) ∙ entry_unit k)

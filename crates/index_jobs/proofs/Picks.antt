@@ -22,7 +22,7 @@ module _ {A : Type 0} (q : A → Bool) where
   keeps_none [] none = refl
   keeps_none (x ∷ xs) none = rw (none x (contains_here x xs)) (keeps_none xs (λ y c. none y (contains_later x xs y c)))
 
-  any_of : (xs : List A) (x : A) → Contains xs x → q x ≡ true → list_any q xs ≡ true
+  pub any_of : (xs : List A) (x : A) → Contains xs x → q x ≡ true → list_any q xs ≡ true
   any_of [] x c is = absurd (omega (arith, c.1))
   any_of (y ∷ ys) x c is = ⊎_elim
       (λ (same : y ≡ x). ap (λ (b : Bool). b || list_any q ys) (ap q same ∙ is))

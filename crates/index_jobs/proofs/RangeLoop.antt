@@ -111,7 +111,7 @@ module _ (image : Image) (shards : List Shard) (linked : List Linked) (r : AreLi
 
 -- ---- how many units there are
 
-scans_count : (ss : List Section) (n : ℕ) (us : List UnitHeader) (ws : List Walked) → AreScans ss n us ws → length us ≡ length ws
+pub scans_count : (ss : List Section) (n : ℕ) (us : List UnitHeader) (ws : List Walked) → AreScans ss n us ws → length us ≡ length ws
 scans_count ss n [] [] h = refl
 scans_count ss n [] (w ∷ ws) h = absurd h
 scans_count ss n (u ∷ us) [] h = absurd h

@@ -1,3 +1,4 @@
 pub mod Outputs
 pub mod Drawn
 pub mod Files
+pub mod Written

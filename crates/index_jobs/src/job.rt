@@ -1,8 +1,7 @@
 //! A job is done.
 
-ghost use Rattle.std.specs.Prelude.{◌≡◌, map, length};
+ghost use Rattle.std.specs.Prelude.{map};
 ghost use Rattle.std.specs.Arc.{arc_value};
-ghost use Rattle.index_model.specs.declared.job.Job.TheVariants as jobs;
 ghost use Rattle.index_model.specs.Outputs.{IsOutputOf};
 ghost use Rattle.stage_core.specs.Inputs.{UnitsOf, ScansOf, LinksOf, RunsOf};
 ghost use Rattle.stage_core.specs.Outputs.{output_seen};
@@ -11,6 +10,7 @@ ghost use Rattle.index_jobs.specs.Drawn.{IsDrawn, ForDrawn};
 
 use crate::outputs::{of_link, of_main, of_merge, of_name, of_scan};
 use crate::summary::summary;
+use crate::write::write_index;
 use index_model::{Job, Linked, Run, Shard};
 use parent_resolve::link;
 use qualified_names::run_of;
@@ -23,15 +23,14 @@ use std::thread::Threads;
 use unit_headers::Image;
 
 /// Does a job that a core of the image's file handed out, with what it was given. The output is one for the job: what the
-/// definitions give for it, its first fault, or want of memory. Write isn't done here yet.
+/// definitions give for it, its first fault, or want of memory.
 pub fn perform<'f, R: Threads + Sync>(
     rt: &R,
     alloc: Global,
     image: &Image<'f>,
     task: Task<'f>,
 ) -> Output<'f>
-    requires drawn { IsDrawn image.now (task_seen task) }
-    requires not_write { task.job ≡ jobs.Write → ⊥ }
+    requires { IsDrawn image.now (task_seen task) }
     ensures { ForDrawn image.now (task_seen task.entry) (λ s. IsOutputOf s task.entry.job (output_seen result)) }
 {
     let Task { job, input } = task;
@@ -40,7 +39,7 @@ pub fn perform<'f, R: Threads + Sync>(
         Input::Scans(shards) => link_run(alloc, image, job, &shards),
         Input::Links(shards, linked) => name_run(alloc, image, job, &shards, &linked),
         Input::Runs(runs) => merge(rt, alloc, image, job, runs),
-        Input::Published(_, _) => Output::Memory,
+        Input::Published(parts, kind) => write_index(alloc, image, job, &parts, kind),
     }
 }
 

@@ -7,5 +7,6 @@ mod job;
 mod outputs;
 mod ranges;
 mod summary;
+mod write;
 
 pub use job::perform;

@@ -3,12 +3,13 @@
 ghost use Rattle.std.specs.Prelude.{◌≡◌};
 ghost use Rattle.index_model.specs.Outputs.{ShardOf, LinkedOf, RunOf, SummaryOf, TableOf};
 ghost use Rattle.stage_core.specs.Outputs.{output_seen, summary_seen};
-ghost use Rattle.index_jobs.specs.Outputs.{output_of, output_or_memory};
+ghost use Rattle.index_jobs.specs.Outputs.{output_of, output_or_memory, gdb_output, names_output};
 
-use index_model::{Linked, Run, Shard};
+use debugnames_write::NameBytes;
+use index_model::{Linked, List, Run, Shard};
 use ix_base::{NoMemory, Stop};
 use query_engine::Table;
-use stage_core::{Output, Summary};
+use stage_core::{Cache, Output, Summary};
 
 /// The shard of a run, or its first fault.
 pub(crate) fn of_scan<'f>(scanned: Result<Shard<'f>, Stop>) -> Output<'f>
@@ -60,5 +61,27 @@ pub(crate) fn of_merge<'f>(table: Result<Table<'f>, NoMemory>) -> Output<'f>
     match table {
         Ok(table) => Output::Table(table),
         Err(NoMemory) => Output::Memory,
+    }
+}
+
+/// The bytes of a `.gdb_index`.
+pub(crate) fn of_gdb<'f>(written: Result<Vec<u8>, gdbindex_write::WriteStop>) -> Output<'f>
+    ensures { output_seen result ≡ gdb_output written }
+{
+    match written {
+        Ok(bytes) => Output::Cache(Cache::Gdb(List::of(bytes))),
+        Err(gdbindex_write::WriteStop::TooLarge) => Output::Cache(Cache::TooLarge),
+        Err(gdbindex_write::WriteStop::Memory) => Output::Memory,
+    }
+}
+
+/// The bytes of a `.debug_names` and of its strings.
+pub(crate) fn of_names<'f>(written: Result<NameBytes, debugnames_write::WriteStop>) -> Output<'f>
+    ensures { output_seen result ≡ names_output written }
+{
+    match written {
+        Ok(bytes) => Output::Cache(Cache::Names(bytes.names, bytes.strings)),
+        Err(debugnames_write::WriteStop::TooLarge) => Output::Cache(Cache::TooLarge),
+        Err(debugnames_write::WriteStop::Memory) => Output::Memory,
     }
 }

@@ -1,7 +1,7 @@
 use Rattle.std.proofs.Common.{map, sym, ap, ◌∙◌}
 use Rattle.std.specs.Arc.{arc_value}
-use Rattle.stage_core.specs.Inputs.{UnitsOf, ScansOf, LinksOf, RunsOf}
-use Rattle.stage_core.specs.Outputs.{output_seen}
+use Rattle.stage_core.specs.Inputs.{UnitsOf, ScansOf, LinksOf, RunsOf, PublishedOf}
+use Rattle.stage_core.specs.Outputs.{output_seen, parts_seen}
 use Rattle.stage_core.specs.Tasks.{input_seen}
 use Rattle.index_jobs.proofs.Performs.{by_given}
 use Rattle.index_jobs.proofs.job.perform.Goals as goal
@@ -24,3 +24,6 @@ returns-in-Links g c =
 
 pub returns-in-Runs : goal.returns-in-Runs
 returns-in-Runs g c = by_given c.args.image.now c.args.task.job (input_seen c.args.task.input) (RunsOf c.in-Runs.runs.items) (output_seen c.merge.result) (ap input_seen c.in-Runs.is) c.merge.ensures
+
+pub returns-in-Published : goal.returns-in-Published
+returns-in-Published g c = by_given c.args.image.now c.args.task.job (input_seen c.args.task.input) (PublishedOf (parts_seen c.in-Published.parts) c.in-Published.kind) (output_seen c.write_index.result) (ap input_seen c.in-Published.is) c.write_index.ensures
