@@ -1,0 +1,14 @@
+use denote.Ref.{NamedLft}
+use denote.Param.Send.{IsSend, sendable}
+use Rattle.std.proofs.Crossing.{crosses}
+use Rattle.atomic_table.proofs.shared.Seat.TheSendSync as seat
+use Rattle.stage_core.proofs.Crossing.{core_send}
+use Rattle.index_board.specs.contracts.tests.threads.Worker as Worker
+use Rattle.index_board.proofs.Crossing.{board_sync}
+use Rattle.index_board.proofs.tests.threads.at_once.Goals as goal
+
+worker_send : (b l : NamedLft) → IsSend (Worker.the_row b l)
+worker_send b l = search (sendable, crosses, seat.the_send, core_send, board_sync) depth 60 fits 60000
+
+pub join-requires-send-F : goal.join-requires-send-F
+join-requires-send-F g c = search (sendable, crosses, worker_send) depth 60 fits 60000

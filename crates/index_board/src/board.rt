@@ -1,0 +1,170 @@
+//! The board.
+
+ghost use Rattle.std.specs.Prelude.{◌≡◌, ◌<◌, ◌≤◌, Bool, false, length, IfOk, option_map};
+ghost use Rattle.ix_base.specs.declared.limits.TheConstants.{MAX_FILE_BYTES};
+ghost use Rattle.unit_headers.specs.Images.{image_of};
+ghost use Rattle.index_model.specs.Outputs.{IsOutputOf};
+ghost use Rattle.stage_lock.specs.Seen.{IsPassOf, first_pass, parted_pass, split_pass};
+ghost use Rattle.stage_core.specs.Machines.{Machine, stage_of};
+ghost use Rattle.stage_core.specs.Outputs.{output_seen};
+ghost use Rattle.stage_core.specs.Tasks.{task_seen};
+ghost use Rattle.index_board.specs.Boards.{IsCutOf, IsImage, first_stage};
+ghost use Rattle.index_board.specs.Kept.{no_parts};
+ghost use Rattle.index_board.specs.Turns.{Turn, drawn, finished, next_task};
+
+use crate::reader::Reader;
+use index_model::{CacheKind, Job};
+use ix_base::{NoMemory, Stop};
+use stage_core::{Core, Output, Task};
+use stage_lock::StageLock;
+use std::alloc::Global;
+use std::marker::Model;
+use std::sync::Wait;
+use unit_headers::Image;
+
+/// The right of one thread to step on a board. It has no bytes.
+pub type Pass<'f> = stage_lock::Pass<Core<'f>>;
+
+/// A build that workers and readers share. Contracts see its lock, whose subject is the file's bytes, the cut of its units into
+/// runs and the kind of the index; no call changes it.
+#[derive(Drop)]
+pub struct Board<'f> {
+    pub(crate) lock: StageLock<Core<'f>>,
+    image: Option<Image<'f>>,
+    alloc: Global,
+}
+
+impl<'f> Model for Board<'f> {
+    ghost use Rattle.stage_lock.specs.Seen.{Lock};
+    ghost use Rattle.index_model.specs.Outputs.{Subject};
+
+    ghost Value = { Lock Subject };
+
+    ghost use Rattle.unit_headers.specs.Images.{image_of};
+    ghost use Rattle.index_board.specs.Boards.{IsImage};
+
+    ghost view = { λ b. b.lock };
+
+    ghost invariant = { λ b. IsImage (image_of b.lock.subject.file) b.image };
+}
+
+impl<'f> Board<'f> {
+    /// A board for a file of at most `MAX_FILE_BYTES` bytes, and its first pass. The stage is 4 where the file has a fault of its
+    /// sections or headers, else 0. The units are cut into so many consecutive runs, whose lengths differ by at most one.
+    ///
+    /// # Errors
+    ///
+    /// `NoMemory` where memory was refused.
+    pub fn open(
+        alloc: Global,
+        file: &'f [u8],
+        cache: CacheKind,
+        shards: u32,
+    ) -> Result<(Board<'f>, Pass<'f>), NoMemory>
+        requires small { length file.now ≤ MAX_FILE_BYTES }
+        requires some { 0 < shards }
+        requires few { shards ≤ 256 }
+        ensures file { IfOk result (λ made. made.0.subject.file ≡ file.now) }
+        ensures cache { IfOk result (λ made. made.0.subject.cache ≡ cache) }
+        ensures cut { IfOk result (λ made. IsCutOf (image_of file.now) shards made.0.subject.runs) }
+        ensures pass { IfOk result (λ made. made.1 ≡ first_pass made.0 (first_stage file.now)) }
+    {
+        match Image::open(alloc, file) {
+            Ok(image) => Board::with_image(alloc, file, image, cache, shards),
+            Err(Stop::Fault(fault)) => {
+                Board::over(alloc, Core::refused(alloc, file, fault, cache), None)
+            }
+            Err(Stop::Memory) => Err(NoMemory),
+        }
+    }
+
+    // A board for a file whose sections and headers have no fault.
+    fn with_image(
+        alloc: Global,
+        file: &'f [u8],
+        image: Image<'f>,
+        cache: CacheKind,
+        shards: u32,
+    ) -> Result<(Board<'f>, Pass<'f>), NoMemory>
+        requires image { image_of file.now ≡ Ok image }
+        requires some { 0 < shards }
+        requires few { shards ≤ 256 }
+        ensures file { IfOk result (λ made. made.0.subject.file ≡ file.now) }
+        ensures cache { IfOk result (λ made. made.0.subject.cache ≡ cache) }
+        ensures cut { IfOk result (λ made. IsCutOf (image_of file.now) shards made.0.subject.runs) }
+        ensures pass { IfOk result (λ made. made.1 ≡ first_pass made.0 (first_stage file.now)) }
+    {
+        let core = Core::new(alloc, file, image.units(), shards, cache)?;
+        Board::over(alloc, core, Some(image))
+    }
+
+    // A board over a core, with the image of its file.
+    fn over(
+        alloc: Global,
+        core: Core<'f>,
+        image: Option<Image<'f>>,
+    ) -> Result<(Board<'f>, Pass<'f>), NoMemory>
+        requires { IsImage (image_of core.subject.file) image }
+        ensures subject { IfOk result (λ made. made.0.subject ≡ core.entry.subject) }
+        ensures pass { IfOk result (λ made. made.1 ≡ first_pass made.0 (stage_of core.entry)) }
+    {
+        let (lock, pass) = StageLock::new(alloc, core)?;
+        let board = Board { lock, image, alloc };
+        Ok((board, pass))
+    }
+
+    /// The file with its sections and units. None exactly where the board began at stage 4.
+    pub fn image(&self) -> Option<&Image<'f>>
+        ensures { IsImage (image_of self.now.subject.file) (option_map (λ i. i.now) result) }
+    {
+        self.image.as_ref()
+    }
+
+    /// A reader, whose pass is split from this one: each has half of the share that this one had. It keeps no parts.
+    pub fn reader<'b>(&'b self, pass: &mut Pass<'f>) -> Reader<'b, 'f>
+        requires own { IsPassOf self.now pass.old }
+        ensures parted { pass.new ≡ parted_pass pass.old }
+        ensures reader { result ≡ record { board = self.now; pass = split_pass pass.old; kept = no_parts } }
+    {
+        Reader::new(self, self.lock.split(pass))
+    }
+
+    /// Draws the next job in one turn. May wait for the turn. None exactly where every job of the open kind is drawn, or the
+    /// stage is 3, 4 or 5.
+    pub fn draw<R: Wait>(&self, rt: &R, pass: &mut Pass<'f>) -> Option<Task<'f>>
+        requires own { IsPassOf self.now pass.old }
+        requires idle { pass.old.holding ≡ false }
+        ensures own { IsPassOf self.now pass.new }
+        ensures idle { pass.new.holding ≡ false }
+        ensures turn { (m : Machine) × Turn self.now pass.old pass.new m (drawn m) × (option_map task_seen result ≡ next_task m) }
+    {
+        let mut core = self.lock.enter(rt, pass);
+        let task = core.draw();
+        self.lock.leave(pass, core);
+        task
+    }
+
+    /// Takes what a job brought, in one turn. May wait for the turn. The output is want of memory, or what the definitions give
+    /// for the job. A job that isn't drawn, or is already finished, changes nothing.
+    pub fn finish<R: Wait>(&self, rt: &R, pass: &mut Pass<'f>, job: Job, output: Output<'f>)
+        requires own { IsPassOf self.now pass.old }
+        requires idle { pass.old.holding ≡ false }
+        requires output { IsOutputOf self.now.subject job (output_seen output) }
+        ensures own { IsPassOf self.now pass.new }
+        ensures idle { pass.new.holding ≡ false }
+        ensures turn { (m : Machine) × (refused : Bool) × Turn self.now pass.old pass.new m (finished m job (output_seen output.entry) refused) }
+    {
+        let mut core = self.lock.enter(rt, pass);
+        core.finish(self.alloc, job, output);
+        self.lock.leave(pass, core);
+    }
+
+    /// Gives up the board.
+    pub fn close(self, pass: Pass<'f>)
+        requires own { IsPassOf self pass }
+        requires idle { pass.holding ≡ false }
+    {
+        let Board { lock, .. } = self;
+        lock.close(pass);
+    }
+}
