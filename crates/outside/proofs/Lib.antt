@@ -1,4 +1,5 @@
 pub mod CountLaws
 pub mod FileLaws
 mod ShelfLaws
+mod TakenLaws
 pub mod WrittenLaws

@@ -1,3 +1,8 @@
+//! Stores, inputs, outputs and gates.
+
+mod gates;
+mod sources;
+
 use crate::{Failed, FileShelf, Leaves, MemShelf, MemSink, Shelf, Sink, StreamSink, write_all};
 use std::fs;
 use std::test::Fail;
