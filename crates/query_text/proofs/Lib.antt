@@ -1,6 +1,16 @@
+pub mod AnswerLaws
+pub mod BufferLaws
 pub mod DigitLaws
 pub mod EntryLaws
+pub mod GainLaws
 pub mod HexLaws
 pub mod LineLaws
+pub mod LookLaws
+pub mod NewlineLaws
+pub mod PlaceLaws
 pub mod SendingLaws
+pub mod SessionLaws
 pub mod TextLaws
+pub mod ElementLaws
+pub mod TranscriptLaws
+pub mod HitLaws

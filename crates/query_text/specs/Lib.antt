@@ -1,5 +1,10 @@
--- What the lines that ask and the lines of a reply are made of.
+pub mod Buffers
+pub mod Gains
 pub mod Heads
 pub mod Lines
+pub mod LookLines
 pub mod Places
 pub mod Sending
+pub mod Looks
+pub mod Sessions
+pub mod WholeLines

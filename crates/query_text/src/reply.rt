@@ -31,7 +31,12 @@ pub fn write_reply<K: Sink>(out: &mut K, reply: &Reply<'_>) -> Result<(), Failed
     flush(out, &mut waiting)
 }
 
-fn send_reply<K: Sink>(out: &mut K, waiting: &mut Waiting, reply: &Reply<'_>) -> Result<(), Failed>
+/// Sends the lines of a reply behind what waits.
+pub(crate) fn send_reply<K: Sink>(
+    out: &mut K,
+    waiting: &mut Waiting,
+    reply: &Reply<'_>,
+) -> Result<(), Failed>
     requires fit { PlacesFit (reply_seen reply.now) }
     requires room { length waiting.old + 96 ≤ room }
     ensures ok { OnOk result (Sends (K.written out.old) waiting.old (K.written out.new) waiting.new (text_of_reply (reply_seen reply.now))) }

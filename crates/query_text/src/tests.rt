@@ -1,5 +1,7 @@
 //! Lines and replies as the worked rows write them down.
 
+mod sessions;
+
 ghost use Rattle.std.specs.Prelude.{◌<◌, length, All};
 ghost use Rattle.index_model.specs.Seen.{reply_seen};
 ghost use Rattle.query_text.specs.Places.{PlacesFit};

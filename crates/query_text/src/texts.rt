@@ -111,8 +111,8 @@ fn kind_word(kind: Kind) -> &'static [u8]
     }
 }
 
-// The word of a scope, and a space.
-fn scope_word(local: bool) -> &'static [u8]
+/// The word of a scope, and a space.
+pub(crate) fn scope_word(local: bool) -> &'static [u8]
     ensures word { result.now ≡ scope_word local ++ codes " " }
     ensures most { length result.now ≤ 7 }
 {
