@@ -2,8 +2,8 @@
 """python3 rows.py PROGRAM
 
 Runs PROGRAM over the rows of tools/rows whose command it knows, each in a folder with copies of the row's files, and compares
-what it writes and its status with what the row says. A row that names no number of workers is run again with 1, 2, 8 and 64:
-none of them may change a byte. The last line is 'rows: N passed, M failed'."""
+what it writes, its status and the files that it stores with what the row says. A row of `ask` or `index` that names no number of
+workers is run again with 1, 2, 8 and 64: none of them may change a byte. The last line is 'rows: N passed, M failed'."""
 import os
 import shutil
 import subprocess
@@ -13,7 +13,9 @@ import tempfile
 ROWS = os.path.join(os.path.dirname(os.path.dirname(os.path.abspath(__file__))), "tools", "rows")
 # What lies in a row's folder beside the files that the program reads.
 TOLD = {"args", "stdout", "status", "expect"}
-WORKERS = (None, 1, 2, 8, 64)
+# How many words stand before the option of the number of workers.
+BEFORE_WORKERS = {"ask": 1, "index": 3}
+WORKERS = (1, 2, 8, 64)
 
 
 def read(path, otherwise=b""):
@@ -23,29 +25,49 @@ def read(path, otherwise=b""):
         return file.read()
 
 
+def files_in(folder):
+    return {name: read(os.path.join(folder, name)) for name in os.listdir(folder)} if os.path.isdir(folder) else {}
+
+
 def words_of(row):
     return read(os.path.join(row, "args")).decode().split("\n")[:-1]
 
 
 def is_known(words):
-    """Whether the program has the command: the length of the index isn't offered yet."""
-    return words[:1] == ["ask"] and words[-1:] != ["cache"]
+    """Whether the program has the command: sessions aren't offered yet."""
+    return words[:1] in (["ask"], ["index"], ["look"])
 
 
-def with_workers(words, number):
-    return words if number is None else words[:1] + ["--workers", str(number)] + words[1:]
+def runs_of(words):
+    """The words as they stand, and with each number of workers, where they can name one and don't."""
+    yield words
+    if words[0] in BEFORE_WORKERS and "--workers" not in words:
+        before = BEFORE_WORKERS[words[0]]
+        for number in WORKERS:
+            yield words[:before] + ["--workers", str(number)] + words[before:]
 
 
 def differs(program, row, words):
     """What differs from the row, or None."""
+    inputs = {name: text for name, text in files_in_row(row) if name not in TOLD}
     with tempfile.TemporaryDirectory() as folder:
-        for name in os.listdir(row):
-            if name not in TOLD:
-                shutil.copy(os.path.join(row, name), folder)
+        for name in inputs:
+            shutil.copy(os.path.join(row, name), folder)
         done = subprocess.run([program, *words], cwd=folder, stdin=subprocess.DEVNULL, capture_output=True, timeout=120)
+        left = files_in(folder)
     wanted = read(os.path.join(row, "stdout")), int(read(os.path.join(row, "status"), b"0") or 0)
     got = done.stdout, done.returncode
-    return None if got == wanted else "wrote %r with status %d, not %r with %d" % (got + wanted)
+    if got != wanted:
+        return "wrote %r with status %d, not %r with %d" % (got + wanted)
+    if left != {**inputs, **files_in(os.path.join(row, "expect"))}:
+        return "stored %s, and not what the row has" % sorted(set(left) - set(inputs))
+    return None
+
+
+def files_in_row(row):
+    for name in os.listdir(row):
+        if os.path.isfile(os.path.join(row, name)):
+            yield name, read(os.path.join(row, name))
 
 
 def main():
@@ -56,13 +78,13 @@ def main():
         words = words_of(row)
         if not is_known(words):
             continue
-        for number in WORKERS[:1] if "--workers" in words else WORKERS:
-            wrong = differs(program, row, with_workers(words, number))
+        for run in runs_of(words):
+            wrong = differs(program, row, run)
             if wrong is None:
                 passed += 1
             else:
                 failed += 1
-                print("rows: %s with %s workers %s" % (name, number or "its", wrong))
+                print("rows: %s as %s %s" % (name, " ".join(run), wrong))
     print("rows: %d passed, %d failed" % (passed, failed))
     return 1 if failed or not passed else 0
 

@@ -30,12 +30,27 @@ use Rattle.index_cmd.specs.Builds.{IsBuildOf}
 use Rattle.outside.specs.Files.{Files}
 use Rattle.index_cmd.specs.FilesRead.{Holds}
 use Rattle.index_cmd.specs.Words.{Asked, query_text}
-use Rattle.index_cmd.specs.Requests.{Request, OfFile, offer, offered, asked, IsOffered}
+use Rattle.index_cmd.specs.Requests.{Request, OfFile, asked}
 use Rattle.index_cmd.specs.Replies.{Causes, CausesOfResult, SaysFile, SaysReply, SaysRequest, Wrote, status_after}
 use Rattle.index_cmd.specs.declared.status.Status.{Status}
-use Rattle.index_cmd.specs.declared.status.Status.TheVariants.{Answered, Refused, Usage, ReadFault, WriteFault, NoMemory, FileTooBig}
+use Rattle.index_cmd.specs.declared.status.Status.TheVariants.{Answered, Refused, Usage, ReadFault, StoreFault, WriteFault, NoMemory, IndexRefused, IndexTooLarge, FileTooBig}
 use Rattle.outside.specs.Written.{Appends, AppendsPrefix}
 use Rattle.outside.specs.declared.shelf.Failed.{Failed}
+
+-- ---- what is written
+
+-- what says more says less
+pub wrote_weaker : (Says More : Status → List ℕ → Type 0) → ((status : Status) (text : List ℕ) → Says status text → More status text) → (status : Status) (old new : Option (List ℕ)) → Wrote Says status old new → Wrote More status old new
+wrote_weaker Says More f Answered old new w = (w.0, f Answered w.0 w.1, w.2)
+wrote_weaker Says More f Refused old new w = (w.0, f Refused w.0 w.1, w.2)
+wrote_weaker Says More f IndexRefused old new w = (w.0, f IndexRefused w.0 w.1, w.2)
+wrote_weaker Says More f WriteFault old new w = (w.0, w.1, f w.0 w.1 w.2, w.3)
+wrote_weaker Says More f Usage old new w = w
+wrote_weaker Says More f ReadFault old new w = w
+wrote_weaker Says More f StoreFault old new w = w
+wrote_weaker Says More f NoMemory old new w = w
+wrote_weaker Says More f IndexTooLarge old new w = w
+wrote_weaker Says More f FileTooBig old new w = w
 
 -- ---- places of answers
 
@@ -61,13 +76,6 @@ answer_fits b size AskMain = tt
 answer_fits b size AskCache = tt
 
 -- ---- replies
-
-offered_need : (q : Query) → IsOffered q → need_of q ≤ 2
-offered_need (AskName n) o = omega arith
-offered_need (AskSimple n) o = omega arith
-offered_need (AskAddress a) o = omega arith
-offered_need AskMain o = omega arith
-offered_need AskCache o = absurd (cc o)
 
 not_below : (n need : ℕ) → need ≤ n → ltb n need ≡ false
 not_below n need le = grind (arith, nat_tests)
@@ -105,6 +113,9 @@ module _ (file : List ℕ) (q : Query) where
   says r (gives b is) WriteFault text h = absurd h
   says r (gives b is) NoMemory text h = absurd h
   says r (gives b is) FileTooBig text h = absurd h
+  says r (gives b is) StoreFault text h = absurd h
+  says r (gives b is) IndexRefused text h = absurd h
+  says r (gives b is) IndexTooLarge text h = absurd h
   says r (wrong f is) Refused text h = record { fault = f; first = is; text_is = h }
   says r (wrong f is) Answered text h = absurd h
   says r (wrong f is) Usage text h = absurd h
@@ -112,21 +123,18 @@ module _ (file : List ℕ) (q : Query) where
   says r (wrong f is) WriteFault text h = absurd h
   says r (wrong f is) NoMemory text h = absurd h
   says r (wrong f is) FileTooBig text h = absurd h
+  says r (wrong f is) StoreFault text h = absurd h
+  says r (wrong f is) IndexRefused text h = absurd h
+  says r (wrong f is) IndexTooLarge text h = absurd h
   says r halted status text h = absurd h
 
   -- the status says the same
   pub wrote_of : (r : Reply) → IsFileReply file q r → (status : Status) (old new : Option (List ℕ)) → Wrote (SaysReply r) status old new → Wrote (SaysFile file q) status old new
-  wrote_of r is Answered old new w = (w.0, says r is Answered w.0 w.1, w.2)
-  wrote_of r is Refused old new w = (w.0, says r is Refused w.0 w.1, w.2)
-  wrote_of r is WriteFault old new w = (w.0, w.1, says r is w.0 w.1 w.2, w.3)
-  wrote_of r is Usage old new w = w
-  wrote_of r is ReadFault old new w = w
-  wrote_of r is NoMemory old new w = w
-  wrote_of r is FileTooBig old new w = w
+  wrote_of r is status old new = wrote_weaker (SaysReply r) (SaysFile file q) (says r is) status old new
 
 -- ---- by a core
 
-module _ (image : Image) (m : Machine) (q : Query) (build : IsBuildOf image m) (offers : IsOffered q) (ended : 2 ≤ stage_of m) (right : StateIsRight m.subject m.state) where
+module _ (image : Image) (m : Machine) (q : Query) (build : IsBuildOf image Gdb8 m) (need : need_of q ≤ stage_of m) (right : StateIsRight m.subject m.state) where
   pub file_is : image.file ≡ m.subject.file
   file_is = (parts_of m.subject.file image build.image_is).file
 
@@ -138,7 +146,7 @@ module _ (image : Image) (m : Machine) (q : Query) (build : IsBuildOf image m) (
   core_reply =
       subst (λ (kind : CacheKind). IsFileReply image.file q (reply_at (built_of m.subject.file) (size_in kind (built_of m.subject.file)) q (stage_of m))) (sym build.cache)
       (subst (λ (file : List ℕ). IsFileReply image.file q (reply_at (built_of file) (size_in Gdb8 (built_of file)) q (stage_of m))) file_is
-      (by_stage image.file q (stage_of m) (omega (arith, offered_need q offers, ended)) (leb (stage_of m) 4) refl))
+      (by_stage image.file q (stage_of m) need (leb (stage_of m) 4) refl))
 
   -- it is what the parts reply
   pub core_looks : reply_by (parts m.state) q (stage_of m) ≡ Some r
@@ -186,6 +194,12 @@ module _ (reply : Reply) (old new : Option (List ℕ)) where
   sent (Ok x) NoMemory text says (inr is) all part = absurd (cc is)
   sent (Ok x) FileTooBig text says (inl is) all part = absurd (cc is)
   sent (Ok x) FileTooBig text says (inr is) all part = absurd (cc is)
+  sent (Ok x) StoreFault text says (inl is) all part = absurd (cc is)
+  sent (Ok x) StoreFault text says (inr is) all part = absurd (cc is)
+  sent (Ok x) IndexRefused text says (inl is) all part = absurd (cc is)
+  sent (Ok x) IndexRefused text says (inr is) all part = absurd (cc is)
+  sent (Ok x) IndexTooLarge text says (inl is) all part = absurd (cc is)
+  sent (Ok x) IndexTooLarge text says (inr is) all part = absurd (cc is)
 
 pub says_answer : (r : Reply) (a : Answer) → r ≡ Replied a → SaysReply r Answered (text_of_reply r)
 unfolding text_of_reply
@@ -196,27 +210,15 @@ unfolding text_of_reply
 says_fault r f is = subst (λ (x : Reply). SaysReply x Refused (text_of_reply x)) (sym is) refl
 
 -- what the parts of a core reply is a reply of its file
-pub by_core : (image : Image) (m : Machine) (q : Query) → IsBuildOf image m → IsOffered q → 2 ≤ stage_of m → StateIsRight m.subject m.state → (p : Parts) → p ≡ parts m.state → (n : ℕ) → n ≡ stage_of m → (o : Reply) → Some o ≡ reply_by p q n → IsFileReply image.file q o
-by_core image m q build offers ended right p parts_are n is o replies =
-    let whole : Some o ≡ Some (r image m q build offers ended right) = replies ∙ ap (λ (x : Parts). reply_by x q n) parts_are ∙ ap (reply_by (parts m.state) q) is ∙ core_looks image m q build offers ended right in
-    subst (IsFileReply image.file q) (sym (same_some o (r image m q build offers ended right) whole)) (core_reply image m q build offers ended right)
+pub by_core : (image : Image) (m : Machine) (q : Query) → IsBuildOf image Gdb8 m → need_of q ≤ stage_of m → StateIsRight m.subject m.state → (p : Parts) → p ≡ parts m.state → (n : ℕ) → n ≡ stage_of m → (o : Reply) → Some o ≡ reply_by p q n → IsFileReply image.file q o
+by_core image m q build need right p parts_are n is o replies =
+    let whole : Some o ≡ Some (r image m q build need right) = replies ∙ ap (λ (x : Parts). reply_by x q n) parts_are ∙ ap (reply_by (parts m.state) q) is ∙ core_looks image m q build need right in
+    subst (IsFileReply image.file q) (sym (same_some o (r image m q build need right) whole)) (core_reply image m q build need right)
 
 -- ---- what was asked of a file
 
-pub asked_is : (a : Asked) (q : Query) (line : List ℕ) → line ≡ query_text a.query → Some q ≡ offered line → asked a ≡ Some (OfFile a.file q)
-asked_is a q line is offers = ap (option_map (OfFile a.file)) (ap offered (sym is) ∙ sym offers)
-
--- what is offered is one of the queries that are answered
-pub is_offered : (q : Query) (line : List ℕ) → Some q ≡ offered line → IsOffered q
-is_offered q line offers = by (query_of line) offers
-  where
-    by : (o : Option Query) → Some q ≡ option_and_then offer o → IsOffered q
-    by None e = absurd (cc e)
-    by (Some (AskName n)) e = let same : q ≡ AskName n = same_some q (AskName n) e in subst IsOffered (sym same) refl
-    by (Some (AskSimple n)) e = let same : q ≡ AskSimple n = same_some q (AskSimple n) e in subst IsOffered (sym same) refl
-    by (Some (AskAddress a)) e = let same : q ≡ AskAddress a = same_some q (AskAddress a) e in subst IsOffered (sym same) refl
-    by (Some AskMain) e = let same : q ≡ AskMain = same_some q AskMain e in subst IsOffered (sym same) refl
-    by (Some AskCache) e = absurd (cc e)
+pub asked_is : (a : Asked) (q : Query) (line : List ℕ) → line ≡ query_text a.query → Some q ≡ query_of line → asked a ≡ Some (OfFile a.file q)
+asked_is a q line is offers = ap (option_map (OfFile a.file)) (ap query_of (sym is) ∙ sym offers)
 
 module _ (request : Option Request) (told : Option Files) (file bytes : List ℕ) (q : Query) (is : request ≡ Some (OfFile file q)) (holds : Holds told file bytes) where
   says_request : (status : Status) (text : List ℕ) → SaysFile bytes q status text → SaysRequest (Some (OfFile file q)) told status text
@@ -227,24 +229,22 @@ module _ (request : Option Request) (told : Option Files) (file bytes : List ℕ
   says_request WriteFault text h = h
   says_request NoMemory text h = h
   says_request FileTooBig text h = h
-
-  wrote_here : (status : Status) (old new : Option (List ℕ)) → Wrote (SaysFile bytes q) status old new → Wrote (SaysRequest (Some (OfFile file q)) told) status old new
-  wrote_here Answered old new w = (w.0, says_request Answered w.0 w.1, w.2)
-  wrote_here Refused old new w = (w.0, says_request Refused w.0 w.1, w.2)
-  wrote_here WriteFault old new w = (w.0, w.1, says_request w.0 w.1 w.2, w.3)
-  wrote_here Usage old new w = w
-  wrote_here ReadFault old new w = w
-  wrote_here NoMemory old new w = w
-  wrote_here FileTooBig old new w = w
+  says_request StoreFault text h = h
+  says_request IndexRefused text h = absurd h
+  says_request IndexTooLarge text h = h
 
   pub wrote_request : (status : Status) (old new : Option (List ℕ)) → Wrote (SaysFile bytes q) status old new → Wrote (SaysRequest request told) status old new
-  wrote_request status old new w = subst (λ (r : Option Request). Wrote (SaysRequest r told) status old new) (sym is) (wrote_here status old new w)
+  wrote_request status old new w =
+      subst (λ (r : Option Request). Wrote (SaysRequest r told) status old new) (sym is) (wrote_weaker (SaysFile bytes q) (SaysRequest (Some (OfFile file q)) told) says_request status old new w)
 
-pub causes_request : (request : Option Request) (told : Option Files) (reads writes : Type 0) (status : Status) → CausesOfResult writes status → Causes request told reads writes status
-causes_request request told reads writes Answered c = tt
-causes_request request told reads writes Refused c = tt
-causes_request request told reads writes NoMemory c = tt
-causes_request request told reads writes WriteFault c = c
-causes_request request told reads writes Usage c = absurd c
-causes_request request told reads writes ReadFault c = absurd c
-causes_request request told reads writes FileTooBig c = absurd c
+pub causes_request : (request : Option Request) (told : Option Files) (reads stores writes : Type 0) (status : Status) → CausesOfResult writes status → Causes request told reads stores writes status
+causes_request request told reads stores writes Answered c = tt
+causes_request request told reads stores writes Refused c = tt
+causes_request request told reads stores writes IndexRefused c = tt
+causes_request request told reads stores writes NoMemory c = tt
+causes_request request told reads stores writes WriteFault c = c
+causes_request request told reads stores writes Usage c = absurd c
+causes_request request told reads stores writes ReadFault c = absurd c
+causes_request request told reads stores writes StoreFault c = absurd c
+causes_request request told reads stores writes IndexTooLarge c = absurd c
+causes_request request told reads stores writes FileTooBig c = absurd c

@@ -68,3 +68,10 @@ nothing_yet (Some f) name bytes e = rw e (none_of (f name))
     none_of : (held : Option (List ℕ)) → IsFirstOf held []
     none_of None = refl
     none_of (Some held) = refl
+
+-- what holds more still does
+pub same_more : (name : List ℕ) (limit : ℕ) (a b : Option Files) → SameFiles a b → HoldsMore b name limit → HoldsMore a name limit
+same_more name limit None None same more = tt
+same_more name limit None (Some g) same more = absurd same
+same_more name limit (Some f) None same more = absurd same
+same_more name limit (Some f) (Some g) same more = (more.0, sym (same name) ∙ more.1, more.2)

@@ -5,3 +5,9 @@ mod Looks
 mod Steps
 mod Outcomes
 mod AskLaws
+mod GdbLaws
+mod NamesLaws
+mod HitCounts
+mod StoreLaws
+mod Leavings
+mod Completeness

@@ -10,16 +10,16 @@ use Rattle.outside.specs.Files.{Files}
 use Rattle.outside.specs.Written.{Appends, AppendsPrefix}
 use Rattle.outside.proofs.WrittenLaws.{appends_more, appends_more_prefix}
 use Rattle.index_cmd.specs.Words.{Wanted, command_of}
-use Rattle.index_cmd.specs.Requests.{Request, TheHelp, TheVersion, OfFile, AsksFile, requested, request_of}
-use Rattle.index_cmd.specs.Replies.{Causes, Ends, without_line, with_line, cut, IsAnswer, IsRefusal, IsComplete, IsMeant, IsStatus, SaysRequest, Wrote, Writes, WritesPrefix, line_of}
+use Rattle.index_cmd.specs.Requests.{Request, TheHelp, TheVersion, OfFile, OfIndex, OfGdb, OfNames, AsksFile, AsksIndex, requested, request_of}
+use Rattle.index_cmd.specs.Replies.{Causes, Ends, without_line, with_line, cut, IsAnswer, IsRefusal, IsIndexRefusal, IsStatus, SaysRequest, Wrote, Writes, WritesPrefix, line_of}
 use Rattle.index_cmd.specs.Statuses.{status_code}
 use Rattle.index_cmd.specs.declared.status.Status.{Status}
-use Rattle.index_cmd.specs.declared.status.Status.TheVariants.{Answered, Refused, Usage, ReadFault, WriteFault, NoMemory, FileTooBig}
+use Rattle.index_cmd.specs.declared.status.Status.TheVariants.{Answered, Refused, Usage, ReadFault, StoreFault, WriteFault, NoMemory, IndexRefused, IndexTooLarge, FileTooBig}
 
 -- ---- numbers of statuses
 
 from_code : ℕ → Status
-from_code n = if n == 0 then Answered else if n == 1 then Refused else if n == 2 then Usage else if n == 3 then ReadFault else if n == 5 then WriteFault else if n == 7 then NoMemory else FileTooBig
+from_code n = if n == 0 then Answered else if n == 1 then Refused else if n == 2 then Usage else if n == 3 then ReadFault else if n == 4 then StoreFault else if n == 5 then WriteFault else if n == 7 then NoMemory else if n == 8 then IndexRefused else if n == 9 then IndexTooLarge else FileTooBig
 
 code_back : (status : Status) → from_code (status_code status) ≡ status
 unfolding from_code
@@ -27,22 +27,26 @@ code_back Answered = refl
 code_back Refused = refl
 code_back Usage = refl
 code_back ReadFault = refl
+code_back StoreFault = refl
 code_back WriteFault = refl
 code_back NoMemory = refl
+code_back IndexRefused = refl
+code_back IndexTooLarge = refl
 code_back FileTooBig = refl
 
 -- a number is that of one status
-one_status : (status other : Status) → status_code status ≡ status_code other → status ≡ other
+pub one_status : (status other : Status) → status_code status ≡ status_code other → status ≡ other
 one_status status other e = sym (code_back status) ∙ ap from_code e ∙ code_back other
 
 -- ---- outcomes
 
-module _ (request : Option Request) (told : Option Files) (reads writes : Type 0) (old new : Option (List ℕ)) where
+module _ (request : Option Request) (told : Option Files) (reads stores writes : Type 0) (old new : Option (List ℕ)) where
   -- a result was written, or the line of a status with its cause, or a write failed
   pub data Outcome : Status → Type 0 where
     answers : Writes old new (IsAnswer request told) → Outcome Answered
     refuses : Writes old new (IsRefusal request told) → Outcome Refused
-    lines : {status : Status} (text : List ℕ) → line_of status ≡ Some text → Causes request told reads writes status → Appends old new text → Outcome status
+    index_refuses : Writes old new (IsIndexRefusal request told) → Outcome IndexRefused
+    lines : {status : Status} (text : List ℕ) → line_of status ≡ Some text → Causes request told reads stores writes status → Appends old new text → Outcome status
     fails : writes → WritesPrefix request told old new → Outcome WriteFault
 
   at : (status other : Status) → Outcome status → status_code status ≡ status_code other → Outcome other
@@ -51,6 +55,7 @@ module _ (request : Option Request) (told : Option Files) (reads writes : Type 0
   of_answered : (status : Status) → status ≡ Answered → Outcome status → Writes old new (IsAnswer request told)
   of_answered status e (answers w) = w
   of_answered status e (refuses w) = absurd (cc e)
+  of_answered status e (index_refuses w) = absurd (cc e)
   of_answered status e (lines text is c a) = let none : None ≡ Some text = ap line_of (sym e) ∙ is in absurd (cc none)
   of_answered status e (fails f p) = absurd (cc e)
 
@@ -60,15 +65,27 @@ module _ (request : Option Request) (told : Option Files) (reads writes : Type 0
   of_refused : (status : Status) → status ≡ Refused → Outcome status → Writes old new (IsRefusal request told)
   of_refused status e (answers w) = absurd (cc e)
   of_refused status e (refuses w) = w
+  of_refused status e (index_refuses w) = absurd (cc e)
   of_refused status e (lines text is c a) = let none : None ≡ Some text = ap line_of (sym e) ∙ is in absurd (cc none)
   of_refused status e (fails f p) = absurd (cc e)
 
   pub refused : (status : Status) → Outcome status → status_code status ≡ 1 → Writes old new (IsRefusal request told)
   refused status o e = of_refused status (one_status status Refused e) o
 
+  of_index_refused : (status : Status) → status ≡ IndexRefused → Outcome status → Writes old new (IsIndexRefusal request told)
+  of_index_refused status e (answers w) = absurd (cc e)
+  of_index_refused status e (refuses w) = absurd (cc e)
+  of_index_refused status e (index_refuses w) = w
+  of_index_refused status e (lines text is c a) = let none : None ≡ Some text = ap line_of (sym e) ∙ is in absurd (cc none)
+  of_index_refused status e (fails f p) = absurd (cc e)
+
+  pub index_refused : (status : Status) → Outcome status → status_code status ≡ 8 → Writes old new (IsIndexRefusal request told)
+  index_refused status o e = of_index_refused status (one_status status IndexRefused e) o
+
   of_failed : (status : Status) → status ≡ WriteFault → Outcome status → writes × WritesPrefix request told old new
   of_failed status e (answers w) = absurd (cc e)
   of_failed status e (refuses w) = absurd (cc e)
+  of_failed status e (index_refuses w) = absurd (cc e)
   of_failed status e (lines text is c a) = let none : None ≡ Some text = ap line_of (sym e) ∙ is in absurd (cc none)
   of_failed status e (fails f p) = (f, p)
 
@@ -76,26 +93,40 @@ module _ (request : Option Request) (told : Option Files) (reads writes : Type 0
   failed status o e = of_failed status (one_status status WriteFault e) o
 
   -- a status with a line has its cause, and the line alone was appended
-  of_line : (status : Status) (line : List ℕ) → line_of status ≡ Some line → Outcome status → Causes request told reads writes status × Appends old new line
+  of_line : (status : Status) (line : List ℕ) → line_of status ≡ Some line → Outcome status → Causes request told reads stores writes status × Appends old new line
   of_line status line has (answers w) = absurd (cc has)
   of_line status line has (refuses w) = absurd (cc has)
+  of_line status line has (index_refuses w) = absurd (cc has)
   of_line status line has (lines text is c a) = let same : Some text ≡ Some line = sym is ∙ has in (c, subst (Appends old new) (cc same) a)
   of_line status line has (fails f p) = absurd (cc has)
 
-  pub lined : (status other : Status) (line : List ℕ) → Outcome status → status_code status ≡ status_code other → line_of other ≡ Some line → Causes request told reads writes other × Appends old new line
+  pub lined : (status other : Status) (line : List ℕ) → Outcome status → status_code status ≡ status_code other → line_of other ≡ Some line → Causes request told reads stores writes other × Appends old new line
   lined status other line o e has = of_line other line has (at status other o e)
 
 -- what doesn't depend on the file
 pub asks : (request : Option Request) (P : Type 0) → AsksFile request (λ _. P) → P
 asks (Some (OfFile file q)) P h = h
+asks (Some (OfIndex kind file out)) P h = h
+asks (Some (OfGdb index q)) P h = h
+asks (Some (OfNames base index strings name)) P (inl h) = h
+asks (Some (OfNames base index strings name)) P (inr h) = h
 asks (Some TheHelp) P h = absurd h
 asks (Some TheVersion) P h = absurd h
 asks None P h = absurd h
 
+pub asks_index : (request : Option Request) (P : Type 0) → AsksIndex request (λ _ _ _. P) → P
+asks_index (Some (OfIndex kind file out)) P h = h
+asks_index (Some (OfFile file q)) P h = absurd h
+asks_index (Some (OfGdb index q)) P h = absurd h
+asks_index (Some (OfNames base index strings name)) P h = absurd h
+asks_index (Some TheHelp) P h = absurd h
+asks_index (Some TheVersion) P h = absurd h
+asks_index None P h = absurd h
+
 -- ---- from what was written before the line
 
-module _ (request : Option Request) (told : Option Files) (reads first second writes : Type 0) (weaker : first → writes) (later : second → writes) where
-  cause_up : (status : Status) → Causes request told reads first status → Causes request told reads writes status
+module _ (request : Option Request) (told : Option Files) (reads stores first second writes : Type 0) (weaker : first → writes) (later : second → writes) where
+  cause_up : (status : Status) → Causes request told reads stores first status → Causes request told reads stores writes status
   cause_up Answered c = tt
   cause_up Refused c = tt
   cause_up Usage c = c
@@ -103,6 +134,9 @@ module _ (request : Option Request) (told : Option Files) (reads first second wr
   cause_up WriteFault c = weaker c
   cause_up NoMemory c = tt
   cause_up FileTooBig c = c
+  cause_up StoreFault c = c
+  cause_up IndexRefused c = tt
+  cause_up IndexTooLarge c = c
 
   -- a status with a line wrote nothing before it
   nothing : (status : Status) (line : List ℕ) (old mid : Option (List ℕ)) → line_of status ≡ Some line → Wrote (SaysRequest request told) status old mid → Appends old mid []
@@ -113,8 +147,11 @@ module _ (request : Option Request) (told : Option Files) (reads first second wr
   nothing ReadFault line old mid has w = w
   nothing NoMemory line old mid has w = w
   nothing FileTooBig line old mid has w = w
+  nothing StoreFault line old mid has w = w
+  nothing IndexTooLarge line old mid has w = w
+  nothing IndexRefused line old mid has w = absurd (cc has)
 
-  without : (status : Status) (old new : Option (List ℕ)) → line_of status ≡ None → Wrote (SaysRequest request told) status old new → Causes request told reads first status → Outcome request told reads writes old new status
+  without : (status : Status) (old new : Option (List ℕ)) → line_of status ≡ None → Wrote (SaysRequest request told) status old new → Causes request told reads stores first status → Outcome request told reads stores writes old new status
   without Answered old new none w c = answers w
   without Refused old new none w c = refuses w
   without WriteFault old new none w c = fails (weaker c) (w.1, (w.0, inl w.2), w.3)
@@ -122,8 +159,11 @@ module _ (request : Option Request) (told : Option Files) (reads first second wr
   without ReadFault old new none w c = absurd (cc none)
   without NoMemory old new none w c = absurd (cc none)
   without FileTooBig old new none w c = absurd (cc none)
+  without StoreFault old new none w c = absurd (cc none)
+  without IndexTooLarge old new none w c = absurd (cc none)
+  without IndexRefused old new none w c = index_refuses w
 
-  pub outcome : (status result : Status) (old mid new : Option (List ℕ)) → Wrote (SaysRequest request told) status old mid → Causes request told reads first status → Ends status mid new second result → Outcome request told reads writes old new result
+  pub outcome : (status result : Status) (old mid new : Option (List ℕ)) → Wrote (SaysRequest request told) status old mid → Causes request told reads stores first status → Ends status mid new second result → Outcome request told reads stores writes old new result
   outcome status result old mid new w c (without_line none same) = without status old new none (subst (λ (o : Option (List ℕ)). Wrote (SaysRequest request told) status old o) same w) c
   outcome status result old mid new w c (with_line text has all) = lines text has (cause_up status c) (appends_more old mid new [] text (nothing status text old mid has w) all)
   outcome status result old mid new w c (cut text has f part) = fails (later f) (text, (status, inr has), appends_more_prefix old mid new [] text (nothing status text old mid has w) part)
@@ -136,15 +176,19 @@ is_status Answered = (0, omega arith, refl)
 is_status Refused = (1, omega arith, refl)
 is_status Usage = (2, omega arith, refl)
 is_status ReadFault = (3, omega arith, refl)
-is_status WriteFault = (4, omega arith, refl)
-is_status NoMemory = (5, omega arith, refl)
-is_status FileTooBig = (6, omega arith, refl)
+is_status StoreFault = (4, omega arith, refl)
+is_status WriteFault = (5, omega arith, refl)
+is_status NoMemory = (6, omega arith, refl)
+is_status IndexRefused = (7, omega arith, refl)
+is_status IndexTooLarge = (8, omega arith, refl)
+is_status FileTooBig = (9, omega arith, refl)
 
-module _ (told : Option Files) (reads writes : Type 0) (old new : Option (List ℕ)) where
+module _ (told : Option Files) (reads stores writes : Type 0) (old new : Option (List ℕ)) where
   -- where nothing is asked, that is said, or memory was refused, or a write failed
-  no_request : (status : Status) → Outcome None told reads writes old new status → (status ≡ Usage) ⊎ ((status ≡ WriteFault) × writes) ⊎ (status ≡ NoMemory)
+  pub no_request : (status : Status) → Outcome None told reads stores writes old new status → (status ≡ Usage) ⊎ ((status ≡ WriteFault) × writes) ⊎ (status ≡ NoMemory)
   no_request status (answers w) = absurd w.1
   no_request status (refuses w) = absurd w.1
+  no_request status (index_refuses w) = absurd w.1
   no_request status (fails f p) = inr (inl (refl, f))
   no_request Usage (lines text is c a) = inl refl
   no_request NoMemory (lines text is c a) = inr (inr refl)
@@ -153,92 +197,37 @@ module _ (told : Option Files) (reads writes : Type 0) (old new : Option (List �
   no_request WriteFault (lines text is c a) = absurd (cc is)
   no_request ReadFault (lines text is c a) = absurd c
   no_request FileTooBig (lines text is c a) = absurd c
+  no_request StoreFault (lines text is c a) = absurd c
+  no_request IndexTooLarge (lines text is c a) = absurd c
+  no_request IndexRefused (lines text is c a) = absurd (cc is)
 
-pub outside_grammar : (request : Option Request) (told : Option Files) (reads writes : Type 0) (old new : Option (List ℕ)) (status : Status) → Outcome request told reads writes old new status → request ≡ None →
+pub outside_grammar : (request : Option Request) (told : Option Files) (reads stores writes : Type 0) (old new : Option (List ℕ)) (status : Status) → Outcome request told reads stores writes old new status → request ≡ None →
     (status_code status ≡ 2) ⊎ (status_code status ≡ 5) ⊎ (status_code status ≡ 7)
-outside_grammar request told reads writes old new status o is = by (no_request told reads writes old new status (subst (λ (r : Option Request). Outcome r told reads writes old new status) is o))
+outside_grammar request told reads stores writes old new status o is = by (no_request told reads stores writes old new status (subst (λ (r : Option Request). Outcome r told reads stores writes old new status) is o))
   where
     by : (status ≡ Usage) ⊎ ((status ≡ WriteFault) × writes) ⊎ (status ≡ NoMemory) → (status_code status ≡ 2) ⊎ (status_code status ≡ 5) ⊎ (status_code status ≡ 7)
     by (inl e) = inl (ap status_code e)
     by (inr (inl e)) = inr (inl (ap status_code e.0))
     by (inr (inr e)) = inr (inr (ap status_code e))
 
--- ---- completeness
-
--- the file holds other bytes than these
-same_bytes : (held : Option (List ℕ)) (a b : List ℕ) → held ≡ Some a → held ≡ Some b → a ≡ b
+-- the file holds no other bytes than these
+pub same_bytes : (held : Option (List ℕ)) (a b : List ℕ) → held ≡ Some a → held ≡ Some b → a ≡ b
 same_bytes held a b x y = let same : Some a ≡ Some b = sym x ∙ y in cc same
 
-accepted_built : (file : List ℕ) (b : Built) → built_of file ≡ Ok b → first_fault file ≡ None
+pub accepted_built : (file : List ℕ) (b : Built) → built_of file ≡ Ok b → first_fault file ≡ None
 accepted_built file b is = ap wrong_in is
 
-none_some : (f : Fault) → None ≡ Some f → ⊥
+pub none_some : (f : Fault) → None ≡ Some f → ⊥
 none_some f e = cc e
-
-module _ (told : Option Files) (reads writes : Type 0) (old new : Option (List ℕ)) where
-  -- the program's own texts
-  own_text : (request : Request) → ((P : List ℕ → Type 0) → AsksFile (Some request) P → ⊥) → (writes → ⊥) → (status : Status) → Outcome (Some request) told reads writes old new status → (status_code status ≡ 0) ⊎ (status_code status ≡ 7)
-  own_text request asks_none none status (answers w) = inl refl
-  own_text request asks_none none status (refuses w) = absurd (asks_none _ w.1)
-  own_text request asks_none none status (fails f p) = absurd (none f)
-  own_text request asks_none none Usage (lines text is c a) = absurd (cc c)
-  own_text request asks_none none ReadFault (lines text is c a) = absurd (asks_none _ c)
-  own_text request asks_none none NoMemory (lines text is c a) = inr refl
-  own_text request asks_none none FileTooBig (lines text is c a) = absurd (asks_none _ c)
-  own_text request asks_none none Answered (lines text is c a) = absurd (cc is)
-  own_text request asks_none none Refused (lines text is c a) = absurd (cc is)
-  own_text request asks_none none WriteFault (lines text is c a) = absurd (cc is)
-
-module _ (files : Files) (reads writes : Type 0) (old new : Option (List ℕ)) (file : List ℕ) (q : Query) (bytes : List ℕ) (holds : files file ≡ Some bytes) (small : length bytes ≤ MAX_FILE_BYTES) (no_read : reads → ⊥) (no_write : writes → ⊥) where
-  abbrev Came : Status → Type 0
-  Came status = Outcome (Some (OfFile file q)) (Some files) reads writes old new status
-
-  -- the line of a status can be that of want of memory alone
-  only_memory : (status : Status) (text : List ℕ) → line_of status ≡ Some text → Causes (Some (OfFile file q)) (Some files) reads writes status → status_code status ≡ 7
-  only_memory NoMemory text is c = refl
-  only_memory Usage text is c = absurd (cc c)
-  only_memory ReadFault text is c = absurd (no_read c)
-  only_memory FileTooBig text is c =
-      let same = same_bytes (files file) c.0 bytes c.1 holds in
-      absurd (omega (arith, c.2, small, ap length same))
-  only_memory Answered text is c = absurd (cc is)
-  only_memory Refused text is c = absurd (cc is)
-  only_memory WriteFault text is c = absurd (cc is)
-
-  meant : (status : Status) → Came status → IsMeant bytes (status_code status)
-  meant status (answers w) = record {
-    answered = λ _. inl refl;
-    refused = λ f first. let same = same_bytes (files file) w.1.0 bytes w.1.1 holds in absurd (none_some f (sym (accepted_built w.1.0 w.1.2.built w.1.2.accepted) ∙ ap first_fault same ∙ first));
-  }
-  meant status (refuses w) = record {
-    answered = λ accepted. let same = same_bytes (files file) w.1.0 bytes w.1.1 holds in absurd (none_some w.1.2.fault (sym accepted ∙ ap first_fault (sym same) ∙ w.1.2.first));
-    refused = λ f first. inl refl;
-  }
-  meant status (lines text is c a) = record { answered = λ _. inr (only_memory status text is c); refused = λ f first. inr (only_memory status text is c) }
-  meant status (fails f p) = absurd (no_write f)
-
-nothing_asked : (told : Option Files) (reads writes : Type 0) (old new : Option (List ℕ)) (status : Status) → Outcome None told reads writes old new status → (writes → ⊥) → (status_code status ≡ 2) ⊎ (status_code status ≡ 7)
-nothing_asked told reads writes old new status o none = by (no_request told reads writes old new status o)
-  where
-    by : (status ≡ Usage) ⊎ ((status ≡ WriteFault) × writes) ⊎ (status ≡ NoMemory) → (status_code status ≡ 2) ⊎ (status_code status ≡ 7)
-    by (inl e) = inl (ap status_code e)
-    by (inr (inl e)) = absurd (none e.1)
-    by (inr (inr e)) = inr (ap status_code e)
-
-pub complete : (request : Option Request) (told : Option Files) (reads writes : Type 0) (old new : Option (List ℕ)) (status : Status) → Outcome request told reads writes old new status → IsComplete request told reads writes (status_code status)
-complete None told reads writes old new status o = nothing_asked told reads writes old new status o
-complete (Some TheHelp) told reads writes old new status o = λ none. own_text told reads writes old new TheHelp (λ P h. h) none status o
-complete (Some TheVersion) told reads writes old new status o = λ none. own_text told reads writes old new TheVersion (λ P h. h) none status o
-complete (Some (OfFile file q)) None reads writes old new status o = tt
-complete (Some (OfFile file q)) (Some files) reads writes old new status o = λ bytes holds small no_read no_write. meant files reads writes old new file q bytes holds small no_read no_write status o
 
 -- ---- a status's line is written
 
 -- no line goes with these
-pub no_line : (status : Status) (written : Option (List ℕ)) (failed : Type 0) → (status ≡ Answered) ⊎ (status ≡ Refused) ⊎ (status ≡ WriteFault) → Ends status written written failed status
+pub no_line : (status : Status) (written : Option (List ℕ)) (failed : Type 0) → (status ≡ Answered) ⊎ (status ≡ Refused) ⊎ (status ≡ IndexRefused) ⊎ (status ≡ WriteFault) → Ends status written written failed status
 no_line status written failed (inl e) = without_line (ap line_of e) refl
 no_line status written failed (inr (inl e)) = without_line (ap line_of e) refl
-no_line status written failed (inr (inr e)) = without_line (ap line_of e) refl
+no_line status written failed (inr (inr (inl e))) = without_line (ap line_of e) refl
+no_line status written failed (inr (inr (inr e))) = without_line (ap line_of e) refl
 
 pub line_said : (status result : Status) (old new : Option (List ℕ)) (failed : Type 0) (text : List ℕ) → line_of status ≡ Some text → (result ≡ status → Appends old new text) → (result ≡ status) ⊎ (result ≡ WriteFault) → (result ≡ WriteFault → failed) → (result ≡ WriteFault → AppendsPrefix old new text) → Ends status old new failed result
 line_said status result old new failed text has said (inl e) fault left = subst (Ends status old new failed) (sym e) (with_line text has (said e))

@@ -16,7 +16,7 @@ use Rattle.stage_core.specs.Machines.{Machine, stage_of}
 use Rattle.stage_core.specs.Inputs.{Handed}
 use Rattle.index_jobs.specs.Drawn.{IsDrawn}
 use Rattle.index_jobs.proofs.Next.{AtKind, scan, link, main, name, merge, write, handed_out}
-use Rattle.index_cmd.specs.Builds.{IsIdle, jobs_left}
+use Rattle.index_cmd.specs.Builds.{HasJobs, IsIdle, jobs_left}
 
 -- ---- what the jobs of a kind brought
 
@@ -61,6 +61,15 @@ place_is s closed k j name lt = refl
 place_is s closed k j merge lt = ap (λ (n : ℕ). record { kind = 4; number = n }) (omega (arith, lt))
 place_is s closed k j write lt = ap (λ (n : ℕ). record { kind = 5; number = n }) (omega (arith, lt))
 
+-- a kind that has jobs isn't the sixth of the closed ones
+few_closed : (closed : List (List Made)) (k : ℕ) (j : Job) → AtKind closed k j → length closed < 6
+few_closed closed k j scan = omega arith
+few_closed closed k j link = omega arith
+few_closed closed k j main = omega arith
+few_closed closed k j name = omega arith
+few_closed closed k j merge = omega arith
+few_closed closed k j write = omega arith
+
 -- ---- one job more
 
 abbrev state : List (List Made) → ℕ → Slots → End → State Made
@@ -77,6 +86,10 @@ jobs_from s closed = sum_by (λ row. row.jobs) (drop (length closed) (plan_of s)
 pub record Done (s : Subject) (n : ℕ) (t : State Made) : Type 0 where
   pub idle : IsIdle (of s t)
   pub less : jobs_left (of s t) < n
+
+-- where the last kind is closed, or jobs don't go on, there are none
+without_jobs : (m : Machine) → (HasJobs m → ⊥) → IsIdle m
+without_jobs m off = record { outputs = []; left = 0; brought = λ on. absurd (off on); drawn = λ on. absurd (off on) }
 
 begun : (s : Subject) (n : ℕ) (closed : List (List Made)) → 0 < n → IsIdle (of s (state closed 0 (replicate n None) Going))
 begun s n closed lt = let more : n ≡ suc (n - 1) = omega (arith, lt) in record { outputs = []; left = n - 1; brought = λ _. ap (λ (k : ℕ). let none : Slots = replicate k None in none) more; drawn = λ _. refl }
@@ -106,19 +119,19 @@ module _ (s : Subject) (some : 0 < length s.runs) (closed : List (List Made)) (o
 
     ended : (drawn : ℕ) (brought : Slots) (end : End) → is_going end ≡ false → Done s left_now (state closed drawn brought end)
     ended drawn brought Going off = absurd (cc off)
-    ended drawn brought (Refused f) off = record { idle = record { outputs = []; left = 0; brought = λ on. absurd (cc on); drawn = λ on. absurd (cc on) }; less = left_here closed j kind within }
-    ended drawn brought Stopped off = record { idle = record { outputs = []; left = 0; brought = λ on. absurd (cc on); drawn = λ on. absurd (cc on) }; less = left_here closed j kind within }
+    ended drawn brought (Refused f) off = record { idle = without_jobs (of s (state closed drawn brought (Refused f))) (λ on. cc on.going); less = left_here closed j kind within }
+    ended drawn brought Stopped off = record { idle = without_jobs (of s (state closed drawn brought Stopped)) (λ on. cc on.going); less = left_here closed j kind within }
 
-    -- the next kind opens, of which there are jobs
-    next_kind : (closed : List (List Made)) (j : Job) → AtKind closed drawn_jobs j → drawn_jobs < jobs_at (plan_of s) (length closed) → stage (plan_of s) (state closed drawn_jobs [] Going) < 2 → (made : List Made) → Done s (jobs_from s closed - drawn_jobs) (opened (plan_of s) (closed ++ made ∷ []))
-    next_kind closed j scan lt open_ made = record { idle = begun s (length s.runs) (made ∷ []) some; less = omega (arith, lt) }
-    next_kind closed j (link {a = a}) lt open_ made = record { idle = begun s 1 (a ∷ made ∷ []) (omega arith); less = omega (arith, lt) }
-    next_kind closed j (main {a = a} {b = b}) lt open_ made = record { idle = begun s (length s.runs) (a ∷ b ∷ made ∷ []) some; less = omega (arith, lt) }
-    next_kind closed j (name {a = a} {b = b} {c = c}) lt open_ made = record { idle = begun s 1 (a ∷ b ∷ c ∷ made ∷ []) (omega arith); less = omega (arith, lt) }
-    next_kind closed j (merge {a = a} {b = b} {c = c} {d = d}) lt open_ made = record { idle = begun s 1 (a ∷ b ∷ c ∷ d ∷ made ∷ []) (omega arith); less = omega (arith, lt) }
-    next_kind closed j write lt open_ made = absurd (omega (arith, open_))
+    -- the next kind opens, of which there are jobs, or the last one closes
+    next_kind : (closed : List (List Made)) (j : Job) → AtKind closed drawn_jobs j → drawn_jobs < jobs_at (plan_of s) (length closed) → (made : List Made) → Done s (jobs_from s closed - drawn_jobs) (opened (plan_of s) (closed ++ made ∷ []))
+    next_kind closed j scan lt made = record { idle = begun s (length s.runs) (made ∷ []) some; less = omega (arith, lt) }
+    next_kind closed j (link {a = a}) lt made = record { idle = begun s 1 (a ∷ made ∷ []) (omega arith); less = omega (arith, lt) }
+    next_kind closed j (main {a = a} {b = b}) lt made = record { idle = begun s (length s.runs) (a ∷ b ∷ made ∷ []) some; less = omega (arith, lt) }
+    next_kind closed j (name {a = a} {b = b} {c = c}) lt made = record { idle = begun s 1 (a ∷ b ∷ c ∷ made ∷ []) (omega arith); less = omega (arith, lt) }
+    next_kind closed j (merge {a = a} {b = b} {c = c} {d = d}) lt made = record { idle = begun s 1 (a ∷ b ∷ c ∷ d ∷ made ∷ []) (omega arith); less = omega (arith, lt) }
+    next_kind closed j (write {a = a} {b = b} {c = c} {d = d} {e = e}) lt made = record { idle = without_jobs (of s (opened (plan_of s) (a ∷ b ∷ c ∷ d ∷ e ∷ made ∷ []))) (λ on. omega (arith, on.open_)); less = omega (arith, lt) }
 
-    module _ (open_ : stage (plan_of s) (state closed drawn_jobs [] Going) < 2) (o : Output Made) where
+    module _ (o : Output Made) where
       abbrev given : ℕ → State Made
       given left = state closed (suc drawn_jobs) (slots (outputs ++ o ∷ []) left) Going
 
@@ -127,7 +140,7 @@ module _ (s : Subject) (some : 0 < length s.runs) (closed : List (List Made)) (o
 
       closes : (least : Option Fault) → Done s left_now (closing (plan_of s) (given 0) least)
       closes (Some f) = ended (suc drawn_jobs) (slots (outputs ++ o ∷ []) 0) (Refused f) refl
-      closes None = next_kind closed j kind within open_ (filter_map made_in (slots (outputs ++ o ∷ []) 0))
+      closes None = next_kind closed j kind within (filter_map made_in (slots (outputs ++ o ∷ []) 0))
 
       decides : (left : ℕ) → Done s left_now (decided (plan_of s) (given left))
       decides zero = rw (none_open (outputs ++ o ∷ [])) (closes (least_fault (slots (outputs ++ o ∷ []) 0)))
@@ -149,17 +162,18 @@ module _ (s : Subject) (some : 0 < length s.runs) (closed : List (List Made)) (o
 
 -- a core that hands out a job, once it is finished
 module _ (s : Subject) (some : 0 < length s.runs) (j : Job) (o : Output Made) (refused : Bool) where
-  goes : (closed : List (List Made)) (drawn : ℕ) (brought : Slots) (end : End) → IsIdle (of s (state closed drawn brought end)) → stage (plan_of s) (state closed drawn brought end) < 2 → AtKind closed drawn j → drawn < jobs_at (plan_of s) (length closed) →
+  goes : (closed : List (List Made)) (drawn : ℕ) (brought : Slots) (end : End) → IsIdle (of s (state closed drawn brought end)) → stage (plan_of s) (state closed drawn brought end) < 3 → AtKind closed drawn j → drawn < jobs_at (plan_of s) (length closed) →
       Done s (jobs_left (of s (state closed drawn brought end))) (after_finish (plan_of s) (after_draw (state closed drawn brought end)) (place_of_job j) o refused)
   goes closed drawn brought (Refused f) idle open_ kind within = absurd (omega (arith, open_))
   goes closed drawn brought Stopped idle open_ kind within = absurd (omega (arith, open_))
   goes closed drawn brought Going idle open_ kind within =
-      let is : drawn ≡ length idle.outputs = idle.drawn refl in
-      let here = finished s some closed idle.outputs j (subst (λ (n : ℕ). AtKind closed n j) is kind) (subst (λ (n : ℕ). n < jobs_at (plan_of s) (length closed)) is within) (subst (λ (n : ℕ). stage (plan_of s) (state closed n [] Going) < 2) is open_) o idle.left refused in
-      subst (λ (xs : Slots). Done s (jobs_from s closed - drawn) (after_finish (plan_of s) (after_draw (state closed drawn xs Going)) (place_of_job j) o refused)) (sym (idle.brought refl))
+      let jobs : HasJobs (of s (state closed drawn brought Going)) = record { going = refl; open_ = few_closed closed drawn j kind } in
+      let is : drawn ≡ length idle.outputs = idle.drawn jobs in
+      let here = finished s some closed idle.outputs j (subst (λ (n : ℕ). AtKind closed n j) is kind) (subst (λ (n : ℕ). n < jobs_at (plan_of s) (length closed)) is within) o idle.left refused in
+      subst (λ (xs : Slots). Done s (jobs_from s closed - drawn) (after_finish (plan_of s) (after_draw (state closed drawn xs Going)) (place_of_job j) o refused)) (sym (idle.brought jobs))
       (subst (λ (n : ℕ). Done s (jobs_from s closed - n) (after_finish (plan_of s) (after_draw (state closed n (slots idle.outputs (suc idle.left)) Going)) (place_of_job j) o refused)) (sym is) here)
 
-pub step_done : (image : Image) (h : Handed) (d : IsDrawn image h) → 0 < length d.machine.subject.runs → IsIdle d.machine → stage_of d.machine < 2 → (o : Output Made) (refused : Bool) →
+pub step_done : (image : Image) (h : Handed) (d : IsDrawn image h) → 0 < length d.machine.subject.runs → IsIdle d.machine → stage_of d.machine < 3 → (o : Output Made) (refused : Bool) →
     Done d.machine.subject (jobs_left d.machine) (after_finish (plan_of d.machine.subject) (after_draw d.machine.state) (place_of_job h.job) o refused)
 step_done image h d some idle open_ o refused =
     let out = handed_out image h d in

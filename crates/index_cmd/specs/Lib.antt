@@ -4,5 +4,9 @@ pub mod SeenWords
 pub mod FilesRead
 pub mod Statuses
 pub mod Requests
+pub mod GdbLooks
+pub mod NamesLooks
+pub mod Stores
+pub mod Indexes
 pub mod Replies
 pub mod Builds

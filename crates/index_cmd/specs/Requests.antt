@@ -1,43 +1,89 @@
 -- What the words of a command line ask for.
-use Rattle.std.specs.Prelude.{◌≡◌, ℕ, List, Option, Some, None, option_map, option_and_then}
-use Rattle.index_model.specs.Queries.{Query, AskCache, query_of}
-use Rattle.index_cmd.specs.Words.{Asked, Wanted, Help, Version, Ask, command_of, query_text}
+use Rattle.std.specs.Prelude.{◌⊎◌, ℕ, List, Option, Some, None, option_map, option_and_then, ⊤}
+use Rattle.index_model.specs.declared.job.CacheKind.{CacheKind}
+use Rattle.index_model.specs.Queries.{Query, AskName, AskSimple, AskCache, query_of}
+use Rattle.index_cmd.specs.Words.{Asked, Indexed, Looked, NamesLooked, Wanted, Help, Version, Ask, Index, LookGdb, LookNames, command_of, query_text}
 
--- the program's own texts; or the answer of a file, by its name, to a query
+-- The program's own texts; the answer of a file, by its name, to a query; the index of a kind of a file, to be stored under a
+-- name; the answer of a `.gdb_index`, by its name, to a query; or the entries of a name in a `.debug_names`, by the base of its
+-- strings, its own name and that of the strings.
 pub data Request : Type 0 where
   TheHelp TheVersion : Request
   OfFile : List ℕ → Query → Request
+  OfIndex : CacheKind → List ℕ → List ℕ → Request
+  OfGdb : List ℕ → Query → Request
+  OfNames : ℕ → List ℕ → List ℕ → List ℕ → Request
 
--- the queries that are answered; the index isn't written yet
-abbrev pub offer : Query → Option Query
-offer AskCache = None
-offer q = Some q
-
--- such a query
-abbrev pub IsOffered : Query → Type 0
-IsOffered q = offer q ≡ Some q
-
--- the query of a line, if it is answered
-abbrev pub offered : List ℕ → Option Query
-offered line = option_and_then offer (query_of line)
-
--- a query of a file, if it is answered
+-- a query of a file
 abbrev pub asked : Asked → Option Request
-asked a = option_map (OfFile a.file) (offered (query_text a.query))
+asked a = option_map (OfFile a.file) (query_of (query_text a.query))
+
+-- the index of a file
+abbrev pub indexed : Indexed → Option Request
+indexed i = Some (OfIndex i.kind i.file i.out)
+
+-- a `.gdb_index` answers names, addresses and main
+abbrev pub offer_gdb : Query → Option Query
+offer_gdb (AskSimple n) = None
+offer_gdb AskCache = None
+offer_gdb q = Some q
+
+-- the query of a line, if a `.gdb_index` answers it
+abbrev pub offered_gdb : List ℕ → Option Query
+offered_gdb line = option_and_then offer_gdb (query_of line)
+
+-- a query of a `.gdb_index`, if it answers it
+abbrev pub looked : Looked → Option Request
+looked l = option_map (OfGdb l.index) (offered_gdb (query_text l.query))
+
+-- a `.debug_names` answers names alone
+abbrev pub offer_name : Query → Option (List ℕ)
+offer_name (AskName n) = Some n
+offer_name other = None
+
+-- the name that a line asks for
+abbrev pub offered_name : List ℕ → Option (List ℕ)
+offered_name line = option_and_then offer_name (query_of line)
+
+-- a query of a `.debug_names`, if it answers it
+abbrev pub looked_names : NamesLooked → Option Request
+looked_names l = option_map (OfNames l.base l.index l.strings) (offered_name (query_text l.query))
 
 -- a command whose query is answered
 abbrev pub requested : Wanted → Option Request
 requested Help = Some TheHelp
 requested Version = Some TheVersion
 requested (Ask a) = asked a
+requested (Index i) = indexed i
+requested (LookGdb l) = looked l
+requested (LookNames l) = looked_names l
 
 -- what the words ask for; none where they aren't in the grammar. The number of workers changes nothing.
 abbrev pub request_of : List (List ℕ) → Option Request
 request_of words = option_and_then requested (command_of words)
 
--- the words ask a file
+-- a file that is read: that which is asked or indexed, the index that is asked, or its strings
 abbrev pub AsksFile : Option Request → (List ℕ → Type 0) → Type 0
 AsksFile (Some (OfFile file q)) P = P file
+AsksFile (Some (OfIndex kind file out)) P = P file
+AsksFile (Some (OfGdb index q)) P = P index
+AsksFile (Some (OfNames base index strings name)) P = P index ⊎ P strings
 AsksFile (Some TheHelp) P = ⊥
 AsksFile (Some TheVersion) P = ⊥
 AsksFile None P = ⊥
+
+-- the program file that is asked or indexed
+abbrev pub AsksProgram : Option Request → (List ℕ → Type 0) → Type 0
+AsksProgram (Some (OfFile file q)) P = P file
+AsksProgram (Some (OfIndex kind file out)) P = P file
+AsksProgram other P = ⊥
+
+-- the index of a kind of a file, to be stored under a name
+abbrev pub AsksIndex : Option Request → (CacheKind → List ℕ → List ℕ → Type 0) → Type 0
+AsksIndex (Some (OfIndex kind file out)) P = P kind file out
+AsksIndex other P = ⊥
+
+-- nothing is to be stored
+abbrev pub StoresNothing : Option Request → Type 0
+StoresNothing (Some (OfIndex kind file out)) = ⊥
+StoresNothing other = ⊤

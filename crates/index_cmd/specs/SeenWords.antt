@@ -4,6 +4,10 @@ use Rattle.std.specs.String.{string_bytes}
 use Rattle.index_cmd.specs.declared.words.Command.{Command}
 use Rattle.index_cmd.specs.declared.words.Command.TheVariants as code
 use Rattle.index_cmd.specs.declared.words.Ask.{Ask}
+use Rattle.index_cmd.specs.declared.words.Index.{Index}
+use Rattle.index_cmd.specs.declared.words.LookGdb.{LookGdb}
+use Rattle.index_cmd.specs.declared.words.LookNames.{LookNames}
+use Rattle.index_cmd.specs.declared.words.Based.{Based}
 use Rattle.index_cmd.specs.declared.words.Split.{Split}
 use Rattle.index_cmd.specs.Words as grammar
 
@@ -14,13 +18,28 @@ words_of words = map string_bytes words
 abbrev pub seen_split : Split → grammar.Workers
 seen_split s = record { workers = s.workers; others = words_of s.others.now }
 
+abbrev pub seen_based : Based → grammar.Based
+seen_based b = record { base = b.base; others = words_of b.others.now }
+
 abbrev pub seen_ask : Ask → grammar.Asked
 seen_ask a = record { workers = a.workers; file = a.file.now; query = words_of a.query.now }
+
+abbrev pub seen_index : Index → grammar.Indexed
+seen_index i = record { kind = i.kind; workers = i.workers; file = i.file.now; out = i.out.now }
+
+abbrev pub seen_look : LookGdb → grammar.Looked
+seen_look l = record { index = l.index.now; query = words_of l.query.now }
+
+abbrev pub seen_names : LookNames → grammar.NamesLooked
+seen_names l = record { base = l.base; index = l.index.now; strings = l.strings.now; query = words_of l.query.now }
 
 abbrev pub seen_command : Command → grammar.Wanted
 seen_command code.Help = grammar.Help
 seen_command code.Version = grammar.Version
 seen_command (code.Ask a) = grammar.Ask (seen_ask a)
+seen_command (code.Index i) = grammar.Index (seen_index i)
+seen_command (code.LookGdb l) = grammar.LookGdb (seen_look l)
+seen_command (code.LookNames l) = grammar.LookNames (seen_names l)
 
 -- 1 to 64 workers
 pub record IsWorkers (workers : ℕ) : Type 0 where
@@ -32,3 +51,6 @@ abbrev pub HasWorkers : Command → Type 0
 HasWorkers code.Help = ⊤
 HasWorkers code.Version = ⊤
 HasWorkers (code.Ask a) = IsWorkers a.workers
+HasWorkers (code.Index i) = IsWorkers i.workers
+HasWorkers (code.LookGdb l) = ⊤
+HasWorkers (code.LookNames l) = ⊤

@@ -1,32 +1,32 @@
 //! `ask`: the answer to a query of a file.
 
-ghost use Rattle.std.specs.Prelude.{◌≡◌, ◌<◌, ◌≤◌, Ok, Some, length, option_map};
+ghost use Rattle.std.specs.Prelude.{◌≡◌, ◌<◌, ◌≤◌, length};
 ghost use Rattle.ix_base.specs.declared.limits.TheConstants.{MAX_FILE_BYTES};
 ghost use Rattle.outside.specs.Counts.{Rose};
 ghost use Rattle.outside.specs.Files.{SameFiles};
 ghost use Rattle.index_model.specs.Answers.{Refused as Refuses};
 ghost use Rattle.index_model.specs.Seen.{query_seen, reply_seen};
 ghost use Rattle.query_text.specs.Places.{PlacesFit};
-ghost use Rattle.index_cmd.specs.Requests.{asked, IsOffered};
+ghost use Rattle.index_cmd.specs.Requests.{asked};
 ghost use Rattle.index_cmd.specs.Replies.{Causes, CausesOfResult, SaysFile, SaysReply, SaysRequest, Wrote, status_after};
 ghost use Rattle.index_cmd.specs.SeenWords.{seen_ask};
 
 use crate::build::build;
 use crate::file::{ReadStop, read_file};
-use crate::line::{offered, query_line};
-use crate::look::reply;
+use crate::line::query_line;
+use crate::look::{need_of, reply};
 use crate::status::Status;
 use crate::words::Ask;
-use index_model::{Query, Reply, Staged};
+use index_model::{CacheKind, Query, Reply, Staged};
 use ix_base::{Fault, MAX_FILE_BYTES, Stop};
 use outside::{Failed, Shelf, Sink};
-use query_text::write_reply;
+use query_text::{parse, write_reply};
 use std::alloc::Global;
 use std::thread::Threads;
 use unit_headers::Image;
 
 // Each worker has so many shards, so that long ones even out.
-const SHARDS_PER_WORKER: u32 = 4;
+pub(crate) const SHARDS_PER_WORKER: u32 = 4;
 
 /// Answers the query of the words over the file that they name. Of the statuses that aren't a result nothing is written here.
 pub(crate) fn ask<R: Threads + Sync, F: Shelf, K: Sink>(
@@ -39,7 +39,7 @@ pub(crate) fn ask<R: Threads + Sync, F: Shelf, K: Sink>(
     requires some { 0 < ask.now.workers }
     requires few { ask.now.workers ≤ 64 }
     ensures wrote { Wrote (SaysRequest (asked (seen_ask ask.now)) (F.files shelf.old)) result (K.written out.old) (K.written out.new) }
-    ensures causes { Causes (asked (seen_ask ask.now)) (F.files shelf.old) (Rose (F.read_faults shelf.old) (F.read_faults shelf.new)) (Rose (K.write_faults out.old) (K.write_faults out.new)) result }
+    ensures causes { Causes (asked (seen_ask ask.now)) (F.files shelf.old) (Rose (F.read_faults shelf.old) (F.read_faults shelf.new)) (Rose (F.store_faults shelf.old) (F.store_faults shelf.new)) (Rose (K.write_faults out.old) (K.write_faults out.new)) result }
     ensures kept { SameFiles (F.files shelf.old) (F.files shelf.new) }
     ensures counts { K.write_faults out.old ≤ K.write_faults out.new }
 {
@@ -47,7 +47,7 @@ pub(crate) fn ask<R: Threads + Sync, F: Shelf, K: Sink>(
         Ok(line) => line,
         Err(_) => return Status::NoMemory,
     };
-    let Some(query) = offered(&line) else {
+    let Some(query) = parse(&line) else {
         return Status::Usage;
     };
     match read_file(alloc, shelf, ask.file, MAX_FILE_BYTES as usize) {
@@ -77,7 +77,6 @@ fn answer<R: Threads + Sync, K: Sink>(
     requires small { length file.now ≤ MAX_FILE_BYTES }
     requires some { 0 < shards }
     requires few { shards ≤ 256 }
-    requires offered { IsOffered (query_seen query.now) }
     ensures wrote { Wrote (SaysFile file.now (query_seen query.now)) result (K.written out.old) (K.written out.new) }
     ensures causes { CausesOfResult (Rose (K.write_faults out.old) (K.write_faults out.new)) result }
     ensures counts { K.write_faults out.old ≤ K.write_faults out.new }
@@ -100,12 +99,12 @@ fn answer_built<R: Threads + Sync, K: Sink>(
 ) -> Status
     requires some { 0 < shards }
     requires few { shards ≤ 256 }
-    requires offered { IsOffered (query_seen query.now) }
     ensures wrote { Wrote (SaysFile image.now.file (query_seen query.now)) result (K.written out.old) (K.written out.new) }
     ensures causes { CausesOfResult (Rose (K.write_faults out.old) (K.write_faults out.new)) result }
     ensures counts { K.write_faults out.old ≤ K.write_faults out.new }
 {
-    let core = match build(rt, alloc, image, shards) {
+    let goal = need_of(query);
+    let core = match build(rt, alloc, image, shards, CacheKind::Gdb8, goal) {
         Ok(core) => core,
         Err(_) => return Status::NoMemory,
     };
@@ -120,8 +119,8 @@ fn answer_built<R: Threads + Sync, K: Sink>(
     }
 }
 
-// Writes the fault of a file without a core.
-fn refuse<K: Sink>(out: &mut K, fault: Fault) -> Status
+/// Writes the first fault of a file.
+pub(crate) fn refuse<K: Sink>(out: &mut K, fault: Fault) -> Status
     ensures wrote { Wrote (SaysReply (Refuses fault)) result (K.written out.old) (K.written out.new) }
     ensures causes { CausesOfResult (Rose (K.write_faults out.old) (K.write_faults out.new)) result }
     ensures counts { K.write_faults out.old ≤ K.write_faults out.new }
@@ -129,8 +128,8 @@ fn refuse<K: Sink>(out: &mut K, fault: Fault) -> Status
     write(out, &Reply::Refused(fault))
 }
 
-// Writes a reply that is a result.
-fn write<K: Sink>(out: &mut K, reply: &Reply<'_>) -> Status
+/// Writes a reply that is a result.
+pub(crate) fn write<K: Sink>(out: &mut K, reply: &Reply<'_>) -> Status
     requires { PlacesFit (reply_seen reply.now) }
     ensures wrote { Wrote (SaysReply (reply_seen reply.now)) result (K.written out.old) (K.written out.new) }
     ensures causes { CausesOfResult (Rose (K.write_faults out.old) (K.write_faults out.new)) result }
@@ -143,8 +142,8 @@ fn write<K: Sink>(out: &mut K, reply: &Reply<'_>) -> Status
     }
 }
 
-// The status once a result was to be written.
-fn ended(written: Result<(), Failed>, status: Status) -> Status
+/// The status once a result was to be written.
+pub(crate) fn ended(written: Result<(), Failed>, status: Status) -> Status
     ensures { result ≡ status_after written status }
 {
     match written {

@@ -14,37 +14,43 @@ use std::alloc::Global;
 use std::thread::Threads;
 use unit_headers::Image;
 
-// The stage from which on names can be asked. Refused and stopped are behind it.
-const FINALISED: u8 = 2;
-
-/// A core of the image's file that has its answers to queries of names, addresses and main, or is refused or stopped. Nothing
+/// A core of the image's file that writes an index of this kind and has come to a stage, 0 to 3, or is refused or stopped. Nothing
 /// that it says depends on the number of shards.
 pub(crate) fn build<'f, R: Threads + Sync>(
     rt: &R,
     alloc: Global,
     image: &Image<'f>,
     shards: u32,
+    kind: CacheKind,
+    goal: u8,
 ) -> Result<Core<'f>, NoMemory>
     requires some { 0 < shards }
     requires few { shards ≤ 256 }
-    ensures subject { IfOk result (λ c. IsBuildOf image.now c) }
-    ensures ended { IfOk result (λ c. 2 ≤ stage_of c) }
+    requires goal { goal ≤ 3 }
+    ensures subject { IfOk result (λ c. IsBuildOf image.now kind c) }
+    ensures ended { IfOk result (λ c. goal ≤ stage_of c) }
 {
     let file = image.file();
     let units = image.units();
-    let mut core = Core::new(alloc, file, units, shards, CacheKind::Gdb8)?;
-    while core.stage() < FINALISED {
-        step(rt, alloc, image, &mut core);
+    let mut core = Core::new(alloc, file, units, shards, kind)?;
+    while core.stage() < goal {
+        step(rt, alloc, image, kind, &mut core);
     }
     Ok(core)
 }
 
 // Draws the next job, does it and finishes it.
-fn step<'f, R: Threads + Sync>(rt: &R, alloc: Global, image: &Image<'f>, core: &mut Core<'f>)
-    requires build { IsBuildOf image.now core.old }
+fn step<'f, R: Threads + Sync>(
+    rt: &R,
+    alloc: Global,
+    image: &Image<'f>,
+    kind: CacheKind,
+    core: &mut Core<'f>,
+)
+    requires build { IsBuildOf image.now kind core.old }
     requires idle { IsIdle core.old }
-    requires open { stage_of core.old < 2 }
-    ensures build { IsBuildOf image.now core.new }
+    requires open { stage_of core.old < 3 }
+    ensures build { IsBuildOf image.now kind core.new }
     ensures idle { IsIdle core.new }
     ensures less { jobs_left core.new < jobs_left core.old }
 {

@@ -3,7 +3,7 @@
 ghost use Rattle.std.specs.Prelude.{◌≡◌, OnOk, IfOk, option_map};
 ghost use Rattle.index_model.specs.Seen.{query_seen};
 ghost use Rattle.index_cmd.specs.Words.{query_text};
-ghost use Rattle.index_cmd.specs.Requests.{offered};
+ghost use Rattle.index_cmd.specs.Requests.{offered_gdb, offered_name};
 ghost use Rattle.index_cmd.specs.SeenWords.{words_of};
 
 use index_model::Query;
@@ -25,12 +25,22 @@ pub(crate) fn query_line(alloc: Global, words: &[String]) -> Result<Vec<u8>, NoM
     Ok(text)
 }
 
-/// The query of a line; None where it is a bad query, or asks for the index, which isn't written yet.
-pub(crate) fn offered(line: &[u8]) -> Option<Query<'_>>
-    ensures { option_map query_seen result ≡ offered line.now }
+/// The query of a line that a `.gdb_index` answers, of a name, an address or main; None where it is another or a bad query.
+pub(crate) fn offered_gdb(line: &[u8]) -> Option<Query<'_>>
+    ensures { option_map query_seen result ≡ offered_gdb line.now }
 {
     match parse(line)? {
-        Query::Cache => None,
+        Query::Simple(_) | Query::Cache => None,
         query => Some(query),
+    }
+}
+
+/// The name that a line asks for, which alone a `.debug_names` answers; None where it is another or a bad query.
+pub(crate) fn offered_name(line: &[u8]) -> Option<&[u8]>
+    ensures { option_map (λ name. name.now) result ≡ offered_name line.now }
+{
+    match parse(line)? {
+        Query::Name(name) => Some(name),
+        Query::Simple(_) | Query::Addr(_) | Query::Main | Query::Cache => None,
     }
 }

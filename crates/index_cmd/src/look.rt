@@ -1,6 +1,6 @@
 //! The reply by what a core has published.
 
-ghost use Rattle.std.specs.Prelude.{◌≡◌, ◌<◌, option_map};
+ghost use Rattle.std.specs.Prelude.{◌≡◌, ◌<◌, ◌≤◌, option_map};
 ghost use Rattle.index_model.specs.Parts.{answer_by, reply_by};
 ghost use Rattle.index_model.specs.Queries.{need_of};
 ghost use Rattle.index_model.specs.Seen.{answer_seen, query_seen, reply_seen};
@@ -34,9 +34,10 @@ pub(crate) fn reply<'r>(parts: &'r Parts<'_>, query: &Query<'_>, stage: u8) -> O
     }
 }
 
-// The stage that a query needs.
-fn need_of(query: &Query<'_>) -> u8
-    ensures { result ≡ need_of (query_seen query.now) }
+/// The stage that a query needs.
+pub(crate) fn need_of(query: &Query<'_>) -> u8
+    ensures need { result ≡ need_of (query_seen query.now) }
+    ensures most { result ≤ 3 }
 {
     match query {
         Query::Addr(_) | Query::Main => 1,

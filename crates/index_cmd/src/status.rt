@@ -14,10 +14,16 @@ pub(crate) enum Status {
     Usage,
     /// A read of the shelf failed.
     ReadFault,
+    /// A store of the shelf failed.
+    StoreFault,
     /// A write to the sink failed.
     WriteFault,
     /// Memory was refused.
     NoMemory,
+    /// The bytes of an index have a fault.
+    IndexRefused,
+    /// The format can't hold the index.
+    IndexTooLarge,
     /// A file is longer than its limit.
     FileTooBig,
 }
@@ -32,8 +38,11 @@ impl Status {
             Status::Refused => 1,
             Status::Usage => 2,
             Status::ReadFault => 3,
+            Status::StoreFault => 4,
             Status::WriteFault => 5,
             Status::NoMemory => 7,
+            Status::IndexRefused => 8,
+            Status::IndexTooLarge => 9,
             Status::FileTooBig => 10,
         }
     }

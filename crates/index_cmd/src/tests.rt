@@ -1,6 +1,7 @@
 //! What no clause says yet: the answers themselves, on programs whose bytes and answers were written by hand.
 
 mod files;
+mod indexes;
 
 use crate::run;
 use files::{BASELESS, COMPILED, EMPTY, INDEXED, PLAIN};
@@ -25,14 +26,24 @@ fn answer<R: Threads + Sync>(
     file: &[u8],
     words: &[&str],
 ) -> Result<Answered, Fail> {
+    let mut shelf = MemShelf::new(alloc);
+    shelf.put("X", file)?;
+    told(rt, alloc, &mut shelf, words)
+}
+
+// What a command line comes to over a shelf.
+fn told<R: Threads + Sync>(
+    rt: &R,
+    alloc: Global,
+    shelf: &mut MemShelf,
+    words: &[&str],
+) -> Result<Answered, Fail> {
     let mut line = Vec::new(alloc);
     for word in words {
         line.push(String::from_str(alloc, word)?)?;
     }
-    let mut shelf = MemShelf::new(alloc);
-    shelf.put("X", file)?;
     let mut out = MemSink::new(alloc);
-    let status = run(rt, alloc, &line, &mut shelf, &mut out);
+    let status = run(rt, alloc, &line, shelf, &mut out);
     let text = String::from_utf8_lossy(alloc, out.bytes())?;
     Ok(Answered { status, text })
 }
@@ -170,7 +181,7 @@ fn words_and_their_statuses(rt: HostRuntime) -> Result<(), Fail> {
         (&["ask", "--X", "name", "main"], 2, b"usage\n"),
         (&["ask", "X", "name", "a\nb"], 2, b"usage\n"),
         (&["ask", "X", "addr", "0x10"], 2, b"usage\n"),
-        (&["ask", "X", "cache"], 2, b"usage\n"),
+        (&["ask", "X", "cache"], 0, b"cache 89\n"),
         (&["ask", "Y", "name", "main"], 3, b"read fault\n"),
         (&[], 2, b"usage\n"),
     ];

@@ -2,10 +2,11 @@
 
 ghost use Rattle.std.specs.Prelude.{◌≡◌, option_map};
 ghost use Rattle.std.specs.Option.{ForSome};
-ghost use Rattle.index_cmd.specs.Words.{is_file_name, workers_and_others, workers_before, about, ask_of, command_of};
-ghost use Rattle.index_cmd.specs.SeenWords.{seen_split, seen_ask, seen_command, words_of, HasWorkers, IsWorkers};
+ghost use Rattle.index_cmd.specs.Words.{is_file_name, workers_and_others, workers_before, about, ask_of, base_and_others, base_before, command_of, files_of, index_as, index_of, kind_named, look_gdb_of, look_names_of, look_of, names_and_query, other_command};
+ghost use Rattle.index_cmd.specs.SeenWords.{seen_split, seen_based, seen_ask, seen_index, seen_look, seen_names, seen_command, words_of, HasWorkers, IsWorkers};
 
 use crate::number::number;
+use index_model::CacheKind;
 
 /// What a command line asks for.
 #[derive(Clone, Copy)]
@@ -13,6 +14,9 @@ pub(crate) enum Command<'w> {
     Help,
     Version,
     Ask(Ask<'w>),
+    Index(Index<'w>),
+    LookGdb(LookGdb<'w>),
+    LookNames(LookNames<'w>),
 }
 
 /// `ask [--workers N] FILE QUERY`.
@@ -22,6 +26,42 @@ pub(crate) struct Ask<'w> {
     pub file: &'w str,
     /// The words of the query, one at least.
     pub query: &'w [String],
+}
+
+/// `index --as KIND [--workers N] FILE OUT`.
+#[derive(Clone, Copy)]
+pub(crate) struct Index<'w> {
+    pub kind: CacheKind,
+    pub workers: u32,
+    pub file: &'w str,
+    /// The name under which the index is stored.
+    pub out: &'w str,
+}
+
+/// `look gdb INDEX QUERY`.
+#[derive(Clone, Copy)]
+pub(crate) struct LookGdb<'w> {
+    pub index: &'w str,
+    /// The words of the query, one at least.
+    pub query: &'w [String],
+}
+
+/// `look names [--base B] INDEX STRINGS QUERY`.
+#[derive(Clone, Copy)]
+pub(crate) struct LookNames<'w> {
+    /// The offset in the string section of the first byte of the strings.
+    pub base: u32,
+    pub index: &'w str,
+    pub strings: &'w str,
+    /// The words of the query, one at least.
+    pub query: &'w [String],
+}
+
+// The base of the strings, and the words behind that.
+#[derive(Clone, Copy)]
+struct Based<'w> {
+    base: u32,
+    others: &'w [String],
 }
 
 // The workers that are asked for, and the words behind that.
@@ -46,16 +86,34 @@ pub(crate) fn parse_command(words: &[String]) -> Option<Command<'_>>
             Some(ask) => Some(Command::Ask(ask)),
             None => None,
         }
+    } else if word.as_str() == "index" {
+        match parse_index(others) {
+            Some(index) => Some(Command::Index(index)),
+            None => None,
+        }
+    } else {
+        other_command(word.as_str(), others)
+    }
+}
+
+// A command that builds no index.
+fn other_command<'w>(word: &str, others: &'w [String]) -> Option<Command<'w>>
+    ensures value { option_map seen_command result ≡ other_command word.now (words_of others.now) }
+    ensures workers { ForSome result HasWorkers }
+{
+    if word == "look" {
+        parse_look(others)
     } else if others.is_empty() {
-        about(word.as_str())
+        about(word)
     } else {
         None
     }
 }
 
 // The one word that asks about the program itself.
-fn about(word: &str) -> Option<Command<'_>>
-    ensures { option_map seen_command result ≡ about word.now }
+fn about<'w>(word: &str) -> Option<Command<'w>>
+    ensures value { option_map seen_command result ≡ about word.now }
+    ensures workers { ForSome result HasWorkers }
 {
     match word {
         "--help" => Some(Command::Help),
@@ -78,6 +136,134 @@ fn parse_ask(words: &[String]) -> Option<Ask<'_>>
         file: file.as_str(),
         query,
     })
+}
+
+fn parse_index(words: &[String]) -> Option<Index<'_>>
+    ensures value { option_map seen_index result ≡ index_of (words_of words.now) }
+    ensures workers { ForSome result (λ x. IsWorkers x.workers) }
+{
+    match words.split_first() {
+        Some((word, others)) if word.as_str() == "--as" => index_as(others),
+        _ => None,
+    }
+}
+
+// The words behind `--as`.
+fn index_as(words: &[String]) -> Option<Index<'_>>
+    ensures value { option_map seen_index result ≡ index_as (words_of words.now) }
+    ensures workers { ForSome result (λ x. IsWorkers x.workers) }
+{
+    let (word, others) = words.split_first()?;
+    let kind = kind_named(word.as_str())?;
+    let Split { workers, others } = split_workers(others)?;
+    index_files(kind, workers, others)
+}
+
+fn kind_named(word: &str) -> Option<CacheKind>
+    ensures { result ≡ kind_named word.now }
+{
+    match word {
+        "gdb8" => Some(CacheKind::Gdb8),
+        "gdb9" => Some(CacheKind::Gdb9),
+        "names" => Some(CacheKind::Names),
+        _ => None,
+    }
+}
+
+// Two files' names and nothing behind them.
+fn index_files(kind: CacheKind, workers: u32, words: &[String]) -> Option<Index<'_>>
+    requires { IsWorkers workers }
+    ensures value { option_map seen_index result ≡ files_of kind workers (words_of words.now) }
+    ensures workers { ForSome result (λ x. IsWorkers x.workers) }
+{
+    let (file, words) = words.split_first()?;
+    let (out, words) = words.split_first()?;
+    if !words.is_empty() || !is_file_name(file.as_str()) || !is_file_name(out.as_str()) {
+        return None;
+    }
+    Some(Index {
+        kind,
+        workers,
+        file: file.as_str(),
+        out: out.as_str(),
+    })
+}
+
+fn parse_look(words: &[String]) -> Option<Command<'_>>
+    ensures value { option_map seen_command result ≡ look_of (words_of words.now) }
+    ensures workers { ForSome result HasWorkers }
+{
+    let (word, others) = words.split_first()?;
+    if word.as_str() == "gdb" {
+        match parse_look_gdb(others) {
+            Some(look) => Some(Command::LookGdb(look)),
+            None => None,
+        }
+    } else if word.as_str() == "names" {
+        match parse_look_names(others) {
+            Some(look) => Some(Command::LookNames(look)),
+            None => None,
+        }
+    } else {
+        None
+    }
+}
+
+fn parse_look_gdb(words: &[String]) -> Option<LookGdb<'_>>
+    ensures { option_map seen_look result ≡ look_gdb_of (words_of words.now) }
+{
+    let (index, query) = words.split_first()?;
+    if !is_file_name(index.as_str()) || query.is_empty() {
+        return None;
+    }
+    Some(LookGdb {
+        index: index.as_str(),
+        query,
+    })
+}
+
+fn parse_look_names(words: &[String]) -> Option<LookNames<'_>>
+    ensures { option_map seen_names result ≡ look_names_of (words_of words.now) }
+{
+    let Based { base, others } = split_base(words)?;
+    look_names_files(base, others)
+}
+
+// The names of an index and of its strings, and a query.
+fn look_names_files(base: u32, words: &[String]) -> Option<LookNames<'_>>
+    ensures { option_map seen_names result ≡ names_and_query base (words_of words.now) }
+{
+    let (index, words) = words.split_first()?;
+    let (strings, query) = words.split_first()?;
+    if !is_file_name(index.as_str()) || !is_file_name(strings.as_str()) || query.is_empty() {
+        return None;
+    }
+    Some(LookNames {
+        base,
+        index: index.as_str(),
+        strings: strings.as_str(),
+        query,
+    })
+}
+
+fn split_base(words: &[String]) -> Option<Based<'_>>
+    ensures { option_map seen_based result ≡ base_and_others (words_of words.now) }
+{
+    match words.split_first() {
+        Some((word, others)) if word.as_str() == "--base" => base_before(others),
+        _ => Some(Based {
+            base: 0,
+            others: words,
+        }),
+    }
+}
+
+fn base_before(words: &[String]) -> Option<Based<'_>>
+    ensures { option_map seen_based result ≡ base_before (words_of words.now) }
+{
+    let (word, others) = words.split_first()?;
+    let base = number(word.as_bytes(), 0, u32::MAX)?;
+    Some(Based { base, others })
 }
 
 fn split_workers(words: &[String]) -> Option<Split<'_>>

@@ -15,4 +15,4 @@ returns-in-Ok-read_file-clause-wrote g c =
     wrote_request (asked a) (g.F.Shelf.files c.args.shelf.now) a.file c.deref-in-Ok-read_file.result.now q request holds c.answer.result (g.K.Sink.written c.args.out.now) (g.K.Sink.written c.answer.new.out) c.answer.ensures.wrote
 
 pub returns-in-Ok-read_file-clause-causes : goal.returns-in-Ok-read_file-clause-causes
-returns-in-Ok-read_file-clause-causes g c = causes_request (asked (seen_ask c.args.ask.now)) (g.F.Shelf.files c.args.shelf.now) _ _ c.answer.result c.answer.ensures.causes
+returns-in-Ok-read_file-clause-causes g c = causes_request (asked (seen_ask c.args.ask.now)) (g.F.Shelf.files c.args.shelf.now) _ _ _ c.answer.result c.answer.ensures.causes

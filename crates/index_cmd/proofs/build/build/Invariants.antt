@@ -3,7 +3,7 @@ use Rattle.index_cmd.proofs.build.build.Given as goal
 
 abbrev pub invariant-loop-alloc : goal.invariant-loop-alloc
 invariant-loop-alloc g l = record {
-  build : IsBuildOf l.fn.image l.core;
+  build : IsBuildOf l.fn.image l.kind l.core;
   idle : IsIdle l.core;
 }
 

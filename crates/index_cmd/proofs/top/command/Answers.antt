@@ -1,10 +1,13 @@
 use Rattle.std.proofs.Common.{◌≡◌, Option, Some, refl, sym, ap, subst, ◌∙◌}
+use Rattle.index_model.specs.Queries.{query_of}
 use Rattle.index_cmd.specs.Replies.{IsAnswer, SaysRequest, Wrote}
-use Rattle.index_cmd.specs.Requests.{Request, TheHelp, TheVersion, asked, request_of}
-use Rattle.index_cmd.specs.SeenWords.{seen_ask, seen_command, words_of, HasWorkers}
-use Rattle.index_cmd.specs.Words.{Help, Version, Ask}
+use Rattle.index_cmd.specs.Requests.{Request, TheHelp, TheVersion, asked, indexed, looked, looked_names, offered_gdb, offered_name, request_of}
+use Rattle.index_cmd.specs.SeenWords.{seen_ask, seen_index, seen_look, seen_names, seen_command, words_of, HasWorkers}
+use Rattle.index_cmd.specs.Stores.{Leaves}
+use Rattle.index_cmd.specs.Words.{Help, Version, Ask, Index, LookGdb, LookNames, query_text}
 use Rattle.index_cmd.specs.declared.words.Command.{Command}
 use Rattle.index_cmd.proofs.Outcomes.{wrote_own, request_is}
+use Rattle.index_cmd.proofs.Leavings.{leaves_same, asked_stores_nothing, looked_stores_nothing, names_stores_nothing}
 use Rattle.index_cmd.proofs.top.command.Goals as goal
 
 pub ask-requires-clause-some : goal.ask-requires-clause-some
@@ -33,3 +36,58 @@ returns-in-Some-Ask-clause-wrote g c =
     let told = g.F.Shelf.files c.args.shelf.now in
     let request : request_of words ≡ asked (seen_ask c.in-Some-Ask.words) = request_is words (Ask (seen_ask c.in-Some-Ask.words)) (ap (λ (x : Command). Some (seen_command x)) (sym c.in-Some-Ask.field-0-is) ∙ c.in-Some-Ask.ensures.value) in
     subst (λ (r : Option Request). Wrote (SaysRequest r told) c.ask.result (g.K.Sink.written c.args.out.now) (g.K.Sink.written c.ask.new.out)) (sym request) c.ask.ensures.wrote
+
+pub index-requires-clause-some : goal.index-requires-clause-some
+index-requires-clause-some g c κs within = (subst HasWorkers c.in-Some-Index.field-0-is (c.in-Some-Index.ensures.workers c.in-Some-Index.field-0 refl)).some
+
+pub index-requires-clause-few : goal.index-requires-clause-few
+index-requires-clause-few g c κs within = (subst HasWorkers c.in-Some-Index.field-0-is (c.in-Some-Index.ensures.workers c.in-Some-Index.field-0 refl)).few
+
+pub returns-in-Some-Index-clause-wrote : goal.returns-in-Some-Index-clause-wrote
+returns-in-Some-Index-clause-wrote g c =
+    let words = words_of c.args.words.now in
+    let told = g.F.Shelf.files c.args.shelf.now in
+    let request : request_of words ≡ indexed (seen_index c.in-Some-Index.words) = request_is words (Index (seen_index c.in-Some-Index.words)) (ap (λ (x : Command). Some (seen_command x)) (sym c.in-Some-Index.field-0-is) ∙ c.in-Some-Index.ensures.value) in
+    subst (λ (r : Option Request). Wrote (SaysRequest r told) c.index.result (g.K.Sink.written c.args.out.now) (g.K.Sink.written c.index.new.out)) (sym request) c.index.ensures.wrote
+
+pub returns-in-Some-LookGdb-clause-wrote : goal.returns-in-Some-LookGdb-clause-wrote
+returns-in-Some-LookGdb-clause-wrote g c =
+    let words = words_of c.args.words.now in
+    let told = g.F.Shelf.files c.args.shelf.now in
+    let request : request_of words ≡ looked (seen_look c.in-Some-LookGdb.words) = request_is words (LookGdb (seen_look c.in-Some-LookGdb.words)) (ap (λ (x : Command). Some (seen_command x)) (sym c.in-Some-LookGdb.field-0-is) ∙ c.in-Some-LookGdb.ensures.value) in
+    subst (λ (r : Option Request). Wrote (SaysRequest r told) c.look_gdb.result (g.K.Sink.written c.args.out.now) (g.K.Sink.written c.look_gdb.new.out)) (sym request) c.look_gdb.ensures.wrote
+
+pub returns-in-Some-Ask-clause-leaves : goal.returns-in-Some-Ask-clause-leaves
+returns-in-Some-Ask-clause-leaves g c =
+    let words = words_of c.args.words.now in
+    let told = g.F.Shelf.files c.args.shelf.now in
+    let a = seen_ask c.in-Some-Ask.words in
+    let request : request_of words ≡ asked a = request_is words (Ask a) (ap (λ (x : Command). Some (seen_command x)) (sym c.in-Some-Ask.field-0-is) ∙ c.in-Some-Ask.ensures.value) in
+    subst (λ (r : Option Request). Leaves r told (g.F.Shelf.files c.ask.new.shelf) c.ask.result) (sym request)
+    (leaves_same (asked a) told (g.F.Shelf.files c.ask.new.shelf) (asked_stores_nothing a.file (query_of (query_text a.query))) told _ _ _ c.ask.result c.ask.ensures.causes c.ask.ensures.kept)
+
+pub returns-in-Some-LookGdb-clause-leaves : goal.returns-in-Some-LookGdb-clause-leaves
+returns-in-Some-LookGdb-clause-leaves g c =
+    let words = words_of c.args.words.now in
+    let told = g.F.Shelf.files c.args.shelf.now in
+    let l = seen_look c.in-Some-LookGdb.words in
+    let request : request_of words ≡ looked l = request_is words (LookGdb l) (ap (λ (x : Command). Some (seen_command x)) (sym c.in-Some-LookGdb.field-0-is) ∙ c.in-Some-LookGdb.ensures.value) in
+    subst (λ (r : Option Request). Leaves r told (g.F.Shelf.files c.look_gdb.new.shelf) c.look_gdb.result) (sym request)
+    (leaves_same (looked l) told (g.F.Shelf.files c.look_gdb.new.shelf) (looked_stores_nothing l.index (offered_gdb (query_text l.query))) told _ _ _ c.look_gdb.result c.look_gdb.ensures.causes c.look_gdb.ensures.kept)
+
+pub returns-in-Some-LookNames-clause-wrote : goal.returns-in-Some-LookNames-clause-wrote
+returns-in-Some-LookNames-clause-wrote g c =
+    let words = words_of c.args.words.now in
+    let told = g.F.Shelf.files c.args.shelf.now in
+    let l = seen_names c.in-Some-LookNames.words in
+    let request : request_of words ≡ looked_names l = request_is words (LookNames l) (ap (λ (x : Command). Some (seen_command x)) (sym c.in-Some-LookNames.field-0-is) ∙ c.in-Some-LookNames.ensures.value) in
+    subst (λ (r : Option Request). Wrote (SaysRequest r told) c.look_names.result (g.K.Sink.written c.args.out.now) (g.K.Sink.written c.look_names.new.out)) (sym request) c.look_names.ensures.wrote
+
+pub returns-in-Some-LookNames-clause-leaves : goal.returns-in-Some-LookNames-clause-leaves
+returns-in-Some-LookNames-clause-leaves g c =
+    let words = words_of c.args.words.now in
+    let told = g.F.Shelf.files c.args.shelf.now in
+    let l = seen_names c.in-Some-LookNames.words in
+    let request : request_of words ≡ looked_names l = request_is words (LookNames l) (ap (λ (x : Command). Some (seen_command x)) (sym c.in-Some-LookNames.field-0-is) ∙ c.in-Some-LookNames.ensures.value) in
+    subst (λ (r : Option Request). Leaves r told (g.F.Shelf.files c.look_names.new.shelf) c.look_names.result) (sym request)
+    (leaves_same (looked_names l) told (g.F.Shelf.files c.look_names.new.shelf) (names_stores_nothing l.base l.index l.strings (offered_name (query_text l.query))) told _ _ _ c.look_names.result c.look_names.ensures.causes c.look_names.ensures.kept)

@@ -17,3 +17,9 @@ returns-in-NoMemory-clause-ends g c = line_said c.args.status c.say-in-NoMemory.
 
 pub returns-in-FileTooBig-clause-ends : goal.returns-in-FileTooBig-clause-ends
 returns-in-FileTooBig-clause-ends g c = line_said c.args.status c.say-in-FileTooBig.result (g.K.Sink.written c.args.out.now) (g.K.Sink.written c.say-in-FileTooBig.new.out) _ _ (ap line_of c.in-FileTooBig.is) c.say-in-FileTooBig.ensures.said c.say-in-FileTooBig.ensures.either c.say-in-FileTooBig.ensures.fault c.say-in-FileTooBig.ensures.left
+
+pub returns-in-StoreFault-clause-ends : goal.returns-in-StoreFault-clause-ends
+returns-in-StoreFault-clause-ends g c = line_said c.args.status c.say-in-StoreFault.result (g.K.Sink.written c.args.out.now) (g.K.Sink.written c.say-in-StoreFault.new.out) _ _ (ap line_of c.in-StoreFault.is) c.say-in-StoreFault.ensures.said c.say-in-StoreFault.ensures.either c.say-in-StoreFault.ensures.fault c.say-in-StoreFault.ensures.left
+
+pub returns-in-IndexTooLarge-clause-ends : goal.returns-in-IndexTooLarge-clause-ends
+returns-in-IndexTooLarge-clause-ends g c = line_said c.args.status c.say-in-IndexTooLarge.result (g.K.Sink.written c.args.out.now) (g.K.Sink.written c.say-in-IndexTooLarge.new.out) _ _ (ap line_of c.in-IndexTooLarge.is) c.say-in-IndexTooLarge.ensures.said c.say-in-IndexTooLarge.ensures.either c.say-in-IndexTooLarge.ensures.fault c.say-in-IndexTooLarge.ensures.left

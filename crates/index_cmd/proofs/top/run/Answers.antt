@@ -5,8 +5,11 @@ use Rattle.outside.proofs.CountLaws.{rose-then, then-rose}
 use Rattle.index_cmd.specs.Replies.{IsComplete, IsStatus}
 use Rattle.index_cmd.specs.Requests.{Request, request_of}
 use Rattle.index_cmd.specs.SeenWords.{words_of}
-use Rattle.index_cmd.specs.declared.status.Status.TheVariants.{Usage, ReadFault, NoMemory, FileTooBig}
-use Rattle.index_cmd.proofs.Outcomes.{Outcome, outcome, answered, refused, failed, lined, asks, is_status, outside_grammar, complete}
+use Rattle.index_cmd.specs.Stores.{LeavesAtEnd}
+use Rattle.index_cmd.specs.declared.status.Status.TheVariants.{Answered, Usage, ReadFault, StoreFault, WriteFault, NoMemory, IndexTooLarge, FileTooBig}
+use Rattle.index_cmd.proofs.Outcomes.{Outcome, outcome, answered, refused, index_refused, failed, lined, asks, asks_index, is_status, outside_grammar}
+use Rattle.index_cmd.proofs.Leavings.{left_at_end, left_by, kept, untouched}
+use Rattle.index_cmd.proofs.Completeness.{complete}
 use Rattle.index_cmd.proofs.top.run.Given.{Over}
 use Rattle.index_cmd.proofs.top.run.Goals.{After-code}
 use Rattle.index_cmd.proofs.top.run.Goals as goal
@@ -20,6 +23,12 @@ module _ (g : Over) (c : After-code g) where
 
   abbrev reads : Type 0
   reads = Rose (g.F.Shelf.read_faults c.args.shelf.now) (g.F.Shelf.read_faults c.command-status.new.shelf)
+
+  abbrev stores : Type 0
+  stores = Rose (g.F.Shelf.store_faults c.args.shelf.now) (g.F.Shelf.store_faults c.command-status.new.shelf)
+
+  abbrev shelf : Option Files
+  shelf = g.F.Shelf.files c.command-status.new.shelf
 
   abbrev first : ℕ
   first = g.K.Sink.write_faults c.args.out.now
@@ -36,49 +45,84 @@ module _ (g : Over) (c : After-code g) where
   abbrev new : Option (List ℕ)
   new = g.K.Sink.written c.end.new.out
 
-  came : Outcome request told reads (Rose first last) old new c.end.result
-  came = outcome request told reads (Rose first middle) (Rose middle last) (Rose first last)
+  came : Outcome request told reads stores (Rose first last) old new c.end.result
+  came = outcome request told reads stores (Rose first middle) (Rose middle last) (Rose first last)
       (λ r. rose-then first middle last r c.end.ensures.counts) (λ r. then-rose first middle last c.command-status.ensures.counts r)
       c.command-status.result c.end.result old (g.K.Sink.written c.command-status.new.out) new c.command-status.ensures.wrote c.command-status.ensures.causes c.end.ensures.ends
 
+  left : LeavesAtEnd request told shelf c.end.result
+  left = left_at_end request told shelf c.command-status.result c.end.result (g.K.Sink.written c.command-status.new.out) new (Rose middle last) c.end.ensures.ends c.command-status.ensures.leaves
+
 pub returns-clause-answered : goal.returns-clause-answered
-returns-clause-answered g c is = answered (request g c) (told g c) (reads g c) (Rose (first g c) (last g c)) (old g c) (new g c) c.end.result (came g c) (sym c.code.ensures ∙ is)
+returns-clause-answered g c is = answered (request g c) (told g c) (reads g c) (stores g c) (Rose (first g c) (last g c)) (old g c) (new g c) c.end.result (came g c) (sym c.code.ensures ∙ is)
 
 pub returns-clause-refused : goal.returns-clause-refused
-returns-clause-refused g c is = refused (request g c) (told g c) (reads g c) (Rose (first g c) (last g c)) (old g c) (new g c) c.end.result (came g c) (sym c.code.ensures ∙ is)
+returns-clause-refused g c is = refused (request g c) (told g c) (reads g c) (stores g c) (Rose (first g c) (last g c)) (old g c) (new g c) c.end.result (came g c) (sym c.code.ensures ∙ is)
 
 pub returns-clause-usage : goal.returns-clause-usage
-returns-clause-usage g c is = (lined (request g c) (told g c) (reads g c) (Rose (first g c) (last g c)) (old g c) (new g c) c.end.result Usage _ (came g c) (sym c.code.ensures ∙ is) refl).0
+returns-clause-usage g c is = (lined (request g c) (told g c) (reads g c) (stores g c) (Rose (first g c) (last g c)) (old g c) (new g c) c.end.result Usage _ (came g c) (sym c.code.ensures ∙ is) refl).0
 
 pub returns-clause-read_fault : goal.returns-clause-read_fault
-returns-clause-read_fault g c is = asks (request g c) (reads g c) (lined (request g c) (told g c) (reads g c) (Rose (first g c) (last g c)) (old g c) (new g c) c.end.result ReadFault _ (came g c) (sym c.code.ensures ∙ is) refl).0
+returns-clause-read_fault g c is = asks (request g c) (reads g c) (lined (request g c) (told g c) (reads g c) (stores g c) (Rose (first g c) (last g c)) (old g c) (new g c) c.end.result ReadFault _ (came g c) (sym c.code.ensures ∙ is) refl).0
 
 pub returns-clause-write_fault : goal.returns-clause-write_fault
-returns-clause-write_fault g c is = (failed (request g c) (told g c) (reads g c) (Rose (first g c) (last g c)) (old g c) (new g c) c.end.result (came g c) (sym c.code.ensures ∙ is)).0
+returns-clause-write_fault g c is = (failed (request g c) (told g c) (reads g c) (stores g c) (Rose (first g c) (last g c)) (old g c) (new g c) c.end.result (came g c) (sym c.code.ensures ∙ is)).0
 
 pub returns-clause-file_too_big : goal.returns-clause-file_too_big
-returns-clause-file_too_big g c is = (lined (request g c) (told g c) (reads g c) (Rose (first g c) (last g c)) (old g c) (new g c) c.end.result FileTooBig _ (came g c) (sym c.code.ensures ∙ is) refl).0
+returns-clause-file_too_big g c is = (lined (request g c) (told g c) (reads g c) (stores g c) (Rose (first g c) (last g c)) (old g c) (new g c) c.end.result FileTooBig _ (came g c) (sym c.code.ensures ∙ is) refl).0
 
 pub returns-clause-outside_grammar : goal.returns-clause-outside_grammar
-returns-clause-outside_grammar g c none = rw c.code.ensures (outside_grammar (request g c) (told g c) (reads g c) (Rose (first g c) (last g c)) (old g c) (new g c) c.end.result (came g c) none)
+returns-clause-outside_grammar g c none = rw c.code.ensures (outside_grammar (request g c) (told g c) (reads g c) (stores g c) (Rose (first g c) (last g c)) (old g c) (new g c) c.end.result (came g c) none)
 
 pub returns-clause-statuses : goal.returns-clause-statuses
 returns-clause-statuses g c = subst IsStatus (sym c.code.ensures) (is_status c.end.result)
 
 pub returns-clause-complete : goal.returns-clause-complete
-returns-clause-complete g c = subst (λ (n : ℕ). IsComplete (request g c) (told g c) (reads g c) (Rose (first g c) (last g c)) n) (sym c.code.ensures) (complete (request g c) (told g c) (reads g c) (Rose (first g c) (last g c)) (old g c) (new g c) c.end.result (came g c))
+returns-clause-complete g c =
+    subst (λ (n : ℕ). IsComplete (request g c) (told g c) (reads g c) (stores g c) (Rose (first g c) (last g c)) n) (sym c.code.ensures)
+    (complete (request g c) (told g c) (shelf g c) (reads g c) (stores g c) (Rose (first g c) (last g c)) (old g c) (new g c) c.end.result (came g c) (left g c))
 
 pub returns-clause-usage_line : goal.returns-clause-usage_line
-returns-clause-usage_line g c is = (lined (request g c) (told g c) (reads g c) (Rose (first g c) (last g c)) (old g c) (new g c) c.end.result Usage _ (came g c) (sym c.code.ensures ∙ is) refl).1
+returns-clause-usage_line g c is = (lined (request g c) (told g c) (reads g c) (stores g c) (Rose (first g c) (last g c)) (old g c) (new g c) c.end.result Usage _ (came g c) (sym c.code.ensures ∙ is) refl).1
 
 pub returns-clause-read_fault_line : goal.returns-clause-read_fault_line
-returns-clause-read_fault_line g c is = (lined (request g c) (told g c) (reads g c) (Rose (first g c) (last g c)) (old g c) (new g c) c.end.result ReadFault _ (came g c) (sym c.code.ensures ∙ is) refl).1
+returns-clause-read_fault_line g c is = (lined (request g c) (told g c) (reads g c) (stores g c) (Rose (first g c) (last g c)) (old g c) (new g c) c.end.result ReadFault _ (came g c) (sym c.code.ensures ∙ is) refl).1
 
 pub returns-clause-no_memory_line : goal.returns-clause-no_memory_line
-returns-clause-no_memory_line g c is = (lined (request g c) (told g c) (reads g c) (Rose (first g c) (last g c)) (old g c) (new g c) c.end.result NoMemory _ (came g c) (sym c.code.ensures ∙ is) refl).1
+returns-clause-no_memory_line g c is = (lined (request g c) (told g c) (reads g c) (stores g c) (Rose (first g c) (last g c)) (old g c) (new g c) c.end.result NoMemory _ (came g c) (sym c.code.ensures ∙ is) refl).1
 
 pub returns-clause-file_too_big_line : goal.returns-clause-file_too_big_line
-returns-clause-file_too_big_line g c is = (lined (request g c) (told g c) (reads g c) (Rose (first g c) (last g c)) (old g c) (new g c) c.end.result FileTooBig _ (came g c) (sym c.code.ensures ∙ is) refl).1
+returns-clause-file_too_big_line g c is = (lined (request g c) (told g c) (reads g c) (stores g c) (Rose (first g c) (last g c)) (old g c) (new g c) c.end.result FileTooBig _ (came g c) (sym c.code.ensures ∙ is) refl).1
 
 pub returns-clause-prefix : goal.returns-clause-prefix
-returns-clause-prefix g c is = (failed (request g c) (told g c) (reads g c) (Rose (first g c) (last g c)) (old g c) (new g c) c.end.result (came g c) (sym c.code.ensures ∙ is)).1
+returns-clause-prefix g c is = (failed (request g c) (told g c) (reads g c) (stores g c) (Rose (first g c) (last g c)) (old g c) (new g c) c.end.result (came g c) (sym c.code.ensures ∙ is)).1
+
+pub returns-clause-store_fault : goal.returns-clause-store_fault
+returns-clause-store_fault g c is = asks_index (request g c) (stores g c) (lined (request g c) (told g c) (reads g c) (stores g c) (Rose (first g c) (last g c)) (old g c) (new g c) c.end.result StoreFault _ (came g c) (sym c.code.ensures ∙ is) refl).0
+
+pub returns-clause-store_fault_line : goal.returns-clause-store_fault_line
+returns-clause-store_fault_line g c is = (lined (request g c) (told g c) (reads g c) (stores g c) (Rose (first g c) (last g c)) (old g c) (new g c) c.end.result StoreFault _ (came g c) (sym c.code.ensures ∙ is) refl).1
+
+pub returns-clause-index_refused : goal.returns-clause-index_refused
+returns-clause-index_refused g c is = index_refused (request g c) (told g c) (reads g c) (stores g c) (Rose (first g c) (last g c)) (old g c) (new g c) c.end.result (came g c) (sym c.code.ensures ∙ is)
+
+pub returns-clause-index_too_large : goal.returns-clause-index_too_large
+returns-clause-index_too_large g c is = (lined (request g c) (told g c) (reads g c) (stores g c) (Rose (first g c) (last g c)) (old g c) (new g c) c.end.result IndexTooLarge _ (came g c) (sym c.code.ensures ∙ is) refl).0
+
+pub returns-clause-index_too_large_line : goal.returns-clause-index_too_large_line
+returns-clause-index_too_large_line g c is = (lined (request g c) (told g c) (reads g c) (stores g c) (Rose (first g c) (last g c)) (old g c) (new g c) c.end.result IndexTooLarge _ (came g c) (sym c.code.ensures ∙ is) refl).1
+
+pub returns-clause-stored : goal.returns-clause-stored
+returns-clause-stored g c is = left_by (request g c) (told g c) (shelf g c) c.end.result Answered (sym c.code.ensures ∙ is) (left g c)
+
+pub returns-clause-part_stored : goal.returns-clause-part_stored
+returns-clause-part_stored g c is = left_by (request g c) (told g c) (shelf g c) c.end.result StoreFault (sym c.code.ensures ∙ is) (left g c)
+
+pub returns-clause-cut : goal.returns-clause-cut
+returns-clause-cut g c is = left_by (request g c) (told g c) (shelf g c) c.end.result WriteFault (sym c.code.ensures ∙ is) (left g c)
+
+pub returns-clause-kept : goal.returns-clause-kept
+returns-clause-kept g c nothing = kept (request g c) (told g c) (shelf g c) nothing c.end.result (left g c)
+
+pub returns-clause-untouched : goal.returns-clause-untouched
+returns-clause-untouched g c a b d = untouched (request g c) (told g c) (shelf g c) c.end.result (λ e. a (c.code.ensures ∙ e)) (λ e. b (c.code.ensures ∙ e)) (λ e. d (c.code.ensures ∙ e)) (left g c)

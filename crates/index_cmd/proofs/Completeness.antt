@@ -1,0 +1,227 @@
+-- Where nothing failed, a command comes to what was asked, or to want of memory.
+use Rattle.std.proofs.Common.{◌≡◌, ◌⊎◌, inl, inr, ℕ, ◌<◌, ◌≤◌, List, Option, Some, None, Result, Ok, Err, refl, sym, ap, subst, ◌∙◌, arith}
+use Rattle.std.specs.Prelude.{length}
+use Rattle.ix_base.specs.declared.fault.Fault.{Fault}
+use Rattle.ix_base.specs.declared.limits.TheConstants.{MAX_FILE_BYTES}
+use Rattle.index_model.specs.declared.job.CacheKind.{CacheKind}
+use Rattle.index_model.specs.Cache.{Cache, GdbBytes, NameBytes, DoesNotFit, cache_in}
+use Rattle.index_model.specs.Faults.{Built, first_fault, built_of}
+use Rattle.index_model.specs.GdbIndexRead.{GdbIndex, gdb_index}
+use Rattle.index_model.specs.NameIndexRead.{NameIndex, name_index}
+use Rattle.index_model.specs.Queries.{Query}
+use Rattle.index_model.proofs.Meanings.{same_ok}
+use Rattle.outside.specs.Files.{Files}
+use Rattle.index_cmd.specs.Requests.{Request, TheHelp, TheVersion, OfFile, OfIndex, OfGdb, OfNames, AsksFile, AsksProgram, AsksIndex}
+use Rattle.index_cmd.specs.Replies.{Causes, IsComplete, IsIndexRefusal, IsMeant, IsIndexMeant, IsLookMeant, IsNamesMeant, line_of}
+use Rattle.index_cmd.specs.Statuses.{status_code}
+use Rattle.index_cmd.specs.Stores.{Keeps, LeavesAtEnd}
+use Rattle.index_cmd.specs.declared.status.Status.{Status}
+use Rattle.index_cmd.specs.declared.status.Status.TheVariants.{Answered, Refused, Usage, ReadFault, StoreFault, WriteFault, NoMemory, IndexRefused, IndexTooLarge, FileTooBig}
+use Rattle.index_cmd.proofs.Outcomes.{Outcome, answers, refuses, index_refuses, lines, fails, no_request, same_bytes, accepted_built, none_some}
+
+-- ---- the program's own texts
+
+module _ (told : Option Files) (reads stores writes : Type 0) (old new : Option (List ℕ)) where
+  own_text : (request : Request) → ((P : List ℕ → Type 0) → AsksFile (Some request) P → ⊥) → ((P : List ℕ → Type 0) → AsksProgram (Some request) P → ⊥) → ((P : CacheKind → List ℕ → List ℕ → Type 0) → AsksIndex (Some request) P → ⊥) → ((text : List ℕ) → IsIndexRefusal (Some request) told text → ⊥) → (writes → ⊥) → (status : Status) → Outcome (Some request) told reads stores writes old new status → (status_code status ≡ 0) ⊎ (status_code status ≡ 7)
+  own_text request file program index look none status (answers w) = inl refl
+  own_text request file program index look none status (refuses w) = absurd (program _ w.1)
+  own_text request file program index look none status (index_refuses w) = absurd (look _ w.1)
+  own_text request file program index look none status (fails f p) = absurd (none f)
+  own_text request file program index look none Usage (lines text is c a) = absurd (cc c)
+  own_text request file program index look none ReadFault (lines text is c a) = absurd (file _ c)
+  own_text request file program index look none StoreFault (lines text is c a) = absurd (index _ c)
+  own_text request file program index look none NoMemory (lines text is c a) = inr refl
+  own_text request file program index look none IndexTooLarge (lines text is c a) = absurd (index _ c)
+  own_text request file program index look none FileTooBig (lines text is c a) = absurd (file _ c)
+  own_text request file program index look none Answered (lines text is c a) = absurd (cc is)
+  own_text request file program index look none Refused (lines text is c a) = absurd (cc is)
+  own_text request file program index look none IndexRefused (lines text is c a) = absurd (cc is)
+  own_text request file program index look none WriteFault (lines text is c a) = absurd (cc is)
+
+  nothing_asked : (status : Status) → Outcome None told reads stores writes old new status → (writes → ⊥) → (status_code status ≡ 2) ⊎ (status_code status ≡ 7)
+  nothing_asked status o none = by (no_request told reads stores writes old new status o)
+    where
+      by : (status ≡ Usage) ⊎ ((status ≡ WriteFault) × writes) ⊎ (status ≡ NoMemory) → (status_code status ≡ 2) ⊎ (status_code status ≡ 7)
+      by (inl e) = inl (ap status_code e)
+      by (inr (inl e)) = absurd (none e.1)
+      by (inr (inr e)) = inr (ap status_code e)
+
+-- ---- files
+
+-- the file is no larger than its limit
+fits : (held : Option (List ℕ)) (bytes : List ℕ) → held ≡ Some bytes → length bytes ≤ MAX_FILE_BYTES → (all : List ℕ) × (held ≡ Some all) × (MAX_FILE_BYTES < length all) → ⊥
+fits held bytes holds small c = let same = same_bytes held c.0 bytes c.1 holds in omega (arith, c.2, small, ap length same)
+
+module _ (files : Files) (reads stores writes : Type 0) (old new : Option (List ℕ)) (file bytes : List ℕ) (holds : files file ≡ Some bytes) (small : length bytes ≤ MAX_FILE_BYTES) (no_read : reads → ⊥) (no_write : writes → ⊥) where
+  -- ---- ask
+
+  module _ (q : Query) where
+    abbrev asked : Option Request
+    asked = Some (OfFile file q)
+
+    -- the line of a status can be that of want of memory alone
+    only_memory : (status : Status) (text : List ℕ) → line_of status ≡ Some text → Causes asked (Some files) reads stores writes status → status_code status ≡ 7
+    only_memory NoMemory text is c = refl
+    only_memory Usage text is c = absurd (cc c)
+    only_memory ReadFault text is c = absurd (no_read c)
+    only_memory StoreFault text is c = absurd c
+    only_memory IndexTooLarge text is c = absurd c
+    only_memory FileTooBig text is c = absurd (fits (files file) bytes holds small c)
+    only_memory Answered text is c = absurd (cc is)
+    only_memory Refused text is c = absurd (cc is)
+    only_memory IndexRefused text is c = absurd (cc is)
+    only_memory WriteFault text is c = absurd (cc is)
+
+    meant : (status : Status) → Outcome asked (Some files) reads stores writes old new status → IsMeant bytes (status_code status)
+    meant status (answers w) = record {
+      answered = λ _. inl refl;
+      refused = λ f first. let same = same_bytes (files file) w.1.0 bytes w.1.1 holds in absurd (none_some f (sym (accepted_built w.1.0 w.1.2.built w.1.2.accepted) ∙ ap first_fault same ∙ first));
+    }
+    meant status (refuses w) = record {
+      answered = λ accepted. let same = same_bytes (files file) w.1.0 bytes w.1.1 holds in absurd (none_some w.1.2.fault (sym accepted ∙ ap first_fault (sym same) ∙ w.1.2.first));
+      refused = λ f first. inl refl;
+    }
+    meant status (index_refuses w) = absurd w.1
+    meant status (lines text is c a) = record { answered = λ _. inr (only_memory status text is c); refused = λ f first. inr (only_memory status text is c) }
+    meant status (fails f p) = absurd (no_write f)
+
+  -- ---- look
+
+  module _ (q : Query) where
+    abbrev looked : Option Request
+    looked = Some (OfGdb file q)
+
+    only_memory_looks : (status : Status) (text : List ℕ) → line_of status ≡ Some text → Causes looked (Some files) reads stores writes status → status_code status ≡ 7
+    only_memory_looks NoMemory text is c = refl
+    only_memory_looks Usage text is c = absurd (cc c)
+    only_memory_looks ReadFault text is c = absurd (no_read c)
+    only_memory_looks StoreFault text is c = absurd c
+    only_memory_looks IndexTooLarge text is c = absurd c
+    only_memory_looks FileTooBig text is c = absurd (fits (files file) bytes holds small c)
+    only_memory_looks Answered text is c = absurd (cc is)
+    only_memory_looks Refused text is c = absurd (cc is)
+    only_memory_looks IndexRefused text is c = absurd (cc is)
+    only_memory_looks WriteFault text is c = absurd (cc is)
+
+    both : (index : GdbIndex) (f : Fault) → gdb_index bytes ≡ Ok index → gdb_index bytes ≡ Err f → ⊥
+    both index f a b = let e : Ok index ≡ Err f = sym a ∙ b in cc e
+
+    look_meant : (status : Status) → Outcome looked (Some files) reads stores writes old new status → IsLookMeant bytes (status_code status)
+    look_meant status (answers w) = record {
+      answered = λ index is. inl refl;
+      refused = λ f is. let same = same_bytes (files file) w.1.0 bytes w.1.1 holds in absurd (both w.1.2.index f (ap gdb_index (sym same) ∙ w.1.2.accepted) is);
+    }
+    look_meant status (index_refuses w) = record {
+      answered = λ index is. let same = same_bytes (files file) w.1.0 bytes w.1.1 holds in absurd (both index w.1.2.fault is (ap gdb_index (sym same) ∙ w.1.2.first));
+      refused = λ f is. inl refl;
+    }
+    look_meant status (refuses w) = absurd w.1
+    look_meant status (lines text is c a) = record { answered = λ index e. inr (only_memory_looks status text is c); refused = λ f e. inr (only_memory_looks status text is c) }
+    look_meant status (fails f p) = absurd (no_write f)
+
+  -- ---- index
+
+  module _ (kind : CacheKind) (out : List ℕ) (no_store : stores → ⊥) (shelf : Option Files) where
+    abbrev stored : Option Request
+    stored = Some (OfIndex kind file out)
+
+    one_built : (a b : Built) (own : List ℕ) → files file ≡ Some own → built_of own ≡ Ok a → built_of bytes ≡ Ok b → a ≡ b
+    one_built a b own at x y = same_ok a b (sym x ∙ ap built_of (same_bytes (files file) own bytes at holds) ∙ y)
+
+    no_fault : (a : Built) (own : List ℕ) (f : Fault) → files file ≡ Some own → built_of own ≡ Ok a → first_fault bytes ≡ Some f → ⊥
+    no_fault a own f at x first = none_some f (sym (accepted_built own a x) ∙ ap first_fault (same_bytes (files file) own bytes at holds) ∙ first)
+
+    -- an index that is stored fits
+    kept_fits : (c : Cache) → Keeps (Some files) shelf out c → c ≡ DoesNotFit → ⊥
+    kept_fits (GdbBytes xs) k e = cc e
+    kept_fits (NameBytes xs ys) k e = cc e
+    kept_fits DoesNotFit k e = k
+
+    by_line : (status : Status) (text : List ℕ) → line_of status ≡ Some text → Causes stored (Some files) reads stores writes status → IsIndexMeant bytes kind (status_code status)
+    by_line NoMemory text is c = record { stored = λ b e fit. inr refl; too_large = λ b e large. inr refl; refused = λ f first. inr refl }
+    by_line IndexTooLarge text is c = record {
+      stored = λ b e fit. absurd (fit (ap (cache_in kind) (sym (one_built c.2.built b c.0 c.1 c.2.accepted e)) ∙ c.2.holds));
+      too_large = λ b e large. inl refl;
+      refused = λ f first. absurd (no_fault c.2.built c.0 f c.1 c.2.accepted first);
+    }
+    by_line Usage text is c = absurd (cc c)
+    by_line ReadFault text is c = absurd (no_read c)
+    by_line StoreFault text is c = absurd (no_store c)
+    by_line FileTooBig text is c = absurd (fits (files file) bytes holds small c)
+    by_line Answered text is c = absurd (cc is)
+    by_line Refused text is c = absurd (cc is)
+    by_line IndexRefused text is c = absurd (cc is)
+    by_line WriteFault text is c = absurd (cc is)
+
+    index_meant : (status : Status) → Outcome stored (Some files) reads stores writes old new status → LeavesAtEnd stored (Some files) shelf status → IsIndexMeant bytes kind (status_code status)
+    index_meant status (answers w) left = record {
+      stored = λ b e fit. inl refl;
+      too_large = λ b e large. absurd (kept_fits (cache_in kind left.2.built) left.2.holds (ap (cache_in kind) (one_built left.2.built b left.0 left.1 left.2.accepted e) ∙ large));
+      refused = λ f first. absurd (no_fault left.2.built left.0 f left.1 left.2.accepted first);
+    }
+    index_meant status (refuses w) left =
+        let none : (b : Built) → built_of bytes ≡ Ok b → ⊥ = λ b e. no_fault b bytes w.1.2.fault holds e (ap first_fault (sym (same_bytes (files file) w.1.0 bytes w.1.1 holds)) ∙ w.1.2.first) in
+        record { stored = λ b e fit. absurd (none b e); too_large = λ b e large. absurd (none b e); refused = λ f first. inl refl }
+    index_meant status (index_refuses w) left = absurd w.1
+    index_meant status (lines text is c a) left = by_line status text is c
+    index_meant status (fails f p) left = absurd (no_write f)
+
+-- ---- look, in an index and its strings
+
+module _ (files : Files) (reads stores writes : Type 0) (old new : Option (List ℕ)) (index strings bytes held : List ℕ) (has_index : files index ≡ Some bytes) (small_index : length bytes ≤ MAX_FILE_BYTES) (has_strings : files strings ≡ Some held) (small_strings : length held ≤ MAX_FILE_BYTES) (no_read : reads → ⊥) (no_write : writes → ⊥) (base : ℕ) (name : List ℕ) where
+  abbrev names : Option Request
+  names = Some (OfNames base index strings name)
+
+  no_read_of_both : reads ⊎ reads → ⊥
+  no_read_of_both (inl h) = no_read h
+  no_read_of_both (inr h) = no_read h
+
+  both_fit : ((all : List ℕ) × (files index ≡ Some all) × (MAX_FILE_BYTES < length all)) ⊎ ((all : List ℕ) × (files strings ≡ Some all) × (MAX_FILE_BYTES < length all)) → ⊥
+  both_fit (inl h) = fits (files index) bytes has_index small_index h
+  both_fit (inr h) = fits (files strings) held has_strings small_strings h
+
+  only_memory_names : (status : Status) (text : List ℕ) → line_of status ≡ Some text → Causes names (Some files) reads stores writes status → status_code status ≡ 7
+  only_memory_names NoMemory text is c = refl
+  only_memory_names Usage text is c = absurd (cc c)
+  only_memory_names ReadFault text is c = absurd (no_read_of_both c)
+  only_memory_names StoreFault text is c = absurd c
+  only_memory_names IndexTooLarge text is c = absurd c
+  only_memory_names FileTooBig text is c = absurd (both_fit c)
+  only_memory_names Answered text is c = absurd (cc is)
+  only_memory_names Refused text is c = absurd (cc is)
+  only_memory_names IndexRefused text is c = absurd (cc is)
+  only_memory_names WriteFault text is c = absurd (cc is)
+
+  not_both : (read : NameIndex) (f : Fault) → name_index bytes held base ≡ Ok read → name_index bytes held base ≡ Err f → ⊥
+  not_both read f a b = let e : Ok read ≡ Err f = sym a ∙ b in cc e
+
+  -- what these files hold, whatever bytes they are known by
+  own_bytes : (a b : List ℕ) → files index ≡ Some a → files strings ≡ Some b → name_index bytes held base ≡ name_index a b base
+  own_bytes a b x y = ap (λ (l : List ℕ). name_index l held base) (same_bytes (files index) bytes a has_index x) ∙ ap (λ (l : List ℕ). name_index a l base) (same_bytes (files strings) held b has_strings y)
+
+  names_meant : (status : Status) → Outcome names (Some files) reads stores writes old new status → IsNamesMeant bytes held base (status_code status)
+  names_meant status (answers w) = record {
+    answered = λ read is. inl refl;
+    refused = λ f is. absurd (not_both w.1.2.2.index f (own_bytes w.1.0 w.1.2.0 w.1.1 w.1.2.1 ∙ w.1.2.2.accepted) is);
+  }
+  names_meant status (index_refuses w) = record {
+    answered = λ read is. absurd (not_both read w.1.2.2.fault is (own_bytes w.1.0 w.1.2.0 w.1.1 w.1.2.1 ∙ w.1.2.2.first));
+    refused = λ f is. inl refl;
+  }
+  names_meant status (refuses w) = absurd w.1
+  names_meant status (lines text is c a) = record { answered = λ read e. inr (only_memory_names status text is c); refused = λ f e. inr (only_memory_names status text is c) }
+  names_meant status (fails f p) = absurd (no_write f)
+
+pub complete : (request : Option Request) (told shelf : Option Files) (reads stores writes : Type 0) (old new : Option (List ℕ)) (status : Status) → Outcome request told reads stores writes old new status → LeavesAtEnd request told shelf status →
+    IsComplete request told reads stores writes (status_code status)
+complete None told shelf reads stores writes old new status o left = nothing_asked told reads stores writes old new status o
+complete (Some TheHelp) told shelf reads stores writes old new status o left = λ none. own_text told reads stores writes old new TheHelp (λ P h. h) (λ P h. h) (λ P h. h) (λ text h. h) none status o
+complete (Some TheVersion) told shelf reads stores writes old new status o left = λ none. own_text told reads stores writes old new TheVersion (λ P h. h) (λ P h. h) (λ P h. h) (λ text h. h) none status o
+complete (Some (OfFile file q)) None shelf reads stores writes old new status o left = tt
+complete (Some (OfFile file q)) (Some files) shelf reads stores writes old new status o left = λ bytes holds small no_read no_write. meant files reads stores writes old new file bytes holds small no_read no_write q status o
+complete (Some (OfIndex kind file out)) None shelf reads stores writes old new status o left = tt
+complete (Some (OfIndex kind file out)) (Some files) shelf reads stores writes old new status o left = λ bytes holds small no_read no_write no_store. index_meant files reads stores writes old new file bytes holds small no_read no_write kind out no_store shelf status o left
+complete (Some (OfGdb index q)) None shelf reads stores writes old new status o left = tt
+complete (Some (OfGdb index q)) (Some files) shelf reads stores writes old new status o left = λ bytes holds small no_read no_write. look_meant files reads stores writes old new index bytes holds small no_read no_write q status o
+complete (Some (OfNames base index strings name)) None shelf reads stores writes old new status o left = tt
+complete (Some (OfNames base index strings name)) (Some files) shelf reads stores writes old new status o left = λ bytes has_index small_index no_read no_write held has_strings small_strings again_no_read again_no_write. names_meant files reads stores writes old new index strings bytes held has_index small_index has_strings small_strings no_read no_write base name status o

@@ -1,0 +1,139 @@
+-- What the shelf holds, once a status's line is written.
+use Rattle.std.proofs.Common.{◌≡◌, ◌⊎◌, inl, inr, ℕ, List, Option, Some, None, refl, sym, ap, subst}
+use Rattle.std.specs.Prelude.{option_map}
+use Rattle.index_model.specs.Queries.{Query}
+use Rattle.outside.specs.Files.{Files, SameFiles}
+use Rattle.index_cmd.specs.Requests.{Request, TheHelp, TheVersion, OfFile, OfIndex, OfGdb, OfNames, AsksIndex, StoresNothing}
+use Rattle.index_cmd.specs.Replies.{Causes, Ends, without_line, with_line, cut, line_of}
+use Rattle.index_cmd.specs.Statuses.{status_code}
+use Rattle.index_cmd.specs.Stores.{IsStored, IsPartStored, Leaves, LeavesAtEnd}
+use Rattle.index_cmd.specs.declared.status.Status.{Status}
+use Rattle.index_cmd.specs.declared.status.Status.TheVariants.{Answered, Refused, Usage, ReadFault, StoreFault, WriteFault, NoMemory, IndexRefused, IndexTooLarge, FileTooBig}
+use Rattle.index_cmd.proofs.Outcomes.{one_status}
+
+-- ---- a command that stores nothing
+
+pub asked_stores_nothing : (file : List ℕ) (q : Option Query) → StoresNothing (option_map (OfFile file) q)
+asked_stores_nothing file None = tt
+asked_stores_nothing file (Some q) = tt
+
+pub looked_stores_nothing : (index : List ℕ) (q : Option Query) → StoresNothing (option_map (OfGdb index) q)
+looked_stores_nothing index None = tt
+looked_stores_nothing index (Some q) = tt
+
+pub names_stores_nothing : (base : ℕ) (index strings : List ℕ) (name : Option (List ℕ)) → StoresNothing (option_map (OfNames base index strings) name)
+names_stores_nothing base index strings None = tt
+names_stores_nothing base index strings (Some name) = tt
+
+stored_same : (request : Option Request) (old new : Option Files) → StoresNothing request → IsStored request old new → SameFiles old new
+stored_same None old new n h = h
+stored_same (Some TheHelp) old new n h = h
+stored_same (Some TheVersion) old new n h = h
+stored_same (Some (OfFile file q)) old new n h = h
+stored_same (Some (OfGdb index q)) old new n h = h
+stored_same (Some (OfNames base index strings name)) old new n h = h
+stored_same (Some (OfIndex kind file out)) old new n h = absurd n
+
+same_stored : (request : Option Request) (old new : Option Files) → StoresNothing request → SameFiles old new → IsStored request old new
+same_stored None old new n h = h
+same_stored (Some TheHelp) old new n h = h
+same_stored (Some TheVersion) old new n h = h
+same_stored (Some (OfFile file q)) old new n h = h
+same_stored (Some (OfGdb index q)) old new n h = h
+same_stored (Some (OfNames base index strings name)) old new n h = h
+same_stored (Some (OfIndex kind file out)) old new n h = absurd n
+
+no_part : (request : Option Request) (old new : Option Files) → StoresNothing request → IsPartStored request old new → ⊥
+no_part None old new n h = h
+no_part (Some TheHelp) old new n h = h
+no_part (Some TheVersion) old new n h = h
+no_part (Some (OfFile file q)) old new n h = h
+no_part (Some (OfGdb index q)) old new n h = h
+no_part (Some (OfNames base index strings name)) old new n h = h
+no_part (Some (OfIndex kind file out)) old new n h = n
+
+no_index : (request : Option Request) (P : Type 0) → StoresNothing request → AsksIndex request (λ _ _ _. P) → ⊥
+no_index None P n h = h
+no_index (Some TheHelp) P n h = h
+no_index (Some TheVersion) P n h = h
+no_index (Some (OfFile file q)) P n h = h
+no_index (Some (OfGdb index q)) P n h = h
+no_index (Some (OfNames base index strings name)) P n h = h
+no_index (Some (OfIndex kind file out)) P n h = n
+
+module _ (request : Option Request) (old new : Option Files) (n : StoresNothing request) where
+  -- it leaves what was there
+  pub leaves_same : (told : Option Files) (reads stores writes : Type 0) (status : Status) → Causes request told reads stores writes status → SameFiles old new → Leaves request old new status
+  leaves_same told reads stores writes Answered c same = same_stored request old new n same
+  leaves_same told reads stores writes StoreFault c same = absurd (no_index request stores n c)
+  leaves_same told reads stores writes Refused c same = same
+  leaves_same told reads stores writes Usage c same = same
+  leaves_same told reads stores writes ReadFault c same = same
+  leaves_same told reads stores writes WriteFault c same = same
+  leaves_same told reads stores writes NoMemory c same = same
+  leaves_same told reads stores writes IndexRefused c same = same
+  leaves_same told reads stores writes IndexTooLarge c same = same
+  leaves_same told reads stores writes FileTooBig c same = same
+
+  pub kept : (status : Status) → LeavesAtEnd request old new status → SameFiles old new
+  kept Answered h = stored_same request old new n h
+  kept StoreFault h = absurd (no_part request old new n h)
+  kept WriteFault (inl h) = h
+  kept WriteFault (inr h) = absurd (no_part request old new n h)
+  kept Refused h = h
+  kept Usage h = h
+  kept ReadFault h = h
+  kept NoMemory h = h
+  kept IndexRefused h = h
+  kept IndexTooLarge h = h
+  kept FileTooBig h = h
+
+-- ---- any command
+
+module _ (request : Option Request) (old new : Option Files) where
+  as_left : (status : Status) → Leaves request old new status → LeavesAtEnd request old new status
+  as_left WriteFault h = inl h
+  as_left Answered h = h
+  as_left StoreFault h = h
+  as_left Refused h = h
+  as_left Usage h = h
+  as_left ReadFault h = h
+  as_left NoMemory h = h
+  as_left IndexRefused h = h
+  as_left IndexTooLarge h = h
+  as_left FileTooBig h = h
+
+  -- the line wasn't written whole
+  cut_left : (status : Status) (text : List ℕ) → line_of status ≡ Some text → Leaves request old new status → SameFiles old new ⊎ IsPartStored request old new
+  cut_left StoreFault text has h = inr h
+  cut_left Usage text has h = inl h
+  cut_left ReadFault text has h = inl h
+  cut_left NoMemory text has h = inl h
+  cut_left IndexTooLarge text has h = inl h
+  cut_left FileTooBig text has h = inl h
+  cut_left Answered text has h = absurd (cc has)
+  cut_left Refused text has h = absurd (cc has)
+  cut_left IndexRefused text has h = absurd (cc has)
+  cut_left WriteFault text has h = absurd (cc has)
+
+  pub left_at_end : (status result : Status) (written_old written_new : Option (List ℕ)) (failed : Type 0) → Ends status written_old written_new failed result → Leaves request old new status → LeavesAtEnd request old new result
+  left_at_end status result a b failed (without_line none same) h = as_left status h
+  left_at_end status result a b failed (with_line text has all) h = as_left status h
+  left_at_end status result a b failed (cut text has f part) h = cut_left status text has h
+
+  -- by the number of a status
+  pub left_by : (status other : Status) → status_code status ≡ status_code other → LeavesAtEnd request old new status → LeavesAtEnd request old new other
+  left_by status other e h = subst (LeavesAtEnd request old new) (one_status status other e) h
+
+  -- where the index isn't stored and no store and no write failed, all is as before
+  pub untouched : (status : Status) → (status_code status ≡ 0 → ⊥) → (status_code status ≡ 4 → ⊥) → (status_code status ≡ 5 → ⊥) → LeavesAtEnd request old new status → SameFiles old new
+  untouched Answered a b c h = absurd (a refl)
+  untouched StoreFault a b c h = absurd (b refl)
+  untouched WriteFault a b c h = absurd (c refl)
+  untouched Refused a b c h = h
+  untouched Usage a b c h = h
+  untouched ReadFault a b c h = h
+  untouched NoMemory a b c h = h
+  untouched IndexRefused a b c h = h
+  untouched IndexTooLarge a b c h = h
+  untouched FileTooBig a b c h = h
