@@ -48,17 +48,5 @@ def tables():
             + gen_tables.table('HITS', 'An index, its strings and their base, a name, and its entries: sort, unit, offset and tag.', "Case<'_>", hits)}
 
 
-def main():
-    for name, made in tables().items():
-        path, text = os.path.join(FOLDER, name), WRITTEN + made
-        if '--check' in sys.argv[1:]:
-            if not os.path.isfile(path) or gen_tables.squeezed(gen_vectors.read(path).decode()) != gen_tables.squeezed(text):
-                sys.exit('%s is not what would be written' % path)
-        else:
-            os.makedirs(FOLDER, exist_ok=True)
-            with open(path, 'w') as out:
-                out.write(text)
-
-
 if __name__ == '__main__':
-    main()
+    sys.exit(gen_tables.written(FOLDER, {name: WRITTEN + made for name, made in tables().items()}))

@@ -335,20 +335,21 @@ FILES = {
 }
 
 
-def main():
+def written(folder, texts):
+    """Writes the texts to the folder, by the names of their files; with --check it says which of them aren't there as they would be
+    written, and gives 1 where one isn't."""
     stale = 0
-    for name, make in FILES.items():
-        path = os.path.join(CRATES, name)
-        text = WRITTEN + '\n\n' + make()
+    for name, text in texts.items():
+        path = os.path.join(folder, name)
         if '--check' in sys.argv[1:]:
             if not os.path.isfile(path) or squeezed(gen_vectors.read(path).decode()) != squeezed(text):
-                print('%s is not what would be written' % name)
+                print('%s is not what would be written' % path)
                 stale = 1
         else:
             os.makedirs(os.path.dirname(path), exist_ok=True)
             with open(path, 'w') as out:
                 out.write(text)
-    sys.exit(stale)
+    return stale
 
 
 def squeezed(text):
@@ -357,4 +358,4 @@ def squeezed(text):
 
 
 if __name__ == '__main__':
-    main()
+    sys.exit(written(CRATES, {name: WRITTEN + '\n\n' + make() for name, make in FILES.items()}))
