@@ -44,7 +44,7 @@ def tables():
             faults.append(case + ['(%s, 0x%s)' % found.groups()])
         else:
             hits.append(case + [gen_tables.wrapped(rest[0].encode(), 8), '&[%s]' % ', '.join(map(hit, told[1:]))])
-    return {'fault_rows.rt': gen_tables.table('FAULTS', 'An index, its strings and their base, and its first fault.', '(&str, &[u8], &[u8], u32, (u8, u64))', faults), 'rows.rt': 'use super::Case;\nuse crate::Sort;\n\n'
+    return {'fault_rows.rt': gen_tables.table('FAULTS', 'An index, its strings and their base, and its first fault.', '(&str, &[u8], &[u8], u64, (u8, u64))', faults), 'rows.rt': 'use super::Case;\nuse crate::Sort;\n\n'
             + gen_tables.table('HITS', 'An index, its strings and their base, a name, and its entries: sort, unit, offset and tag.', "Case<'_>", hits)}
 
 

@@ -42,7 +42,7 @@ impl<'a> NameIndex<'a> {
     /// with the abbreviations before its own. On an index that a writer made this is near linear in its length. At worst each
     /// name costs as much as all strings and all of the pool, where the names are ends of one text or begin their entries
     /// inside one list; names one after the other that share one list cost its reading once.
-    pub fn open(names: &'a [u8], strings: &'a [u8], base: u32) -> Result<NameIndex<'a>, Fault>
+    pub fn open(names: &'a [u8], strings: &'a [u8], base: u64) -> Result<NameIndex<'a>, Fault>
         ensures { GivesAlways (λ i. i) result (name_index names.now strings.now base) }
     {
         let tables = Tables::open(names)?;

@@ -22,7 +22,7 @@ pub(crate) struct Names<'a> {
     pub tables: Tables<'a>,
     /// The string section from `base` on.
     pub strings: &'a [u8],
-    pub base: u32,
+    pub base: u64,
 }
 
 impl<'a> Names<'a> {
@@ -76,11 +76,10 @@ impl<'a> Names<'a> {
         ensures { option_map (λ s. s.now) result ≡ string_at (tables_of self.now) self.now.strings.now self.now.base number }
     {
         let offset = self.tables.strings.get(number);
-        let base = u64::from(self.base);
-        if offset < base {
+        if offset < self.base {
             return None;
         }
-        text_at(self.strings, offset - base)
+        text_at(self.strings, offset - self.base)
     }
 
     // Where there are buckets, whether a name has its hash and stands in its bucket.

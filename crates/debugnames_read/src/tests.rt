@@ -16,7 +16,7 @@ type Case<'a> = (
     &'a str,
     &'a [u8],
     &'a [u8],
-    u32,
+    u64,
     &'a [u8],
     &'a [(Sort, u32, u64, u64)],
 );
@@ -49,7 +49,7 @@ fn facts(
     alloc: Global,
     index: &[u8],
     strings: &[u8],
-    base: u32,
+    base: u64,
     name: &[u8],
 ) -> Result<Vec<(Sort, u32, u64, u64)>, Fail> {
     let index = NameIndex::open(index, strings, base).map_err(|_| "refused")?;

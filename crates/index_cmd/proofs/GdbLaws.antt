@@ -10,7 +10,7 @@ use Rattle.index_model.proofs.Meanings.{same_some}
 use Rattle.outside.specs.declared.shelf.Failed.{Failed}
 use Rattle.outside.specs.Files.{Files}
 use Rattle.outside.specs.Written.{Appends, AppendsPrefix}
-use Rattle.query_text.specs.Looks.{text_of_index_fault}
+use Rattle.index_model.specs.LookTexts.{text_of_index_fault}
 use Rattle.index_cmd.specs.FilesRead.{Holds}
 use Rattle.index_cmd.specs.GdbLooks.{gdb_text}
 use Rattle.index_cmd.specs.Requests.{Request, OfGdb, looked, offer_gdb, offered_gdb}

@@ -5,7 +5,7 @@ use Rattle.index_model.specs.Answers.{InUnit, MainIs}
 use Rattle.index_model.specs.GdbIndexRead.{GdbIndex, gdb_index, gdb_index_hits, number_at, main_name}
 use Rattle.index_model.specs.Queries.{Query, AskName, AskSimple, AskAddress, AskMain, AskCache}
 use Rattle.index_model.specs.Texts.{text_of_answer}
-use Rattle.query_text.specs.Looks.{text_of_elements, text_of_index_fault}
+use Rattle.index_model.specs.LookTexts.{text_of_elements, text_of_index_fault}
 
 -- the text of the answer of an index, to a query of a name, an address or main
 abbrev pub gdb_text : GdbIndex → Query → Option (List ℕ)

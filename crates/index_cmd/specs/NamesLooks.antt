@@ -2,7 +2,7 @@
 use Rattle.std.specs.Prelude.{◌≡◌, ℕ, List, Ok, Err}
 use Rattle.ix_base.specs.declared.fault.Fault.{Fault}
 use Rattle.index_model.specs.NameIndexRead.{NameIndex, name_index, name_index_hits}
-use Rattle.query_text.specs.Looks.{text_of_hits, text_of_index_fault}
+use Rattle.index_model.specs.LookTexts.{text_of_hits, text_of_index_fault}
 
 -- the text is that of the entries of the name in the index in these bytes, with these strings from the base on, which have no fault
 pub record IsNamesAnswerOf (bytes strings : List ℕ) (base : ℕ) (name text : List ℕ) : Type 0 where

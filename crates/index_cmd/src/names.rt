@@ -82,7 +82,7 @@ fn answer<K: Sink>(bytes: &[u8], strings: &[u8], base: u32, name: &[u8], out: &m
     ensures causes { CausesOfResult (Rose (K.write_faults out.old) (K.write_faults out.new)) result }
     ensures counts { K.write_faults out.old ≤ K.write_faults out.new }
 {
-    match NameIndex::open(bytes, strings, base) {
+    match NameIndex::open(bytes, strings, u64::from(base)) {
         Ok(index) => ended(write_hits(out, name, &index), Status::Answered),
         Err(fault) => ended(write_index_fault(out, fault), Status::IndexRefused),
     }

@@ -56,6 +56,7 @@ pub mod NameAbbreviations
 pub mod NameTables
 pub mod NameHeader
 pub mod NameIndexRead
+pub mod LookTexts
 pub mod Cache
 pub mod Machine
 pub mod MachineEvents

@@ -4,7 +4,8 @@ use Rattle.std.specs.Prelude.{flat_map, decimal, codes}
 use Rattle.std.proofs.lemmas.List.{take_more}
 use Rattle.std.proofs.lemmas.List.Concat.{flat_map-append}
 use Rattle.index_model.specs.Texts.{line, newline}
-use Rattle.query_text.specs.Looks.{element_head, text_of_element, text_of_elements}
+use Rattle.index_model.specs.LookTexts.{text_of_element, text_of_elements}
+use Rattle.query_text.specs.LookHeads.{element_head}
 
 pub element_text : (name : List ℕ) (e : ℕ) → element_head e ++ (name ++ newline) ≡ text_of_element name e
 unfolding text_of_element

@@ -4,7 +4,8 @@ use Rattle.std.specs.Prelude.{flat_map, decimal, codes}
 use Rattle.std.proofs.lemmas.List.Concat.{flat_map-append}
 use Rattle.index_model.specs.NameIndexRead.{NameHit}
 use Rattle.index_model.specs.Texts.{line, newline}
-use Rattle.query_text.specs.Looks.{hit_head, text_of_hit, text_of_hits}
+use Rattle.index_model.specs.LookTexts.{text_of_hit, text_of_hits}
+use Rattle.query_text.specs.LookHeads.{hit_head}
 
 pub hit_text : (name : List ℕ) (h : NameHit) → hit_head h ++ (name ++ newline) ≡ text_of_hit name h
 unfolding text_of_hit

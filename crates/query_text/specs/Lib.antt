@@ -5,6 +5,6 @@ pub mod Lines
 pub mod LookLines
 pub mod Places
 pub mod Sending
-pub mod Looks
 pub mod Sessions
 pub mod WholeLines
+pub mod LookHeads

@@ -3,7 +3,8 @@
 ghost use Rattle.std.specs.Prelude.{◌≡◌, ◌≤◌, ◌+◌, ◌<◌, ◌++◌, length, flat_map, codes, OnOk, OnErr};
 ghost use Rattle.outside.specs.Counts.{Rose};
 ghost use Rattle.outside.specs.Written.{Appends, AppendsPrefix};
-ghost use Rattle.query_text.specs.Looks.{element_head, kind_in, text_of_element, text_of_elements, text_of_index_fault};
+ghost use Rattle.index_model.specs.LookTexts.{kind_in, text_of_element, text_of_elements, text_of_index_fault};
+ghost use Rattle.query_text.specs.LookHeads.{element_head};
 ghost use Rattle.query_text.specs.Sending.{room, Sends};
 
 use crate::send::{flush, make_room, send_name};

@@ -5,7 +5,8 @@ ghost use Rattle.debugnames_read.specs.Entries.{hit_seen, sort_seen};
 ghost use Rattle.index_model.specs.NameIndexRead.{name_index_hits};
 ghost use Rattle.outside.specs.Counts.{Rose};
 ghost use Rattle.outside.specs.Written.{Appends, AppendsPrefix};
-ghost use Rattle.query_text.specs.Looks.{hit_head, sort_word, text_of_hit, text_of_hits};
+ghost use Rattle.index_model.specs.LookTexts.{sort_word, text_of_hit, text_of_hits};
+ghost use Rattle.query_text.specs.LookHeads.{hit_head};
 ghost use Rattle.query_text.specs.Sending.{room, Sends};
 
 use crate::send::{flush, make_room, send_name};

@@ -1,7 +1,7 @@
 // Written by tools/gen_names_tables.py; not to be changed by hand.
 
 // An index, its strings and their base, and its first fault.
-pub(crate) const FAULTS: [(&str, &[u8], &[u8], u32, (u8, u64)); 40] = [
+pub(crate) const FAULTS: [(&str, &[u8], &[u8], u64, (u8, u64)); 40] = [
     ("name_index_cut_to_3", b"D\0\0", b"main\0", 0, (50, 0x0)),
     (
         "name_index_cut_to_71",

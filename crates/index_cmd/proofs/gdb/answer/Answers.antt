@@ -1,6 +1,6 @@
 use Rattle.std.proofs.Common.{refl, sym, subst}
 use Rattle.index_model.specs.Seen.{query_seen}
-use Rattle.query_text.specs.Looks.{text_of_index_fault}
+use Rattle.index_model.specs.LookTexts.{text_of_index_fault}
 use Rattle.index_cmd.specs.Replies.{SaysGdb, Wrote}
 use Rattle.index_cmd.specs.declared.status.Status.{Status}
 use Rattle.index_cmd.proofs.GdbLaws.{sent_refusal}

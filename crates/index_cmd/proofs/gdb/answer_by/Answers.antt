@@ -3,7 +3,7 @@ use Rattle.std.specs.Prelude.{OnOk, OnErr}
 use Rattle.index_model.specs.GdbIndexRead.{gdb_index_hits}
 use Rattle.index_model.specs.Seen.{query_seen}
 use Rattle.outside.specs.Written.{Appends, AppendsPrefix}
-use Rattle.query_text.specs.Looks.{text_of_elements}
+use Rattle.index_model.specs.LookTexts.{text_of_elements}
 use Rattle.index_cmd.specs.GdbLooks.{gdb_text}
 use Rattle.index_cmd.specs.Replies.{SaysLook, Wrote}
 use Rattle.index_cmd.specs.declared.status.Status.{Status}

@@ -1,6 +1,6 @@
 use Rattle.std.proofs.Common.{ℕ, ◌+◌, List, ◌++◌, take, drop, sym, subst, arith}
 use Rattle.outside.specs.Written.{AppendsPrefix}
-use Rattle.query_text.specs.Looks.{text_of_element}
+use Rattle.index_model.specs.LookTexts.{text_of_element}
 use Rattle.query_text.specs.Sending.{Sends}
 use Rattle.query_text.proofs.ElementLaws.{texts, texts_more, texts_whole}
 use Rattle.query_text.proofs.SendingLaws.{on_err, sends_more, sends_prefix, prefix_of_text}

@@ -1,7 +1,8 @@
 use Rattle.std.proofs.Common.{ℕ, List, ◌++◌, subst}
 use Rattle.std.proofs.lemmas.Result.{on_ok_weaker, on_err_weaker}
 use Rattle.outside.specs.Written.{AppendsPrefix}
-use Rattle.query_text.specs.Looks.{element_head, text_of_element}
+use Rattle.index_model.specs.LookTexts.{text_of_element}
+use Rattle.query_text.specs.LookHeads.{element_head}
 use Rattle.query_text.specs.Sending.{Sends}
 use Rattle.query_text.proofs.ElementLaws.{element_text}
 use Rattle.query_text.proofs.SendingLaws.{on_err, prefix_of_front, sends_head, prefix_head}

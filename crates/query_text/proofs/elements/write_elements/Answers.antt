@@ -1,7 +1,7 @@
 use Rattle.std.proofs.Common.{ℕ, List, ◌++◌, subst}
 use Rattle.std.proofs.lemmas.Result.{on_ok_weaker, on_err_weaker}
 use Rattle.outside.specs.Written.{AppendsPrefix}
-use Rattle.query_text.specs.Looks.{text_of_elements}
+use Rattle.index_model.specs.LookTexts.{text_of_elements}
 use Rattle.query_text.specs.Sending.{Sends}
 use Rattle.query_text.proofs.SendingLaws.{on_err, sends_all, sends_part}
 use Rattle.query_text.proofs.elements.write_elements.Goals as goal

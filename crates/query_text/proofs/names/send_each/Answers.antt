@@ -5,7 +5,7 @@ use Rattle.debugnames_read.specs.Entries.{hit_seen}
 use Rattle.index_model.specs.NameIndexRead.{NameHit as HitOf}
 use Rattle.std.specs.Iterator.{YieldsFirstBy}
 use Rattle.outside.specs.Written.{AppendsPrefix}
-use Rattle.query_text.specs.Looks.{text_of_hit}
+use Rattle.index_model.specs.LookTexts.{text_of_hit}
 use Rattle.query_text.specs.Sending.{Sends}
 use Rattle.query_text.proofs.HitLaws.{lines, lines_more, lines_whole}
 use Rattle.query_text.proofs.SendingLaws.{on_err, sends_more, sends_prefix, prefix_of_text}

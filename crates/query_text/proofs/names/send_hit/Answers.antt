@@ -2,7 +2,8 @@ use Rattle.std.proofs.Common.{ℕ, List, ◌++◌, subst}
 use Rattle.std.proofs.lemmas.Result.{on_ok_weaker, on_err_weaker}
 use Rattle.debugnames_read.specs.Entries.{hit_seen}
 use Rattle.outside.specs.Written.{AppendsPrefix}
-use Rattle.query_text.specs.Looks.{hit_head, text_of_hit}
+use Rattle.index_model.specs.LookTexts.{text_of_hit}
+use Rattle.query_text.specs.LookHeads.{hit_head}
 use Rattle.query_text.specs.Sending.{Sends}
 use Rattle.query_text.proofs.HitLaws.{hit_text}
 use Rattle.query_text.proofs.SendingLaws.{on_err, prefix_of_front, sends_head, prefix_head}

@@ -8,14 +8,14 @@ use Rattle.debugnames_read.proofs.names.Names.string.Goals as goal
 pub get-offset-requires : goal.get-offset-requires
 get-offset-requires c = omega (arith, string_total c.args.self.now.tables, c.requires)
 
-pub returns-then-offset-base : goal.returns-then-offset-base
-returns-then-offset-base c =
+pub returns-then-offset-self : goal.returns-then-offset-self
+returns-then-offset-self c =
     let n = c.args.self.now in
-    let below : nth (tables_of n).strings.numbers c.args.number < n.base = omega (arith, c.get-offset.ensures, c.from-base.ensures, c.if-offset-base.true) in
+    let below : nth (tables_of n).strings.numbers c.args.number < n.base = omega (arith, c.get-offset.ensures, c.if-offset-self.true) in
     sym (string_below (tables_of n) n.strings.now n.base c.args.number below)
 
 pub returns : goal.returns
 returns c =
     let n = c.args.self.now in
-    let le : n.base ≤ nth (tables_of n).strings.numbers c.args.number = omega (arith, c.get-offset.ensures, c.from-base.ensures, c.if-offset-base.false) in
-    c.text_at.ensures ∙ rw (c.get-offset.ensures, c.from-base.ensures) (sym (string_from (tables_of n) n.strings.now n.base c.args.number le))
+    let le : n.base ≤ nth (tables_of n).strings.numbers c.args.number = omega (arith, c.get-offset.ensures, c.if-offset-self.false) in
+    c.text_at.ensures ∙ rw (c.get-offset.ensures) (sym (string_from (tables_of n) n.strings.now n.base c.args.number le))

@@ -27,13 +27,9 @@ scope_of_element e = scope_word (e / 2 ^ 31 % 2 == 1)
 unfoldable pub text_of_element : List ℕ → ℕ → List ℕ
 text_of_element name e = line (decimal (unit_in e) ∷ kind_in (kind_of_element e) ∷ scope_of_element e ∷ name ∷ [])
 
--- how many elements a name has, and each of them
+-- how many elements were found, and each of them
 unfoldable pub text_of_elements : List ℕ → List ℕ → List ℕ
 text_of_elements name es = line (codes "found" ∷ decimal (length es) ∷ []) ++ flat_map (text_of_element name) es
-
--- what stands before the name
-abbrev pub element_head : ℕ → List ℕ
-element_head e = decimal (unit_in e) ++ codes " " ++ kind_in (kind_of_element e) ++ codes " " ++ scope_of_element e ++ codes " "
 
 -- ---- a `.debug_names`
 
@@ -47,10 +43,6 @@ sort_word Foreign = codes "foreign"
 unfoldable pub text_of_hit : List ℕ → NameHit → List ℕ
 text_of_hit name h = line (sort_word h.sort ∷ decimal h.unit ∷ hex h.offset ∷ hex h.tag ∷ name ∷ [])
 
--- how many entries a name has, and each of them
+-- how many entries were found, and each of them
 unfoldable pub text_of_hits : List ℕ → List NameHit → List ℕ
 text_of_hits name hs = line (codes "found" ∷ decimal (length hs) ∷ []) ++ flat_map (text_of_hit name) hs
-
--- what stands before the name
-abbrev pub hit_head : NameHit → List ℕ
-hit_head h = sort_word h.sort ++ codes " " ++ decimal h.unit ++ codes " " ++ hex h.offset ++ codes " " ++ hex h.tag ++ codes " "
