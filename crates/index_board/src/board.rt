@@ -1,11 +1,13 @@
 //! The board.
 
-ghost use Rattle.std.specs.Prelude.{◌≡◌, ◌<◌, ◌≤◌, Bool, false, length, IfOk, option_map};
+ghost use Rattle.std.specs.Prelude.{◌≡◌, ◌<◌, ◌≤◌, ◌++◌, ◌∷◌, [], Bool, false, length, max, IfOk, IfSome, IsTrue, option_map};
 ghost use Rattle.ix_base.specs.declared.limits.TheConstants.{MAX_FILE_BYTES};
 ghost use Rattle.unit_headers.specs.Images.{image_of};
 ghost use Rattle.index_model.specs.Outputs.{IsOutputOf};
+ghost use Rattle.index_model.specs.Stages.{IsReachable, stopped};
 ghost use Rattle.stage_lock.specs.Seen.{IsPassOf, first_pass, parted_pass, split_pass};
-ghost use Rattle.stage_core.specs.Machines.{Machine, stage_of};
+ghost use Rattle.stage_lock.specs.Shares.{sum_of};
+ghost use Rattle.stage_core.specs.Machines.{FitsFile, Machine, stage_of};
 ghost use Rattle.stage_core.specs.Outputs.{output_seen};
 ghost use Rattle.stage_core.specs.Tasks.{task_seen};
 ghost use Rattle.index_board.specs.Boards.{IsCutOf, IsImage, first_stage};
@@ -126,7 +128,41 @@ impl<'f> Board<'f> {
         ensures parted { pass.new ≡ parted_pass pass.old }
         ensures reader { result ≡ record { board = self.now; pass = split_pass pass.old; kept = no_parts } }
     {
-        Reader::new(self, self.lock.split(pass))
+        Reader::new(self, self.split(pass))
+    }
+
+    /// The stage, by one load. Waits for nobody and takes no memory. The stages 1 to 3 come only where the file has no fault, and
+    /// 4 only where it has one. While the pass holds the core, it is the stage of the core that was taken out.
+    pub fn mark(&self, pass: &mut Pass<'f>) -> u8
+        requires own { IsPassOf self.now pass.old }
+        ensures pass { pass.new ≡ record pass.old { marks = pass.old.marks ++ result ∷ []; floor = result } }
+        ensures reach { IsReachable pass.old.floor result }
+        ensures range { result ≤ stopped }
+        ensures fits { FitsFile self.now.subject result }
+        ensures holding { IsTrue pass.old.holding → IfSome pass.old.value_out (λ taken. stage_of taken ≡ result) }
+    {
+        self.lock.mark(pass)
+    }
+
+    /// A new pass, which begins where this one is. Each has half of the share that this one had.
+    pub fn split(&self, pass: &mut Pass<'f>) -> Pass<'f>
+        requires own { IsPassOf self.now pass.old }
+        ensures parted { pass.new ≡ parted_pass pass.old }
+        ensures new { result ≡ split_pass pass.old }
+    {
+        self.lock.split(pass)
+    }
+
+    /// Takes another pass in: its marks, turns and values go, the floor becomes the greater of both, and the shares are added.
+    pub fn join(&self, pass: &mut Pass<'f>, other: Pass<'f>)
+        requires own { IsPassOf self.now pass.old }
+        requires other { IsPassOf self.now other }
+        requires idle { other.holding ≡ false }
+        ensures pass { pass.new ≡ record pass.old { floor = max pass.old.floor other.entry.floor; share = sum_of pass.old.share other.entry.share } }
+        ensures reach { IsReachable pass.old.floor pass.new.floor }
+        ensures other_reach { IsReachable other.entry.floor pass.new.floor }
+    {
+        self.lock.join(pass, other);
     }
 
     /// Draws the next job in one turn. May wait for the turn. None exactly where every job of the open kind is drawn, or the

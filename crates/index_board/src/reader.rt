@@ -72,7 +72,7 @@ impl<'b, 'f> Reader<'b, 'f> {
         ensures mark { IsMark self.old result }
     {
         let board = self.board;
-        board.lock.mark(&mut self.pass)
+        board.mark(&mut self.pass)
     }
 
     /// Answers by what is kept, at one mark. Waits for nobody and takes no memory. `Fetch` comes exactly where the build has
@@ -154,7 +154,7 @@ impl<'b, 'f> Reader<'b, 'f> {
         let board = self.board;
         let taken = board.lock.enter(rt, &mut self.pass);
         core_is_right(&taken);
-        let stage = board.lock.mark(&mut self.pass);
+        let stage = board.mark(&mut self.pass);
         let shared = taken.parts();
         board.lock.leave(&mut self.pass, taken);
         match shared {
@@ -204,7 +204,7 @@ impl<'b, 'f> Reader<'b, 'f> {
         ensures other_reach { IsReachable other.entry.floor self.new.pass.floor }
     {
         let board = self.board;
-        board.lock.join(&mut self.pass, other);
+        board.join(&mut self.pass, other);
     }
 
     /// The kept parts. Each is what the file means.
