@@ -1,1 +1,4 @@
+pub mod Generated
+pub mod LawsGenerated
 pub mod Packed
+pub mod PlainForm

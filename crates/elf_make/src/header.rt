@@ -88,24 +88,27 @@ fn push_ident(file: &mut Vec<u8>) -> Result<(), NoMemory>
     Ok(())
 }
 
+/// Appends a number of 2 bytes, the lowest first.
 #[tactic(auto, unfolding(crate::specs::Packed::half))]
-fn push_half(file: &mut Vec<u8>, number: u16) -> Result<(), NoMemory>
+pub(crate) fn push_half(file: &mut Vec<u8>, number: u16) -> Result<(), NoMemory>
     ensures { OnOk result (file.new.items ≡ file.old.items ++ half number) }
 {
     file.extend_from_slice(&number.to_le_bytes())?;
     Ok(())
 }
 
+/// Appends a number of 4 bytes, the lowest first.
 #[tactic(auto, unfolding(crate::specs::Packed::word))]
-fn push_word(file: &mut Vec<u8>, number: u32) -> Result<(), NoMemory>
+pub(crate) fn push_word(file: &mut Vec<u8>, number: u32) -> Result<(), NoMemory>
     ensures { OnOk result (file.new.items ≡ file.old.items ++ word number) }
 {
     file.extend_from_slice(&number.to_le_bytes())?;
     Ok(())
 }
 
+/// Appends a number of 8 bytes, the lowest first.
 #[tactic(auto, unfolding(crate::specs::Packed::xword))]
-fn push_xword(file: &mut Vec<u8>, number: u64) -> Result<(), NoMemory>
+pub(crate) fn push_xword(file: &mut Vec<u8>, number: u64) -> Result<(), NoMemory>
     ensures { OnOk result (file.new.items ≡ file.old.items ++ xword number) }
 {
     file.extend_from_slice(&number.to_le_bytes())?;

@@ -1,4 +1,7 @@
-use crate::Packer;
+mod generated_rows;
+
+use crate::{Packer, make};
+use generated_rows::{SEED_0_UNITS_1, SEED_7_UNITS_3};
 use std::alloc::{AllocError, Global};
 use std::test::Fail;
 
@@ -77,5 +80,19 @@ fn pads_behind_contents_of_odd_length(rt: HostRuntime) -> Result<(), Fail> {
     packer.add(b"", b"")?;
     packer.add(b".x", b"12345")?;
     assert_eq!(rt; packer.finish()?, joined(rt.alloc(), &ODD_SECTIONS)?);
+    Ok(())
+}
+
+#[test]
+fn generates_one_unit(rt: HostRuntime) -> Result<(), Fail> {
+    let file = make(rt.alloc(), 0, 1)?;
+    assert_eq!(rt; file.as_slice(), &SEED_0_UNITS_1[..]);
+    Ok(())
+}
+
+#[test]
+fn generates_three_units(rt: HostRuntime) -> Result<(), Fail> {
+    let file = make(rt.alloc(), 7, 3)?;
+    assert_eq!(rt; file.as_slice(), &SEED_7_UNITS_3[..]);
     Ok(())
 }
