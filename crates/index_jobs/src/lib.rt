@@ -10,3 +10,4 @@ mod summary;
 mod write;
 
 pub use job::perform;
+pub use write::name_index;

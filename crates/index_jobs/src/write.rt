@@ -60,8 +60,9 @@ fn gdb_index<'f>(
     of_gdb(gdbindex_write::write(alloc, units, &summary.map, main, table, version))
 }
 
-// A `.debug_names` and the strings that it adds.
-fn name_index<'f>(
+/// A `.debug_names` and the strings that it adds, of what a build of the image's file has published; or that the format can't hold
+/// them, or want of memory.
+pub fn name_index<'f>(
     alloc: Global,
     image: &Image<'f>,
     summary: &Summary<'f>,
