@@ -1,0 +1,95 @@
+//! Workers, and a build by several of them.
+
+ghost use Rattle.std.specs.Prelude.{◌≡◌, ◌<◌, ◌≤◌, ℕ, false};
+ghost use Rattle.index_model.specs.Stages.{IsReachable};
+ghost use Rattle.stage_core.specs.Machines.{FitsFile};
+ghost use Rattle.stage_lock.specs.Seen.{IsPassOf};
+ghost use Rattle.index_pool.specs.Ends.{stage_at_end, IsLast};
+
+use crate::ended::{Ended, end_at};
+use crate::job::do_next;
+use crate::team::work_together;
+use index_board::{Board, Pass};
+use outside::Gate;
+use std::alloc::Global;
+use std::sync::Wait;
+use std::thread::{Threads, yield_now};
+
+/// Draws, does and finishes jobs of a build until it has ended. May wait. The gate is told of each job.
+///
+/// The answer is the stage that the pass knows afterwards, from which no other is reachable: a reader that is made from this
+/// pass, or is told by it, gets no other mark.
+pub fn work<'f, R: Threads + Wait + Sync, G: Gate + Sync>(
+    rt: &R,
+    alloc: Global,
+    board: &Board<'f>,
+    pass: &mut Pass<'f>,
+    gate: &G,
+) -> Ended
+    requires own { IsPassOf board.now pass.old }
+    requires idle { pass.old.holding ≡ false }
+    ensures own { IsPassOf board.now pass.new }
+    ensures idle { pass.new.holding ≡ false }
+    ensures reach { IsReachable pass.old.floor pass.new.floor }
+    ensures ended { pass.new.floor ≡ stage_at_end result }
+    ensures last { IsLast pass.new.floor }
+    ensures fits { FitsFile board.now.subject pass.new.floor }
+{
+    for _ in rt.forever() {
+        if let Some(ended) = end_at(board.mark(pass)) {
+            return ended;
+        }
+        if !help(rt, alloc, board, pass, gate) {
+            yield_now();
+        }
+    }
+    unreachable!()
+}
+
+// Does the next job, if there is one. Without an image there is none.
+fn help<'f, R: Threads + Wait + Sync, G: Gate>(
+    rt: &R,
+    alloc: Global,
+    board: &Board<'f>,
+    pass: &mut Pass<'f>,
+    gate: &G,
+) -> bool
+    requires own { IsPassOf board.now pass.old }
+    requires idle { pass.old.holding ≡ false }
+    ensures own { IsPassOf board.now pass.new }
+    ensures idle { pass.new.holding ≡ false }
+    ensures reach { IsReachable pass.old.floor pass.new.floor }
+{
+    match board.image() {
+        Some(image) => do_next(rt, alloc, board, image, pass, gate),
+        None => false,
+    }
+}
+
+/// Runs `work` on so many workers, one of them on the caller's thread. May wait. Where a thread can't be started its worker's
+/// jobs are done by others, and where memory for the workers is refused the caller works alone.
+///
+/// The answer is the stage that the pass knows afterwards, from which no other is reachable: a reader that is made from this
+/// pass, or is told by it, gets no other mark.
+pub fn build<'f, R: Threads + Wait + Sync, G: Gate + Sync>(
+    rt: &R,
+    alloc: Global,
+    board: &Board<'f>,
+    pass: &mut Pass<'f>,
+    workers: u32,
+    gate: &G,
+) -> Ended
+    requires own { IsPassOf board.now pass.old }
+    requires idle { pass.old.holding ≡ false }
+    requires some { 0 < workers }
+    requires few { workers ≤ 64 }
+    ensures own { IsPassOf board.now pass.new }
+    ensures idle { pass.new.holding ≡ false }
+    ensures reach { IsReachable pass.old.floor pass.new.floor }
+    ensures ended { pass.new.floor ≡ stage_at_end result }
+    ensures last { IsLast pass.new.floor }
+    ensures fits { FitsFile board.now.subject pass.new.floor }
+{
+    work_together(rt, alloc, board, pass, workers, gate);
+    work(rt, alloc, board, pass, gate)
+}

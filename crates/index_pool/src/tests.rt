@@ -1,0 +1,5 @@
+//! Builds by several workers.
+
+mod builds;
+mod files;
+mod gates;
