@@ -1,5 +1,9 @@
 //! Lines and replies as the worked rows write them down.
 
+mod boards;
+mod edges;
+mod files;
+mod rows;
 mod sessions;
 
 ghost use Rattle.std.specs.Prelude.{◌<◌, length, All};

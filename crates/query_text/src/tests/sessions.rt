@@ -1,128 +1,118 @@
-//! Sessions over boards of files that are refused at once.
+//! Sessions whose inputs and outputs come in pieces, fail or don't end.
 
-use crate::{LineBuf, SessionFault, session};
-use elf_make::Packer;
-use index_board::Board;
-use index_model::CacheKind;
+use super::boards::{SESSION, ask};
+use super::edges::{Counter, LongLines, Recorder, Told};
+use super::files::PLAIN;
+use super::rows::{ALL, REFUSED, THREE, with_version_6};
+use crate::SessionFault;
 use outside::{MemSink, MemSource, NoGate};
-use std::alloc::Global;
-use std::sync::Wait;
+use std::cell::Cell;
+use std::ops::RangeInclusive;
 use std::test::Fail;
-
-// What isn't a program at all is refused with code 1 at place 0.
-const NO_PROGRAM: &[u8] = b"no program";
-
-// Three look-ups and three bad queries; the last line lacks its newline.
-const LINES: &[u8] = b"main\nname  x\nnaem x\n\nmain\r\ncache";
-
-// The replies to these lines end at 14, 28, 40, 52, 64 and 78.
-const REPLIES: &[u8] =
-    b"4 refused 1 0\n4 refused 1 0\n- bad query\n- bad query\n- bad query\n4 refused 1 0\n";
-
-// One session with a board for the file, of which 1,000 bytes count at most.
-fn ask<R: Wait>(
-    rt: &R,
-    alloc: Global,
-    file: &[u8],
-    input: &mut MemSource,
-    out: &mut MemSink,
-) -> Result<Result<(), SessionFault>, Fail> {
-    let file = &file[..file.len().min(1000)];
-    let (board, mut pass) = Board::open(alloc, file, CacheKind::Gdb8, 4).map_err(|_| "memory")?;
-    let mut reader = board.reader(&mut pass);
-    let mut line = LineBuf::new(alloc).map_err(|_| "memory")?;
-    Ok(session(rt, 0, &mut reader, input, out, &mut line, &NoGate))
-}
 
 #[test]
 fn lines_come_in_pieces_of_every_size(rt: HostRuntime) -> Result<(), Fail> {
-    for size in 1..=LINES.len() as u64 {
-        let mut input = MemSource::new(rt.alloc(), LINES)?;
-        for _call in 0..LINES.len() {
-            input.give_at_most(size)?;
+    for (lines, replies) in [ALL, THREE] {
+        for size in 1..=lines.len() as u64 {
+            let mut input = MemSource::new(rt.alloc(), lines)?;
+            for _call in 0..lines.len() {
+                input.give_at_most(size)?;
+            }
+            let mut out = MemSink::new(rt.alloc());
+            let ended = ask(&rt, rt.alloc(), &PLAIN, &mut input, &mut out, &NoGate)?;
+            assert_eq!(rt; ended, Ok(()), "pieces of {size}");
+            assert_eq!(rt; out.bytes(), replies, "pieces of {size}");
         }
-        let mut out = MemSink::new(rt.alloc());
-        let ended = ask(&rt, rt.alloc(), NO_PROGRAM, &mut input, &mut out)?;
-        assert_eq!(rt; ended, Ok(()), "pieces of {size}");
-        assert_eq!(rt; out.bytes(), REPLIES, "pieces of {size}");
     }
     Ok(())
 }
 
 #[test]
 fn each_read_fails_in_turn(rt: HostRuntime) -> Result<(), Fail> {
-    let rows = [
-        (1, 0),
-        (2, 14),
-        (3, 14),
-        (4, 28),
-        (5, 40),
-        (6, 52),
-        (7, 64),
-        (8, 64),
+    // Each read gives one byte. The newlines are the 5th and the 6th, and the 16th read would find the end.
+    let rows: [(RangeInclusive<u64>, &[u8]); 3] = [
+        (1..=5, b""),
+        (6..=6, b"3 main c main\n"),
+        (7..=16, b"3 main c main\n- bad query\n"),
     ];
-    for (call, written) in rows {
-        let mut input = MemSource::new(rt.alloc(), LINES)?;
-        for _call in 0..8 {
-            input.give_at_most(5)?;
+    for (calls, replies) in rows {
+        for call in calls {
+            let mut input = MemSource::new(rt.alloc(), THREE.0)?;
+            for _call in 0..16 {
+                input.give_at_most(1)?;
+            }
+            input.fail_read(call)?;
+            let mut out = MemSink::new(rt.alloc());
+            let ended = ask(&rt, rt.alloc(), &PLAIN, &mut input, &mut out, &NoGate)?;
+            assert_eq!(rt; ended, Err(SessionFault::ReadFault), "read {call}");
+            assert_eq!(rt; out.bytes(), replies, "read {call}");
         }
-        input.fail_read(call)?;
-        let mut out = MemSink::new(rt.alloc());
-        let ended = ask(&rt, rt.alloc(), NO_PROGRAM, &mut input, &mut out)?;
-        assert_eq!(rt; ended, Err(SessionFault::ReadFault), "read {call}");
-        assert_eq!(rt; out.bytes(), &REPLIES[..written], "read {call}");
     }
     Ok(())
 }
 
 #[test]
 fn each_write_fails_in_turn(rt: HostRuntime) -> Result<(), Fail> {
-    let rows = [(1, 0), (2, 5), (3, 14), (4, 28), (5, 40), (6, 52), (7, 64)];
-    for (call, written) in rows {
-        let mut input = MemSource::new(rt.alloc(), LINES)?;
+    // Each write takes one byte.
+    let replies = THREE.1;
+    for written in 0..replies.len() {
+        let mut input = MemSource::new(rt.alloc(), THREE.0)?;
         let mut out = MemSink::new(rt.alloc());
-        out.take_at_most(5)?;
-        out.fail_write(call)?;
-        let ended = ask(&rt, rt.alloc(), NO_PROGRAM, &mut input, &mut out)?;
-        assert_eq!(rt; ended, Err(SessionFault::WriteFault), "write {call}");
-        assert_eq!(rt; out.bytes(), &REPLIES[..written], "write {call}");
+        for _call in 0..written {
+            out.take_at_most(1)?;
+        }
+        out.fail_write(written as u64 + 1)?;
+        let ended = ask(&rt, rt.alloc(), &PLAIN, &mut input, &mut out, &NoGate)?;
+        assert_eq!(rt; ended, Err(SessionFault::WriteFault), "after {written}");
+        assert_eq!(rt; out.bytes(), &replies[..written]);
     }
     Ok(())
 }
 
 #[test]
-fn the_longest_line_and_a_longer_one(rt: HostRuntime) -> Result<(), Fail> {
-    let rows: [(usize, Result<(), SessionFault>, &[u8]); 2] = [
-        (
-            65536,
-            Ok(()),
-            b"4 refused 1 0\n- bad query\n4 refused 1 0\n",
-        ),
-        (65537, Err(SessionFault::LineTooLong), b"4 refused 1 0\n"),
+fn an_input_of_2_to_the_32_bytes_is_too_long(rt: HostRuntime) -> Result<(), Fail> {
+    // 65,535 lines of 65,537 bytes with their newlines are a byte short of 2^32. That byte is an empty line. All take a second,
+    // and minutes where each step is watched.
+    let rows = [
+        (4_294_967_295, Ok(()), 65535),
+        (4_294_967_296, Err(SessionFault::InputTooLong), 65536),
     ];
-    for (len, ended, written) in rows {
-        let mut bytes = Vec::from_slice(rt.alloc(), b"main\n")?;
-        bytes.extend_from_slice(&vec![in rt.alloc(); b'a'; len]?)?;
-        bytes.extend_from_slice(b"\nmain\n")?;
-        let mut input = MemSource::new(rt.alloc(), &bytes)?;
-        let mut out = MemSink::new(rt.alloc());
-        assert_eq!(rt;
-            ask(&rt, rt.alloc(), NO_PROGRAM, &mut input, &mut out)?,
-            ended,
-            "{len}"
-        );
-        assert_eq!(rt; out.bytes(), written, "{len}");
+    for (len, expected, lines) in rows {
+        let mut input = LongLines::new(len);
+        let written = Cell::new(0);
+        let mut out = Counter::new(&written);
+        let ended = ask(&rt, rt.alloc(), &PLAIN, &mut input, &mut out, &NoGate)?;
+        assert_eq!(rt; ended, expected, "{len}");
+        assert_eq!(rt; written.get(), lines * b"- bad query\n".len(), "{len}");
     }
     Ok(())
 }
 
 #[test]
-fn a_program_without_debug_information(rt: HostRuntime) -> Result<(), Fail> {
-    let packer = Packer::new(rt.alloc(), 2).map_err(|_| "memory")?;
-    let file = packer.finish().map_err(|_| "memory")?;
-    let mut input = MemSource::new(rt.alloc(), b"main\naddr 10\n")?;
-    let mut out = MemSink::new(rt.alloc());
-    assert_eq!(rt; ask(&rt, rt.alloc(), &file, &mut input, &mut out)?, Ok(()));
-    assert_eq!(rt; out.bytes(), b"4 refused 5 0\n4 refused 5 0\n".as_slice());
+fn a_gate_is_told_of_each_reply_once_it_is_written(rt: HostRuntime) -> Result<(), Fail> {
+    let told = |line, stage, written| Told {
+        session: SESSION,
+        line,
+        stage,
+        written,
+    };
+    let rows = [
+        (PLAIN, THREE.0, [told(1, 3, 14), told(3, 3, 70)]),
+        (
+            with_version_6(),
+            REFUSED.0,
+            [told(1, 4, 14), told(3, 4, 40)],
+        ),
+    ];
+    for (file, lines, expected) in rows {
+        let mut input = MemSource::new(rt.alloc(), lines)?;
+        let written = Cell::new(0);
+        let mut out = Counter::new(&written);
+        let gate = Recorder::new(&written);
+        let ended = ask(&rt, rt.alloc(), &file, &mut input, &mut out, &gate)?;
+        assert_eq!(rt; ended, Ok(()));
+        assert_eq!(rt; gate.told(), expected.map(Some));
+        assert_eq!(rt; gate.calls(), 2);
+    }
     Ok(())
 }
