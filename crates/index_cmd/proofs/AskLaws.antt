@@ -1,39 +1,32 @@
 -- The answer of a file by what its core publishes.
-use Rattle.std.proofs.Common.{◌≡◌, ℕ, ◌+◌, ◌<◌, ◌≤◌, Bool, true, false, ltb, leb, List, [], ◌∷◌, length, filter, get_or, Option, Some, None, Result, Ok, Err, refl, sym, ap, subst, ◌∙◌, arith, inl, inr, ⊎_elim}
-use Rattle.std.specs.Prelude.{All, Contains, OnOk, OnErr, option_map, option_and_then}
+use Rattle.std.proofs.Common.{◌≡◌, ℕ, ◌+◌, ◌<◌, ◌≤◌, Bool, true, false, ltb, leb, List, [], ◌∷◌, length, filter, get_or, Option, Some, Result, Ok, Err, refl, sym, ap, subst, ◌∙◌, arith, inl, inr, ⊎_elim}
+use Rattle.std.specs.Prelude.{All, Contains, OnOk, OnErr, option_map}
 use Rattle.std.specs.List.{enumerate_from}
 use Rattle.std.proofs.lemmas.Bool.Decides.{nat_tests}
 use Rattle.std.proofs.lemmas.List.Elements.{Contains-get_or}
 use mathlib.Core.Logic.{◌⊎◌}
 use Rattle.ix_base.specs.declared.fault.Fault.{Fault}
-use Rattle.unit_headers.specs.Images.{Image, image_of}
-use Rattle.unit_headers.proofs.Images.{parts_of}
 use Rattle.index_model.specs.declared.entry.Entry.{Entry}
 use Rattle.index_model.specs.declared.job.CacheKind.{CacheKind}
 use Rattle.index_model.specs.declared.job.CacheKind.TheVariants.{Gdb8}
-use Rattle.index_model.specs.declared.unit.Unit.{Unit as UnitHeader}
 use Rattle.index_model.specs.Answers.{Answer, Reply, Answered as Replied, Refused as Refuses, Stopped, places, is_named, is_simply_named, entries_in, answer_to, reply_of, reply_at}
 use Rattle.index_model.specs.Cache.{size_in}
-use Rattle.index_model.specs.Faults.{Built, built_of, program_of, first_fault}
-use Rattle.index_model.specs.LawsCore.{StateIsRight}
-use Rattle.index_model.specs.Meaning.{◌>>=◌, wrong_in}
-use Rattle.index_model.specs.Parts.{Parts, parts, reply_by}
+use Rattle.index_model.specs.Faults.{Built, built_of, first_fault}
+use Rattle.index_model.specs.Meaning.{wrong_in}
+use Rattle.index_model.specs.Outputs.{Subject}
+use Rattle.index_board.specs.Marks.{file_reply}
 use Rattle.index_model.specs.Queries.{Query, AskName, AskSimple, AskAddress, AskMain, AskCache, need_of, query_of}
-use Rattle.index_model.specs.Sections.{Section, sections_of}
 use Rattle.index_model.specs.Texts.{text_of_reply}
-use Rattle.index_model.specs.Units.{units_of}
-use Rattle.index_model.proofs.Meanings.{same_some, contains_cases}
+use Rattle.index_model.proofs.Meanings.{contains_cases}
 use Rattle.index_model.proofs.Pairs.{of_map, of_filter}
 use Rattle.query_text.specs.Places.{PlacesFit, PlacesFitAnswer}
-use Rattle.stage_core.specs.Machines.{Machine, stage_of}
-use Rattle.index_cmd.specs.Builds.{IsBuildOf}
 use Rattle.outside.specs.Files.{Files}
 use Rattle.index_cmd.specs.FilesRead.{Holds}
 use Rattle.index_cmd.specs.Words.{Asked, query_text}
 use Rattle.index_cmd.specs.Requests.{Request, OfFile, asked}
 use Rattle.index_cmd.specs.Replies.{Causes, CausesOfResult, SaysFile, SaysReply, SaysRequest, Wrote, status_after}
 use Rattle.index_cmd.specs.declared.status.Status.{Status}
-use Rattle.index_cmd.specs.declared.status.Status.TheVariants.{Answered, Refused, Usage, ReadFault, StoreFault, WriteFault, NoMemory, IndexRefused, IndexTooLarge, FileTooBig}
+use Rattle.index_cmd.specs.declared.status.Status.TheVariants.{Answered, Refused, Usage, ReadFault, StoreFault, WriteFault, NoMemory, IndexRefused, IndexTooLarge, FileTooBig, InputFault, InputTooLong, Stopped}
 use Rattle.outside.specs.Written.{Appends, AppendsPrefix}
 use Rattle.outside.specs.declared.shelf.Failed.{Failed}
 
@@ -45,6 +38,9 @@ wrote_weaker Says More f Answered old new w = (w.0, f Answered w.0 w.1, w.2)
 wrote_weaker Says More f Refused old new w = (w.0, f Refused w.0 w.1, w.2)
 wrote_weaker Says More f IndexRefused old new w = (w.0, f IndexRefused w.0 w.1, w.2)
 wrote_weaker Says More f WriteFault old new w = (w.0, w.1, f w.0 w.1 w.2, w.3)
+wrote_weaker Says More f InputFault old new w = (w.0, f InputFault w.0 w.1, w.2)
+wrote_weaker Says More f InputTooLong old new w = (w.0, f InputTooLong w.0 w.1, w.2)
+wrote_weaker Says More f Stopped old new w = (w.0, f Stopped w.0 w.1, w.2)
 wrote_weaker Says More f Usage old new w = w
 wrote_weaker Says More f ReadFault old new w = w
 wrote_weaker Says More f StoreFault old new w = w
@@ -113,6 +109,9 @@ module _ (file : List ℕ) (q : Query) where
   says r (gives b is) WriteFault text h = absurd h
   says r (gives b is) NoMemory text h = absurd h
   says r (gives b is) FileTooBig text h = absurd h
+  says r (gives b is) InputFault text h = absurd h
+  says r (gives b is) InputTooLong text h = absurd h
+  says r (gives b is) Stopped text h = absurd h
   says r (gives b is) StoreFault text h = absurd h
   says r (gives b is) IndexRefused text h = absurd h
   says r (gives b is) IndexTooLarge text h = absurd h
@@ -123,6 +122,9 @@ module _ (file : List ℕ) (q : Query) where
   says r (wrong f is) WriteFault text h = absurd h
   says r (wrong f is) NoMemory text h = absurd h
   says r (wrong f is) FileTooBig text h = absurd h
+  says r (wrong f is) InputFault text h = absurd h
+  says r (wrong f is) InputTooLong text h = absurd h
+  says r (wrong f is) Stopped text h = absurd h
   says r (wrong f is) StoreFault text h = absurd h
   says r (wrong f is) IndexRefused text h = absurd h
   says r (wrong f is) IndexTooLarge text h = absurd h
@@ -132,49 +134,23 @@ module _ (file : List ℕ) (q : Query) where
   pub wrote_of : (r : Reply) → IsFileReply file q r → (status : Status) (old new : Option (List ℕ)) → Wrote (SaysReply r) status old new → Wrote (SaysFile file q) status old new
   wrote_of r is status old new = wrote_weaker (SaysReply r) (SaysFile file q) (says r is) status old new
 
--- ---- by a core
+-- ---- by a board
 
-module _ (image : Image) (m : Machine) (q : Query) (build : IsBuildOf image Gdb8 m) (need : need_of q ≤ stage_of m) (right : StateIsRight m.subject m.state) where
-  pub file_is : image.file ≡ m.subject.file
-  file_is = (parts_of m.subject.file image build.image_is).file
+module _ (s : Subject) (file : List ℕ) (q : Query) (same : s.file ≡ file) (writes : s.cache ≡ Gdb8) where
+  -- what the board's file replies at a stage that the query doesn't wait for
+  pub board_reply : (n : ℕ) → need_of q ≤ n → IsFileReply file q (file_reply s q n)
+  board_reply n need =
+      subst (λ (kind : CacheKind). IsFileReply file q (reply_at (built_of s.file) (size_in kind (built_of s.file)) q n)) (sym writes)
+      (subst (λ (f : List ℕ). IsFileReply file q (reply_at (built_of f) (size_in Gdb8 (built_of f)) q n)) (sym same)
+      (by_stage file q n need (leb n 4) refl))
 
-  abbrev r : Reply
-  r = reply_at (built_of m.subject.file) (size_in m.subject.cache (built_of m.subject.file)) q (stage_of m)
-
-  -- the parts of the core have the reply of the file
-  pub core_reply : IsFileReply image.file q r
-  core_reply =
-      subst (λ (kind : CacheKind). IsFileReply image.file q (reply_at (built_of m.subject.file) (size_in kind (built_of m.subject.file)) q (stage_of m))) (sym build.cache)
-      (subst (λ (file : List ℕ). IsFileReply image.file q (reply_at (built_of file) (size_in Gdb8 (built_of file)) q (stage_of m))) file_is
-      (by_stage image.file q (stage_of m) need (leb (stage_of m) 4) refl))
-
-  -- it is what the parts reply
-  pub core_looks : reply_by (parts m.state) q (stage_of m) ≡ Some r
-  core_looks = right.looks q
-
--- ---- a file that has no image
-
-module _ (file : List ℕ) (f : Fault) where
-  abbrev made : List Section → List UnitHeader → Image
-  made ss us = record { file = file; sections = ss; units = us }
-
-  abbrev failing : Result Image Fault
-  failing = Err f
-
-  no_units : (ss : List Section) (r : Result (List UnitHeader) Fault) → units_of ss ≡ r → (r >>= λ us. Ok (made ss us)) ≡ failing → sections_of file ≡ Ok ss → first_fault file ≡ Some f
-  unfolding built_of program_of
-  no_units ss (Ok us) is e sections = absurd (cc e)
-  no_units ss (Err g) is e sections = rw (sections, is) (cc e)
-
-  no_image : (r : Result (List Section) Fault) → sections_of file ≡ r → (r >>= λ ss. units_of ss >>= λ us. Ok (made ss us)) ≡ failing → first_fault file ≡ Some f
-  unfolding built_of program_of
-  no_image (Ok ss) is e = no_units ss (units_of ss) refl e is
-  no_image (Err g) is e = rw is (cc e)
-
-  -- the first fault of its sections or headers is that of the file
-  pub image_fault : image_of file ≡ Err f → first_fault file ≡ Some f
-  unfolding image_of
-  image_fault is = no_image (sections_of file) refl is
+-- no query needs more than stage 3
+pub need_at_most_3 : (q : Query) → need_of q ≤ 3
+need_at_most_3 (AskName n) = omega arith
+need_at_most_3 (AskSimple n) = omega arith
+need_at_most_3 (AskAddress a) = omega arith
+need_at_most_3 AskMain = omega arith
+need_at_most_3 AskCache = omega arith
 
 -- ---- a reply is written
 
@@ -193,7 +169,13 @@ module _ (reply : Reply) (old new : Option (List ℕ)) where
   sent (Ok x) NoMemory text says (inl is) all part = absurd (cc is)
   sent (Ok x) NoMemory text says (inr is) all part = absurd (cc is)
   sent (Ok x) FileTooBig text says (inl is) all part = absurd (cc is)
+  sent (Ok x) InputFault text says (inl is) all part = absurd (cc is)
+  sent (Ok x) InputTooLong text says (inl is) all part = absurd (cc is)
+  sent (Ok x) Stopped text says (inl is) all part = absurd (cc is)
   sent (Ok x) FileTooBig text says (inr is) all part = absurd (cc is)
+  sent (Ok x) InputFault text says (inr is) all part = absurd (cc is)
+  sent (Ok x) InputTooLong text says (inr is) all part = absurd (cc is)
+  sent (Ok x) Stopped text says (inr is) all part = absurd (cc is)
   sent (Ok x) StoreFault text says (inl is) all part = absurd (cc is)
   sent (Ok x) StoreFault text says (inr is) all part = absurd (cc is)
   sent (Ok x) IndexRefused text says (inl is) all part = absurd (cc is)
@@ -209,12 +191,6 @@ pub says_fault : (r : Reply) (f : Fault) → r ≡ Refuses f → SaysReply r Ref
 unfolding text_of_reply
 says_fault r f is = subst (λ (x : Reply). SaysReply x Refused (text_of_reply x)) (sym is) refl
 
--- what the parts of a core reply is a reply of its file
-pub by_core : (image : Image) (m : Machine) (q : Query) → IsBuildOf image Gdb8 m → need_of q ≤ stage_of m → StateIsRight m.subject m.state → (p : Parts) → p ≡ parts m.state → (n : ℕ) → n ≡ stage_of m → (o : Reply) → Some o ≡ reply_by p q n → IsFileReply image.file q o
-by_core image m q build need right p parts_are n is o replies =
-    let whole : Some o ≡ Some (r image m q build need right) = replies ∙ ap (λ (x : Parts). reply_by x q n) parts_are ∙ ap (reply_by (parts m.state) q) is ∙ core_looks image m q build need right in
-    subst (IsFileReply image.file q) (sym (same_some o (r image m q build need right) whole)) (core_reply image m q build need right)
-
 -- ---- what was asked of a file
 
 pub asked_is : (a : Asked) (q : Query) (line : List ℕ) → line ≡ query_text a.query → Some q ≡ query_of line → asked a ≡ Some (OfFile a.file q)
@@ -229,6 +205,9 @@ module _ (request : Option Request) (told : Option Files) (file bytes : List ℕ
   says_request WriteFault text h = h
   says_request NoMemory text h = h
   says_request FileTooBig text h = h
+  says_request InputFault text h = h
+  says_request InputTooLong text h = h
+  says_request Stopped text h = h
   says_request StoreFault text h = h
   says_request IndexRefused text h = absurd h
   says_request IndexTooLarge text h = h
@@ -248,3 +227,6 @@ causes_request request told reads stores writes ReadFault c = absurd c
 causes_request request told reads stores writes StoreFault c = absurd c
 causes_request request told reads stores writes IndexTooLarge c = absurd c
 causes_request request told reads stores writes FileTooBig c = absurd c
+causes_request request told reads stores writes InputFault c = absurd c
+causes_request request told reads stores writes InputTooLong c = absurd c
+causes_request request told reads stores writes Stopped c = absurd c

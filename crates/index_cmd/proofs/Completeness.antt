@@ -1,44 +1,50 @@
 -- Where nothing failed, a command comes to what was asked, or to want of memory.
-use Rattle.std.proofs.Common.{◌≡◌, ◌⊎◌, inl, inr, ℕ, ◌<◌, ◌≤◌, List, Option, Some, None, Result, Ok, Err, refl, sym, ap, subst, ◌∙◌, arith}
-use Rattle.std.specs.Prelude.{length}
+use Rattle.std.proofs.Common.{◌≡◌, ◌⊎◌, inl, inr, ℕ, ◌<◌, ◌≤◌, List, Option, Some, None, Ok, Err, refl, sym, ap, subst, ◌∙◌, arith}
+use Rattle.std.specs.Prelude.{length, IsSome}
 use Rattle.ix_base.specs.declared.fault.Fault.{Fault}
 use Rattle.ix_base.specs.declared.limits.TheConstants.{MAX_FILE_BYTES}
 use Rattle.index_model.specs.declared.job.CacheKind.{CacheKind}
 use Rattle.index_model.specs.Cache.{Cache, GdbBytes, NameBytes, DoesNotFit, cache_in}
-use Rattle.index_model.specs.Faults.{Built, first_fault, built_of}
+use Rattle.index_model.specs.Faults.{Built, first_fault, built_of, IsAccepted}
 use Rattle.index_model.specs.GdbIndexRead.{GdbIndex, gdb_index}
 use Rattle.index_model.specs.NameIndexRead.{NameIndex, name_index}
 use Rattle.index_model.specs.Queries.{Query}
 use Rattle.index_model.proofs.Meanings.{same_ok}
 use Rattle.outside.specs.Files.{Files}
-use Rattle.index_cmd.specs.Requests.{Request, TheHelp, TheVersion, OfFile, OfIndex, OfGdb, OfNames, AsksFile, AsksProgram, AsksIndex}
-use Rattle.index_cmd.specs.Replies.{Causes, IsComplete, IsIndexRefusal, IsMeant, IsIndexMeant, IsLookMeant, IsNamesMeant, line_of}
+use Rattle.index_cmd.specs.Requests.{Request, TheHelp, TheVersion, OfFile, OfIndex, OfGdb, OfNames, OfServe, AsksFile, AsksProgram, AsksIndex}
+use Rattle.index_cmd.specs.FilesRead.{HoldsMore}
+use Rattle.index_cmd.specs.Heard.{Heard}
+use Rattle.index_cmd.specs.Results.{Says, Completes, IsServeMeant}
+use Rattle.index_cmd.specs.Replies.{Causes, MakesTooLarge, IsIndexRefusal, IsMeant, IsIndexMeant, IsLookMeant, IsNamesMeant, line_of}
 use Rattle.index_cmd.specs.Statuses.{status_code}
 use Rattle.index_cmd.specs.Stores.{Keeps, LeavesAtEnd}
 use Rattle.index_cmd.specs.declared.status.Status.{Status}
-use Rattle.index_cmd.specs.declared.status.Status.TheVariants.{Answered, Refused, Usage, ReadFault, StoreFault, WriteFault, NoMemory, IndexRefused, IndexTooLarge, FileTooBig}
-use Rattle.index_cmd.proofs.Outcomes.{Outcome, answers, refuses, index_refuses, lines, fails, no_request, same_bytes, accepted_built, none_some}
+use Rattle.index_cmd.specs.declared.status.Status.TheVariants.{Answered, Refused, Usage, ReadFault, StoreFault, WriteFault, NoMemory, IndexRefused, IndexTooLarge, FileTooBig, InputFault, InputTooLong, Stopped}
+use Rattle.index_cmd.proofs.Outcomes.{Outcome, tells, stops, lines, fails, Plain, answers, refuses, index_refuses, plain_lines, plain_fails, plain, no_request, same_bytes, accepted_built, none_some}
 
 -- ---- the program's own texts
 
 module _ (told : Option Files) (reads stores writes : Type 0) (old new : Option (List ℕ)) where
-  own_text : (request : Request) → ((P : List ℕ → Type 0) → AsksFile (Some request) P → ⊥) → ((P : List ℕ → Type 0) → AsksProgram (Some request) P → ⊥) → ((P : CacheKind → List ℕ → List ℕ → Type 0) → AsksIndex (Some request) P → ⊥) → ((text : List ℕ) → IsIndexRefusal (Some request) told text → ⊥) → (writes → ⊥) → (status : Status) → Outcome (Some request) told reads stores writes old new status → (status_code status ≡ 0) ⊎ (status_code status ≡ 7)
-  own_text request file program index look none status (answers w) = inl refl
-  own_text request file program index look none status (refuses w) = absurd (program _ w.1)
-  own_text request file program index look none status (index_refuses w) = absurd (look _ w.1)
-  own_text request file program index look none status (fails f p) = absurd (none f)
-  own_text request file program index look none Usage (lines text is c a) = absurd (cc c)
-  own_text request file program index look none ReadFault (lines text is c a) = absurd (file _ c)
-  own_text request file program index look none StoreFault (lines text is c a) = absurd (index _ c)
-  own_text request file program index look none NoMemory (lines text is c a) = inr refl
-  own_text request file program index look none IndexTooLarge (lines text is c a) = absurd (index _ c)
-  own_text request file program index look none FileTooBig (lines text is c a) = absurd (file _ c)
-  own_text request file program index look none Answered (lines text is c a) = absurd (cc is)
-  own_text request file program index look none Refused (lines text is c a) = absurd (cc is)
-  own_text request file program index look none IndexRefused (lines text is c a) = absurd (cc is)
-  own_text request file program index look none WriteFault (lines text is c a) = absurd (cc is)
+  own_text : (request : Request) → ((P : List ℕ → ℕ → Type 0) → AsksFile (Some request) P → ⊥) → ((P : List ℕ → Type 0) → AsksProgram (Some request) P → ⊥) → ((P : CacheKind → List ℕ → List ℕ → Type 0) → AsksIndex (Some request) P → ⊥) → (MakesTooLarge (Some request) told → ⊥) → ((text : List ℕ) → IsIndexRefusal (Some request) told text → ⊥) → (writes → ⊥) → (status : Status) → Plain (Some request) told reads stores writes old new status → (status_code status ≡ 0) ⊎ (status_code status ≡ 7)
+  own_text request file program index large look none status (answers w) = inl refl
+  own_text request file program index large look none status (refuses w) = absurd (program _ w.1)
+  own_text request file program index large look none status (index_refuses w) = absurd (look _ w.1)
+  own_text request file program index large look none status (plain_fails f) = absurd (none f)
+  own_text request file program index large look none Usage (plain_lines text is c) = absurd (cc c)
+  own_text request file program index large look none ReadFault (plain_lines text is c) = absurd (file _ c)
+  own_text request file program index large look none StoreFault (plain_lines text is c) = absurd (index _ c)
+  own_text request file program index large look none NoMemory (plain_lines text is c) = inr refl
+  own_text request file program index large look none IndexTooLarge (plain_lines text is c) = absurd (large c)
+  own_text request file program index large look none FileTooBig (plain_lines text is c) = absurd (file _ c)
+  own_text request file program index large look none Answered (plain_lines text is c) = absurd (cc is)
+  own_text request file program index large look none Refused (plain_lines text is c) = absurd (cc is)
+  own_text request file program index large look none IndexRefused (plain_lines text is c) = absurd (cc is)
+  own_text request file program index large look none WriteFault (plain_lines text is c) = absurd (cc is)
+  own_text request file program index large look none InputFault (plain_lines text is c) = absurd (cc is)
+  own_text request file program index large look none InputTooLong (plain_lines text is c) = absurd (cc is)
+  own_text request file program index large look none Stopped (plain_lines text is c) = absurd (cc is)
 
-  nothing_asked : (status : Status) → Outcome None told reads stores writes old new status → (writes → ⊥) → (status_code status ≡ 2) ⊎ (status_code status ≡ 7)
+  nothing_asked : (status : Status) → Plain None told reads stores writes old new status → (writes → ⊥) → (status_code status ≡ 2) ⊎ (status_code status ≡ 7)
   nothing_asked status o none = by (no_request told reads stores writes old new status o)
     where
       by : (status ≡ Usage) ⊎ ((status ≡ WriteFault) × writes) ⊎ (status ≡ NoMemory) → (status_code status ≡ 2) ⊎ (status_code status ≡ 7)
@@ -49,8 +55,8 @@ module _ (told : Option Files) (reads stores writes : Type 0) (old new : Option 
 -- ---- files
 
 -- the file is no larger than its limit
-fits : (held : Option (List ℕ)) (bytes : List ℕ) → held ≡ Some bytes → length bytes ≤ MAX_FILE_BYTES → (all : List ℕ) × (held ≡ Some all) × (MAX_FILE_BYTES < length all) → ⊥
-fits held bytes holds small c = let same = same_bytes held c.0 bytes c.1 holds in omega (arith, c.2, small, ap length same)
+fits : (most : ℕ) (held : Option (List ℕ)) (bytes : List ℕ) → held ≡ Some bytes → length bytes ≤ most → (all : List ℕ) × (held ≡ Some all) × (most < length all) → ⊥
+fits most held bytes holds small c = let same = same_bytes held c.0 bytes c.1 holds in omega (arith, c.2, small, ap length same)
 
 module _ (files : Files) (reads stores writes : Type 0) (old new : Option (List ℕ)) (file bytes : List ℕ) (holds : files file ≡ Some bytes) (small : length bytes ≤ MAX_FILE_BYTES) (no_read : reads → ⊥) (no_write : writes → ⊥) where
   -- ---- ask
@@ -66,13 +72,16 @@ module _ (files : Files) (reads stores writes : Type 0) (old new : Option (List 
     only_memory ReadFault text is c = absurd (no_read c)
     only_memory StoreFault text is c = absurd c
     only_memory IndexTooLarge text is c = absurd c
-    only_memory FileTooBig text is c = absurd (fits (files file) bytes holds small c)
+    only_memory FileTooBig text is c = absurd (fits MAX_FILE_BYTES (files file) bytes holds small c)
     only_memory Answered text is c = absurd (cc is)
     only_memory Refused text is c = absurd (cc is)
     only_memory IndexRefused text is c = absurd (cc is)
     only_memory WriteFault text is c = absurd (cc is)
+    only_memory InputFault text is c = absurd (cc is)
+    only_memory InputTooLong text is c = absurd (cc is)
+    only_memory Stopped text is c = absurd (cc is)
 
-    meant : (status : Status) → Outcome asked (Some files) reads stores writes old new status → IsMeant bytes (status_code status)
+    meant : (status : Status) → Plain asked (Some files) reads stores writes old new status → IsMeant bytes (status_code status)
     meant status (answers w) = record {
       answered = λ _. inl refl;
       refused = λ f first. let same = same_bytes (files file) w.1.0 bytes w.1.1 holds in absurd (none_some f (sym (accepted_built w.1.0 w.1.2.built w.1.2.accepted) ∙ ap first_fault same ∙ first));
@@ -82,8 +91,8 @@ module _ (files : Files) (reads stores writes : Type 0) (old new : Option (List 
       refused = λ f first. inl refl;
     }
     meant status (index_refuses w) = absurd w.1
-    meant status (lines text is c a) = record { answered = λ _. inr (only_memory status text is c); refused = λ f first. inr (only_memory status text is c) }
-    meant status (fails f p) = absurd (no_write f)
+    meant status (plain_lines text is c) = record { answered = λ _. inr (only_memory status text is c); refused = λ f first. inr (only_memory status text is c) }
+    meant status (plain_fails f) = absurd (no_write f)
 
   -- ---- look
 
@@ -97,16 +106,19 @@ module _ (files : Files) (reads stores writes : Type 0) (old new : Option (List 
     only_memory_looks ReadFault text is c = absurd (no_read c)
     only_memory_looks StoreFault text is c = absurd c
     only_memory_looks IndexTooLarge text is c = absurd c
-    only_memory_looks FileTooBig text is c = absurd (fits (files file) bytes holds small c)
+    only_memory_looks FileTooBig text is c = absurd (fits MAX_FILE_BYTES (files file) bytes holds small c)
     only_memory_looks Answered text is c = absurd (cc is)
     only_memory_looks Refused text is c = absurd (cc is)
     only_memory_looks IndexRefused text is c = absurd (cc is)
     only_memory_looks WriteFault text is c = absurd (cc is)
+    only_memory_looks InputFault text is c = absurd (cc is)
+    only_memory_looks InputTooLong text is c = absurd (cc is)
+    only_memory_looks Stopped text is c = absurd (cc is)
 
     both : (index : GdbIndex) (f : Fault) → gdb_index bytes ≡ Ok index → gdb_index bytes ≡ Err f → ⊥
     both index f a b = let e : Ok index ≡ Err f = sym a ∙ b in cc e
 
-    look_meant : (status : Status) → Outcome looked (Some files) reads stores writes old new status → IsLookMeant bytes (status_code status)
+    look_meant : (status : Status) → Plain looked (Some files) reads stores writes old new status → IsLookMeant bytes (status_code status)
     look_meant status (answers w) = record {
       answered = λ index is. inl refl;
       refused = λ f is. let same = same_bytes (files file) w.1.0 bytes w.1.1 holds in absurd (both w.1.2.index f (ap gdb_index (sym same) ∙ w.1.2.accepted) is);
@@ -116,8 +128,8 @@ module _ (files : Files) (reads stores writes : Type 0) (old new : Option (List 
       refused = λ f is. inl refl;
     }
     look_meant status (refuses w) = absurd w.1
-    look_meant status (lines text is c a) = record { answered = λ index e. inr (only_memory_looks status text is c); refused = λ f e. inr (only_memory_looks status text is c) }
-    look_meant status (fails f p) = absurd (no_write f)
+    look_meant status (plain_lines text is c) = record { answered = λ index e. inr (only_memory_looks status text is c); refused = λ f e. inr (only_memory_looks status text is c) }
+    look_meant status (plain_fails f) = absurd (no_write f)
 
   -- ---- index
 
@@ -147,13 +159,16 @@ module _ (files : Files) (reads stores writes : Type 0) (old new : Option (List 
     by_line Usage text is c = absurd (cc c)
     by_line ReadFault text is c = absurd (no_read c)
     by_line StoreFault text is c = absurd (no_store c)
-    by_line FileTooBig text is c = absurd (fits (files file) bytes holds small c)
+    by_line FileTooBig text is c = absurd (fits MAX_FILE_BYTES (files file) bytes holds small c)
     by_line Answered text is c = absurd (cc is)
     by_line Refused text is c = absurd (cc is)
     by_line IndexRefused text is c = absurd (cc is)
     by_line WriteFault text is c = absurd (cc is)
+    by_line InputFault text is c = absurd (cc is)
+    by_line InputTooLong text is c = absurd (cc is)
+    by_line Stopped text is c = absurd (cc is)
 
-    index_meant : (status : Status) → Outcome stored (Some files) reads stores writes old new status → LeavesAtEnd stored (Some files) shelf status → IsIndexMeant bytes kind (status_code status)
+    index_meant : (status : Status) → Plain stored (Some files) reads stores writes old new status → LeavesAtEnd stored (Some files) shelf status → IsIndexMeant bytes kind (status_code status)
     index_meant status (answers w) left = record {
       stored = λ b e fit. inl refl;
       too_large = λ b e large. absurd (kept_fits (cache_in kind left.2.built) left.2.holds (ap (cache_in kind) (one_built left.2.built b left.0 left.1 left.2.accepted e) ∙ large));
@@ -163,8 +178,8 @@ module _ (files : Files) (reads stores writes : Type 0) (old new : Option (List 
         let none : (b : Built) → built_of bytes ≡ Ok b → ⊥ = λ b e. no_fault b bytes w.1.2.fault holds e (ap first_fault (sym (same_bytes (files file) w.1.0 bytes w.1.1 holds)) ∙ w.1.2.first) in
         record { stored = λ b e fit. absurd (none b e); too_large = λ b e large. absurd (none b e); refused = λ f first. inl refl }
     index_meant status (index_refuses w) left = absurd w.1
-    index_meant status (lines text is c a) left = by_line status text is c
-    index_meant status (fails f p) left = absurd (no_write f)
+    index_meant status (plain_lines text is c) left = by_line status text is c
+    index_meant status (plain_fails f) left = absurd (no_write f)
 
 -- ---- look, in an index and its strings
 
@@ -177,8 +192,8 @@ module _ (files : Files) (reads stores writes : Type 0) (old new : Option (List 
   no_read_of_both (inr h) = no_read h
 
   both_fit : ((all : List ℕ) × (files index ≡ Some all) × (MAX_FILE_BYTES < length all)) ⊎ ((all : List ℕ) × (files strings ≡ Some all) × (MAX_FILE_BYTES < length all)) → ⊥
-  both_fit (inl h) = fits (files index) bytes has_index small_index h
-  both_fit (inr h) = fits (files strings) held has_strings small_strings h
+  both_fit (inl h) = fits MAX_FILE_BYTES (files index) bytes has_index small_index h
+  both_fit (inr h) = fits MAX_FILE_BYTES (files strings) held has_strings small_strings h
 
   only_memory_names : (status : Status) (text : List ℕ) → line_of status ≡ Some text → Causes names (Some files) reads stores writes status → status_code status ≡ 7
   only_memory_names NoMemory text is c = refl
@@ -191,6 +206,9 @@ module _ (files : Files) (reads stores writes : Type 0) (old new : Option (List 
   only_memory_names Refused text is c = absurd (cc is)
   only_memory_names IndexRefused text is c = absurd (cc is)
   only_memory_names WriteFault text is c = absurd (cc is)
+  only_memory_names InputFault text is c = absurd (cc is)
+  only_memory_names InputTooLong text is c = absurd (cc is)
+  only_memory_names Stopped text is c = absurd (cc is)
 
   not_both : (read : NameIndex) (f : Fault) → name_index bytes held base ≡ Ok read → name_index bytes held base ≡ Err f → ⊥
   not_both read f a b = let e : Ok read ≡ Err f = sym a ∙ b in cc e
@@ -199,7 +217,7 @@ module _ (files : Files) (reads stores writes : Type 0) (old new : Option (List 
   own_bytes : (a b : List ℕ) → files index ≡ Some a → files strings ≡ Some b → name_index bytes held base ≡ name_index a b base
   own_bytes a b x y = ap (λ (l : List ℕ). name_index l held base) (same_bytes (files index) bytes a has_index x) ∙ ap (λ (l : List ℕ). name_index a l base) (same_bytes (files strings) held b has_strings y)
 
-  names_meant : (status : Status) → Outcome names (Some files) reads stores writes old new status → IsNamesMeant bytes held base (status_code status)
+  names_meant : (status : Status) → Plain names (Some files) reads stores writes old new status → IsNamesMeant bytes held base (status_code status)
   names_meant status (answers w) = record {
     answered = λ read is. inl refl;
     refused = λ f is. absurd (not_both w.1.2.2.index f (own_bytes w.1.0 w.1.2.0 w.1.1 w.1.2.1 ∙ w.1.2.2.accepted) is);
@@ -209,19 +227,78 @@ module _ (files : Files) (reads stores writes : Type 0) (old new : Option (List 
     refused = λ f is. inl refl;
   }
   names_meant status (refuses w) = absurd w.1
-  names_meant status (lines text is c a) = record { answered = λ read e. inr (only_memory_names status text is c); refused = λ f e. inr (only_memory_names status text is c) }
-  names_meant status (fails f p) = absurd (no_write f)
+  names_meant status (plain_lines text is c) = record { answered = λ read e. inr (only_memory_names status text is c); refused = λ f e. inr (only_memory_names status text is c) }
+  names_meant status (plain_fails f) = absurd (no_write f)
 
-pub complete : (request : Option Request) (told shelf : Option Files) (reads stores writes : Type 0) (old new : Option (List ℕ)) (status : Status) → Outcome request told reads stores writes old new status → LeavesAtEnd request told shelf status →
-    IsComplete request told reads stores writes (status_code status)
-complete None told shelf reads stores writes old new status o left = nothing_asked told reads stores writes old new status o
-complete (Some TheHelp) told shelf reads stores writes old new status o left = λ none. own_text told reads stores writes old new TheHelp (λ P h. h) (λ P h. h) (λ P h. h) (λ text h. h) none status o
-complete (Some TheVersion) told shelf reads stores writes old new status o left = λ none. own_text told reads stores writes old new TheVersion (λ P h. h) (λ P h. h) (λ P h. h) (λ text h. h) none status o
-complete (Some (OfFile file q)) None shelf reads stores writes old new status o left = tt
-complete (Some (OfFile file q)) (Some files) shelf reads stores writes old new status o left = λ bytes holds small no_read no_write. meant files reads stores writes old new file bytes holds small no_read no_write q status o
-complete (Some (OfIndex kind file out)) None shelf reads stores writes old new status o left = tt
-complete (Some (OfIndex kind file out)) (Some files) shelf reads stores writes old new status o left = λ bytes holds small no_read no_write no_store. index_meant files reads stores writes old new file bytes holds small no_read no_write kind out no_store shelf status o left
-complete (Some (OfGdb index q)) None shelf reads stores writes old new status o left = tt
-complete (Some (OfGdb index q)) (Some files) shelf reads stores writes old new status o left = λ bytes holds small no_read no_write. look_meant files reads stores writes old new index bytes holds small no_read no_write q status o
-complete (Some (OfNames base index strings name)) None shelf reads stores writes old new status o left = tt
-complete (Some (OfNames base index strings name)) (Some files) shelf reads stores writes old new status o left = λ bytes has_index small_index no_read no_write held has_strings small_strings again_no_read again_no_write. names_meant files reads stores writes old new index strings bytes held has_index small_index has_strings small_strings no_read no_write base name status o
+-- ---- sessions
+
+-- a file has a fault or none
+not_both_kinds : (own bytes : List ℕ) (f : Fault) → own ≡ bytes → first_fault own ≡ None → first_fault bytes ≡ Some f → ⊥
+not_both_kinds own bytes f same none some = none_some f (sym none ∙ ap first_fault same ∙ some)
+
+not_refused : (own bytes : List ℕ) → own ≡ bytes → IsSome (first_fault own) → first_fault bytes ≡ None → ⊥
+not_refused own bytes same some none = nothing_there (subst IsSome (ap first_fault same ∙ none) some)
+  where
+    nothing_there : IsSome {T = Fault} None → ⊥
+    nothing_there h = absurd (cc h)
+
+module _ (request : Option Request) (files : Files) (heard : Heard) (reads stores writes : Type 0) (old new : Option (List ℕ)) (file bytes : List ℕ) (holds : files file ≡ Some bytes) (no_read : AsksFile request (λ _ _. reads) → ⊥) (no_store : AsksIndex request (λ _ _ _. stores) → ⊥) (small : AsksFile request (HoldsMore (Some files)) → ⊥) (no_large : MakesTooLarge request (Some files) → ⊥) (asks : request ≡ None → ⊥) (no_write : writes → ⊥) where
+  session_line : (status : Status) (text : List ℕ) → line_of status ≡ Some text → Causes request (Some files) reads stores writes status → status_code status ≡ 7
+  session_line NoMemory text is c = refl
+  session_line Usage text is c = absurd (asks c)
+  session_line ReadFault text is c = absurd (no_read c)
+  session_line StoreFault text is c = absurd (no_store c)
+  session_line IndexTooLarge text is c = absurd (no_large c)
+  session_line FileTooBig text is c = absurd (small c)
+  session_line Answered text is c = absurd (cc is)
+  session_line Refused text is c = absurd (cc is)
+  session_line IndexRefused text is c = absurd (cc is)
+  session_line WriteFault text is c = absurd (cc is)
+  session_line InputFault text is c = absurd (cc is)
+  session_line InputTooLong text is c = absurd (cc is)
+  session_line Stopped text is c = absurd (cc is)
+
+  -- what is said with each status, of some bytes that the file holds
+  pub session_meant : ((text : List ℕ) → Says request (Some files) heard Answered text → (own : List ℕ) × (files file ≡ Some own) × IsAccepted own) → ((text : List ℕ) → Says request (Some files) heard Refused text → (own : List ℕ) × (files file ≡ Some own) × IsSome (first_fault own)) →
+      ((text : List ℕ) → Says request (Some files) heard IndexRefused text → ⊥) → ((text : List ℕ) → Says request (Some files) heard InputFault text → ⊥) →
+      (status : Status) → Outcome request (Some files) heard reads stores writes old new status → IsServeMeant bytes (status_code status)
+  session_meant says_yes says_no never input Answered (tells t w) = let a = says_yes w.0 w.1 in record {
+    answered = λ _. inl refl;
+    refused_ = λ f some. absurd (not_both_kinds a.0 bytes f (same_bytes (files file) a.0 bytes a.1 holds) a.2 some);
+  }
+  session_meant says_yes says_no never input Refused (tells t w) = let a = says_no w.0 w.1 in record {
+    answered = λ none. absurd (not_refused a.0 bytes (same_bytes (files file) a.0 bytes a.1 holds) a.2 none);
+    refused_ = λ f some. inl refl;
+  }
+  session_meant says_yes says_no never input IndexRefused (tells t w) = absurd (never w.0 w.1)
+  session_meant says_yes says_no never input InputFault (tells t w) = absurd (input w.0 w.1)
+  session_meant says_yes says_no never input InputTooLong (tells t w) = record { answered = λ _. inr (inr refl); refused_ = λ f some. inr (inr refl) }
+  session_meant says_yes says_no never input Usage (tells t w) = absurd t
+  session_meant says_yes says_no never input ReadFault (tells t w) = absurd t
+  session_meant says_yes says_no never input StoreFault (tells t w) = absurd t
+  session_meant says_yes says_no never input WriteFault (tells t w) = absurd t
+  session_meant says_yes says_no never input NoMemory (tells t w) = absurd t
+  session_meant says_yes says_no never input IndexTooLarge (tells t w) = absurd t
+  session_meant says_yes says_no never input FileTooBig (tells t w) = absurd t
+  session_meant says_yes says_no never input Stopped (tells t w) = absurd t
+  session_meant says_yes says_no never input status (stops text says part) = record { answered = λ _. inr (inl refl); refused_ = λ f some. inr (inl refl) }
+  session_meant says_yes says_no never input status (lines text is c a) = let e = session_line status text is c in record { answered = λ _. inr (inl e); refused_ = λ f some. inr (inl e) }
+  session_meant says_yes says_no never input status (fails f p) = absurd (no_write f)
+
+pub complete : (request : Option Request) (told shelf : Option Files) (heard : Heard) (reads stores writes : Type 0) (old new : Option (List ℕ)) (status : Status) → Outcome request told heard reads stores writes old new status → LeavesAtEnd request told shelf status →
+    Completes request told heard reads stores writes (status_code status)
+complete None told shelf heard reads stores writes old new status o left = nothing_asked told reads stores writes old new status (plain None told reads stores writes old new heard (λ _ _ h. h) status o)
+complete (Some TheHelp) told shelf heard reads stores writes old new status o left = λ none. own_text told reads stores writes old new TheHelp (λ P h. h) (λ P h. h) (λ P h. h) (λ h. h) (λ text h. h) none status (plain (Some TheHelp) told reads stores writes old new heard (λ _ _ h. h) status o)
+complete (Some TheVersion) told shelf heard reads stores writes old new status o left = λ none. own_text told reads stores writes old new TheVersion (λ P h. h) (λ P h. h) (λ P h. h) (λ h. h) (λ text h. h) none status (plain (Some TheVersion) told reads stores writes old new heard (λ _ _ h. h) status o)
+complete (Some (OfFile file q)) None shelf heard reads stores writes old new status o left = tt
+complete (Some (OfFile file q)) (Some files) shelf heard reads stores writes old new status o left = λ bytes holds small no_read no_write. meant files reads stores writes old new file bytes holds small no_read no_write q status (plain (Some (OfFile file q)) (Some files) reads stores writes old new heard (λ _ _ h. h) status o)
+complete (Some (OfIndex kind file out)) None shelf heard reads stores writes old new status o left = tt
+complete (Some (OfIndex kind file out)) (Some files) shelf heard reads stores writes old new status o left = λ bytes holds small no_read no_write no_store. index_meant files reads stores writes old new file bytes holds small no_read no_write kind out no_store shelf status (plain (Some (OfIndex kind file out)) (Some files) reads stores writes old new heard (λ _ _ h. h) status o) left
+complete (Some (OfGdb index q)) None shelf heard reads stores writes old new status o left = tt
+complete (Some (OfGdb index q)) (Some files) shelf heard reads stores writes old new status o left = λ bytes holds small no_read no_write. look_meant files reads stores writes old new index bytes holds small no_read no_write q status (plain (Some (OfGdb index q)) (Some files) reads stores writes old new heard (λ _ _ h. h) status o)
+complete (Some (OfNames base index strings name)) None shelf heard reads stores writes old new status o left = tt
+complete (Some (OfNames base index strings name)) (Some files) shelf heard reads stores writes old new status o left = λ bytes has_index small_index no_read no_write held has_strings small_strings again_no_read again_no_write. names_meant files reads stores writes old new index strings bytes held has_index small_index has_strings small_strings no_read no_write base name status (plain (Some (OfNames base index strings name)) (Some files) reads stores writes old new heard (λ _ _ h. h) status o)
+complete (Some (OfServe wait file)) None shelf heard reads stores writes old new status o left = tt
+complete (Some (OfServe wait file)) (Some files) shelf heard reads stores writes old new status o left = λ bytes holds small no_read no_write no_input.
+    session_meant (Some (OfServe wait file)) files heard reads stores writes old new file bytes holds no_read (λ h. h) (fits MAX_FILE_BYTES (files file) bytes holds small) (λ h. h) (λ e. cc e) no_write
+    (λ text h. (h.0, h.1, h.2.0)) (λ text h. (h.0, h.1, h.2.0)) (λ text h. h.2) (λ text h. no_input h.2.0) status o

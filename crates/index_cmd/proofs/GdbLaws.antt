@@ -1,7 +1,6 @@
 -- The answer of a `.gdb_index`.
 use Rattle.std.proofs.Common.{◌≡◌, ℕ, List, Option, Some, None, Result, Ok, Err, refl, sym, ap, subst, ◌∙◌}
 use Rattle.std.specs.Prelude.{OnOk, OnErr, option_map, option_and_then}
-use Rattle.ix_base.specs.declared.fault.Fault.{Fault}
 use Rattle.index_model.specs.Answers.{Answer, Answered as Replied}
 use Rattle.index_model.specs.GdbIndexRead.{GdbIndex, gdb_index}
 use Rattle.index_model.specs.Queries.{Query, AskName, AskSimple, AskAddress, AskMain, AskCache, query_of}
@@ -10,14 +9,13 @@ use Rattle.index_model.proofs.Meanings.{same_some}
 use Rattle.outside.specs.declared.shelf.Failed.{Failed}
 use Rattle.outside.specs.Files.{Files}
 use Rattle.outside.specs.Written.{Appends, AppendsPrefix}
-use Rattle.index_model.specs.LookTexts.{text_of_index_fault}
 use Rattle.index_cmd.specs.FilesRead.{Holds}
 use Rattle.index_cmd.specs.GdbLooks.{gdb_text}
 use Rattle.index_cmd.specs.Requests.{Request, OfGdb, looked, offer_gdb, offered_gdb}
 use Rattle.index_cmd.specs.Replies.{SaysGdb, SaysLook, SaysReply, SaysRequest, Wrote, status_after}
 use Rattle.index_cmd.specs.Words.{Looked, query_text}
 use Rattle.index_cmd.specs.declared.status.Status.{Status}
-use Rattle.index_cmd.specs.declared.status.Status.TheVariants.{Answered, Refused, Usage, ReadFault, StoreFault, WriteFault, NoMemory, IndexRefused, IndexTooLarge, FileTooBig}
+use Rattle.index_cmd.specs.declared.status.Status.TheVariants.{Answered, Refused, Usage, ReadFault, StoreFault, WriteFault, NoMemory, IndexRefused, IndexTooLarge, FileTooBig, InputFault, InputTooLong, Stopped}
 use Rattle.index_cmd.proofs.AskLaws.{wrote_weaker}
 
 -- ---- a text is written
@@ -45,6 +43,9 @@ module _ (index : GdbIndex) (q : Query) (a : Answer) (is : gdb_text index q ≡ 
   short IndexRefused text h = absurd h
   short IndexTooLarge text h = absurd h
   short FileTooBig text h = absurd h
+  short InputFault text h = absurd h
+  short InputTooLong text h = absurd h
+  short Stopped text h = absurd h
 
   -- an answer of one line is that of the index
   pub wrote_short : (status : Status) (old new : Option (List ℕ)) → Wrote (SaysReply (Replied a)) status old new → Wrote (SaysLook index q) status old new
@@ -62,6 +63,9 @@ module _ (bytes : List ℕ) (index : GdbIndex) (opened : gdb_index bytes ≡ Ok 
   by_bytes IndexRefused text h = absurd h
   by_bytes IndexTooLarge text h = h
   by_bytes FileTooBig text h = h
+  by_bytes InputFault text h = h
+  by_bytes InputTooLong text h = h
+  by_bytes Stopped text h = h
 
   -- the answer of the index is that of its bytes
   pub wrote_opened : (status : Status) (old new : Option (List ℕ)) → Wrote (SaysLook index q) status old new → Wrote (SaysGdb bytes q) status old new
@@ -79,6 +83,9 @@ module _ (request : Option Request) (told : Option Files) (name bytes : List ℕ
   by_request NoMemory text h = h
   by_request IndexTooLarge text h = h
   by_request FileTooBig text h = h
+  by_request InputFault text h = h
+  by_request InputTooLong text h = h
+  by_request Stopped text h = h
 
   pub wrote_looked : (status : Status) (old new : Option (List ℕ)) → Wrote (SaysGdb bytes q) status old new → Wrote (SaysRequest request told) status old new
   wrote_looked status old new w =

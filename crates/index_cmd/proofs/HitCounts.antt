@@ -1,5 +1,5 @@
 -- How many entries a name has in an index within the limit of a file.
-use Rattle.std.proofs.Common.{◌≡◌, ℕ, zero, suc, ◌+◌, ◌*◌, ◌^◌, ◌<◌, ◌≤◌, Bool, true, false, cond, leb, eqb, ltb, List, [], ◌∷◌, ◌++◌, length, flat_map, filter, Option, Some, None, Result, Ok, Err, refl, sym, ap, subst, ◌∙◌, arith, length-append}
+use Rattle.std.proofs.Common.{◌≡◌, ℕ, zero, suc, ◌+◌, ◌*◌, ◌^◌, ◌<◌, ◌≤◌, Bool, true, false, cond, leb, eqb, ltb, List, [], ◌∷◌, length, flat_map, filter, Option, Some, None, Result, Ok, Err, refl, subst, arith, length-append}
 use Rattle.std.specs.Prelude.{IfOk, IfSome, bytes_eq}
 use Rattle.std.specs.List.{enumerate_from}
 use Rattle.std.proofs.lemmas.Bool.{leb-true}
@@ -13,8 +13,8 @@ use Rattle.index_model.specs.Layout.{below}
 use Rattle.index_model.specs.Strings.{offset_size}
 use Rattle.index_model.specs.NameAbbreviations.{Abbreviation, abbreviations}
 use Rattle.index_model.specs.NameHeader.{tables}
-use Rattle.index_model.specs.NameTables.{Counts, Table, Tables, counts, numbers, table, tables_behind}
-use Rattle.index_model.specs.NameIndexRead.{Name, NameHit, NameIndex, entries_at, entries_of_name, entry_with, is_bucket, is_hashed, name_at, name_index, name_index_hits, string_of}
+use Rattle.index_model.specs.NameTables.{Counts, Tables, counts, numbers, table, tables_behind}
+use Rattle.index_model.specs.NameIndexRead.{Name, NameIndex, entries_at, entries_of_name, entry_with, is_bucket, is_hashed, name_at, name_index, name_index_hits, string_of}
 
 -- ---- what holds of a value, step by step
 

@@ -1,14 +1,14 @@
 -- What the shelf holds, once a status's line is written.
-use Rattle.std.proofs.Common.{◌≡◌, ◌⊎◌, inl, inr, ℕ, List, Option, Some, None, refl, sym, ap, subst}
+use Rattle.std.proofs.Common.{◌≡◌, ◌⊎◌, inl, inr, ℕ, List, Option, Some, None, refl, subst}
 use Rattle.std.specs.Prelude.{option_map}
 use Rattle.index_model.specs.Queries.{Query}
 use Rattle.outside.specs.Files.{Files, SameFiles}
-use Rattle.index_cmd.specs.Requests.{Request, TheHelp, TheVersion, OfFile, OfIndex, OfGdb, OfNames, AsksIndex, StoresNothing}
+use Rattle.index_cmd.specs.Requests.{Request, TheHelp, TheVersion, OfFile, OfIndex, OfGdb, OfNames, OfServe, AsksIndex, StoresNothing}
 use Rattle.index_cmd.specs.Replies.{Causes, Ends, without_line, with_line, cut, line_of}
 use Rattle.index_cmd.specs.Statuses.{status_code}
 use Rattle.index_cmd.specs.Stores.{IsStored, IsPartStored, Leaves, LeavesAtEnd}
 use Rattle.index_cmd.specs.declared.status.Status.{Status}
-use Rattle.index_cmd.specs.declared.status.Status.TheVariants.{Answered, Refused, Usage, ReadFault, StoreFault, WriteFault, NoMemory, IndexRefused, IndexTooLarge, FileTooBig}
+use Rattle.index_cmd.specs.declared.status.Status.TheVariants.{Answered, Refused, Usage, ReadFault, StoreFault, WriteFault, NoMemory, IndexRefused, IndexTooLarge, FileTooBig, InputFault, InputTooLong, Stopped}
 use Rattle.index_cmd.proofs.Outcomes.{one_status}
 
 -- ---- a command that stores nothing
@@ -32,6 +32,7 @@ stored_same (Some TheVersion) old new n h = h
 stored_same (Some (OfFile file q)) old new n h = h
 stored_same (Some (OfGdb index q)) old new n h = h
 stored_same (Some (OfNames base index strings name)) old new n h = h
+stored_same (Some (OfServe wait file)) old new n h = h
 stored_same (Some (OfIndex kind file out)) old new n h = absurd n
 
 same_stored : (request : Option Request) (old new : Option Files) → StoresNothing request → SameFiles old new → IsStored request old new
@@ -41,6 +42,7 @@ same_stored (Some TheVersion) old new n h = h
 same_stored (Some (OfFile file q)) old new n h = h
 same_stored (Some (OfGdb index q)) old new n h = h
 same_stored (Some (OfNames base index strings name)) old new n h = h
+same_stored (Some (OfServe wait file)) old new n h = h
 same_stored (Some (OfIndex kind file out)) old new n h = absurd n
 
 no_part : (request : Option Request) (old new : Option Files) → StoresNothing request → IsPartStored request old new → ⊥
@@ -50,6 +52,7 @@ no_part (Some TheVersion) old new n h = h
 no_part (Some (OfFile file q)) old new n h = h
 no_part (Some (OfGdb index q)) old new n h = h
 no_part (Some (OfNames base index strings name)) old new n h = h
+no_part (Some (OfServe wait file)) old new n h = h
 no_part (Some (OfIndex kind file out)) old new n h = n
 
 no_index : (request : Option Request) (P : Type 0) → StoresNothing request → AsksIndex request (λ _ _ _. P) → ⊥
@@ -59,6 +62,7 @@ no_index (Some TheVersion) P n h = h
 no_index (Some (OfFile file q)) P n h = h
 no_index (Some (OfGdb index q)) P n h = h
 no_index (Some (OfNames base index strings name)) P n h = h
+no_index (Some (OfServe wait file)) P n h = h
 no_index (Some (OfIndex kind file out)) P n h = n
 
 module _ (request : Option Request) (old new : Option Files) (n : StoresNothing request) where
@@ -74,6 +78,9 @@ module _ (request : Option Request) (old new : Option Files) (n : StoresNothing 
   leaves_same told reads stores writes IndexRefused c same = same
   leaves_same told reads stores writes IndexTooLarge c same = same
   leaves_same told reads stores writes FileTooBig c same = same
+  leaves_same told reads stores writes InputFault c same = same
+  leaves_same told reads stores writes InputTooLong c same = same
+  leaves_same told reads stores writes Stopped c same = same
 
   pub kept : (status : Status) → LeavesAtEnd request old new status → SameFiles old new
   kept Answered h = stored_same request old new n h
@@ -87,6 +94,9 @@ module _ (request : Option Request) (old new : Option Files) (n : StoresNothing 
   kept IndexRefused h = h
   kept IndexTooLarge h = h
   kept FileTooBig h = h
+  kept InputFault h = h
+  kept InputTooLong h = h
+  kept Stopped h = h
 
 -- ---- any command
 
@@ -102,6 +112,9 @@ module _ (request : Option Request) (old new : Option Files) where
   as_left IndexRefused h = h
   as_left IndexTooLarge h = h
   as_left FileTooBig h = h
+  as_left InputFault h = h
+  as_left InputTooLong h = h
+  as_left Stopped h = h
 
   -- the line wasn't written whole
   cut_left : (status : Status) (text : List ℕ) → line_of status ≡ Some text → Leaves request old new status → SameFiles old new ⊎ IsPartStored request old new
@@ -115,6 +128,9 @@ module _ (request : Option Request) (old new : Option Files) where
   cut_left Refused text has h = absurd (cc has)
   cut_left IndexRefused text has h = absurd (cc has)
   cut_left WriteFault text has h = absurd (cc has)
+  cut_left InputFault text has h = absurd (cc has)
+  cut_left InputTooLong text has h = absurd (cc has)
+  cut_left Stopped text has h = absurd (cc has)
 
   pub left_at_end : (status result : Status) (written_old written_new : Option (List ℕ)) (failed : Type 0) → Ends status written_old written_new failed result → Leaves request old new status → LeavesAtEnd request old new result
   left_at_end status result a b failed (without_line none same) h = as_left status h
@@ -122,8 +138,8 @@ module _ (request : Option Request) (old new : Option Files) where
   left_at_end status result a b failed (cut text has f part) h = cut_left status text has h
 
   -- by the number of a status
-  pub left_by : (status other : Status) → status_code status ≡ status_code other → LeavesAtEnd request old new status → LeavesAtEnd request old new other
-  left_by status other e h = subst (LeavesAtEnd request old new) (one_status status other e) h
+  pub left_by : (status other : Status) → (status_code other ≡ 7 → ⊥) → status_code status ≡ status_code other → LeavesAtEnd request old new status → LeavesAtEnd request old new other
+  left_by status other n e h = subst (LeavesAtEnd request old new) (one_status status other n e) h
 
   -- where the index isn't stored and no store and no write failed, all is as before
   pub untouched : (status : Status) → (status_code status ≡ 0 → ⊥) → (status_code status ≡ 4 → ⊥) → (status_code status ≡ 5 → ⊥) → LeavesAtEnd request old new status → SameFiles old new
@@ -137,3 +153,6 @@ module _ (request : Option Request) (old new : Option Files) where
   untouched IndexRefused a b c h = h
   untouched IndexTooLarge a b c h = h
   untouched FileTooBig a b c h = h
+  untouched InputFault a b c h = h
+  untouched InputTooLong a b c h = h
+  untouched Stopped a b c h = h

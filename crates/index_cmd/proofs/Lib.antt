@@ -1,13 +1,14 @@
 mod Digits
 mod FileReads
 mod Joined
-mod Looks
-mod Steps
 mod Outcomes
 mod AskLaws
 mod GdbLaws
 mod NamesLaws
 mod HitCounts
 mod StoreLaws
+mod BoardLaws
 mod Leavings
 mod Completeness
+mod SessionTexts
+mod ListenLaws

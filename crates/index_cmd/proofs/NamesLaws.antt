@@ -7,7 +7,7 @@ use Rattle.index_cmd.specs.Requests.{Request, OfNames, looked_names, offered_nam
 use Rattle.index_cmd.specs.Replies.{SaysNames, SaysRequest, Wrote}
 use Rattle.index_cmd.specs.Words.{NamesLooked, query_text}
 use Rattle.index_cmd.specs.declared.status.Status.{Status}
-use Rattle.index_cmd.specs.declared.status.Status.TheVariants.{Answered, Refused, Usage, ReadFault, StoreFault, WriteFault, NoMemory, IndexRefused, IndexTooLarge, FileTooBig}
+use Rattle.index_cmd.specs.declared.status.Status.TheVariants.{Answered, Refused, Usage, ReadFault, StoreFault, WriteFault, NoMemory, IndexRefused, IndexTooLarge, FileTooBig, InputFault, InputTooLong, Stopped}
 use Rattle.index_cmd.proofs.AskLaws.{wrote_weaker}
 
 module _ (request : Option Request) (told : Option Files) (base : ℕ) (index strings bytes held name : List ℕ) (is : request ≡ Some (OfNames base index strings name)) (has_index : Holds told index bytes) (has_strings : Holds told strings held) where
@@ -22,6 +22,9 @@ module _ (request : Option Request) (told : Option Files) (base : ℕ) (index st
   by_request NoMemory text h = h
   by_request IndexTooLarge text h = h
   by_request FileTooBig text h = h
+  by_request InputFault text h = h
+  by_request InputTooLong text h = h
+  by_request Stopped text h = h
 
   pub wrote_names : (status : Status) (old new : Option (List ℕ)) → Wrote (SaysNames bytes held base name) status old new → Wrote (SaysRequest request told) status old new
   wrote_names status old new w =

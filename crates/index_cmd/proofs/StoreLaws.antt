@@ -1,37 +1,24 @@
 -- An index is stored.
-use Rattle.std.proofs.Common.{◌≡◌, ◌⊎◌, inl, inr, ℕ, ◌<◌, ◌≤◌, Bool, true, false, eqb, ltb, List, [], take, Option, Some, None, Result, Ok, Err, refl, sym, ap, subst, ◌∙◌, arith}
-use Rattle.std.specs.Prelude.{IsSomeAnd}
-use Rattle.std.proofs.lemmas.Bool.{eqb-true, eqb-false, ltb-true, ltb-false}
+use Rattle.std.proofs.Common.{◌≡◌, ◌⊎◌, inl, inr, ℕ, List, [], take, Option, Some, None, refl, sym, ap, subst, ◌∙◌}
 use Rattle.ix_base.specs.declared.fault.Fault.{Fault}
-use Rattle.ix_base.specs.declared.fault.Stop.{Stop}
-use Rattle.ix_base.specs.declared.fault.Stop.TheVariants as stops
-use Rattle.unit_headers.specs.Images.{Image, image_of}
-use Rattle.unit_headers.proofs.Images.{parts_of}
 use Rattle.index_model.specs.declared.job.CacheKind.{CacheKind}
 use Rattle.index_model.specs.declared.job.Job.TheVariants.{Write}
 use Rattle.index_model.specs.Answers.{Refused as Refuses}
 use Rattle.index_model.specs.Cache.{Cache, GdbBytes, NameBytes, DoesNotFit, cache_in}
-use Rattle.index_model.specs.Faults.{Built, built_of, first_fault}
-use Rattle.index_model.specs.Gives.{StopsAs}
-use Rattle.index_model.specs.LawsCore.{StateIsRight}
-use Rattle.index_model.specs.Machine.{level, stage}
-use Rattle.index_model.specs.LawsCore.{plan_of}
-use Rattle.index_model.specs.Outputs.{Makes, CacheOf}
-use Rattle.index_model.specs.Parts.{Parts, parts}
+use Rattle.index_model.specs.Faults.{built_of, first_fault}
+use Rattle.index_model.specs.Outputs.{Subject, Makes, CacheOf}
 use Rattle.index_jobs.proofs.Lists.{ok_and}
 use Rattle.outside.specs.Files.{Files, SameFiles, Stored, StoredOrPrefix}
 use Rattle.outside.proofs.FileLaws.{same_files-trans}
 use Rattle.outside.proofs.WrittenLaws.{appends_none}
-use Rattle.stage_core.specs.Machines.{Machine}
-use Rattle.index_cmd.specs.Builds.{IsBuildOf}
 use Rattle.index_cmd.specs.FilesRead.{Holds}
-use Rattle.index_cmd.specs.Indexes.{IsFirstFault, IsIndexOf}
+use Rattle.index_cmd.specs.Indexes.{CausesOfIndex, IsIndexOf, LeavesIndex, SaysIndex}
 use Rattle.index_cmd.specs.Requests.{Request, OfIndex}
 use Rattle.index_cmd.specs.Replies.{Causes, CausesOfResult, CausesOfStore, SaysReply, SaysRequest, Wrote}
 use Rattle.index_cmd.specs.Stores.{Keeps, KeepsPart, Leaves, StoreLeaves, strings_name}
 use Rattle.index_cmd.specs.declared.status.Status.{Status}
-use Rattle.index_cmd.specs.declared.status.Status.TheVariants.{Answered, Refused, Usage, ReadFault, StoreFault, WriteFault, NoMemory, IndexRefused, IndexTooLarge, FileTooBig}
-use Rattle.index_cmd.proofs.AskLaws.{image_fault, wrote_weaker}
+use Rattle.index_cmd.specs.declared.status.Status.TheVariants.{Answered, Refused, Usage, ReadFault, StoreFault, WriteFault, NoMemory, IndexRefused, IndexTooLarge, FileTooBig, InputFault, InputTooLong, Stopped}
+use Rattle.index_cmd.proofs.AskLaws.{wrote_weaker}
 
 -- ---- a shelf that holds the same
 
@@ -71,109 +58,170 @@ module _ (name : List ℕ) (a b c : Option Files) (same : SameFiles a b) where
   keeps_part_from (NameBytes names strings) h = part_of_both names strings h
   keeps_part_from DoesNotFit h = h
 
--- ---- an index that was asked for
+-- ---- an index of these bytes is stored
 
-module _ (kind : CacheKind) (file out bytes : List ℕ) where
+module _ (file : List ℕ) (kind : CacheKind) (cache : Cache) (stores : Type 0) where
+  -- nothing is written then
+  pub store_wrote : (written : Option (List ℕ)) (status : Status) → CausesOfStore stores cache status → Wrote (SaysIndex file) status written written
+  store_wrote written Answered c = ([], refl, appends_none written)
+  store_wrote written Refused c = absurd c
+  store_wrote written Usage c = absurd c
+  store_wrote written ReadFault c = absurd c
+  store_wrote written StoreFault c = appends_none written
+  store_wrote written WriteFault c = absurd c
+  store_wrote written NoMemory c = appends_none written
+  store_wrote written IndexRefused c = absurd c
+  store_wrote written IndexTooLarge c = appends_none written
+  store_wrote written FileTooBig c = absurd c
+  store_wrote written InputFault c = absurd c
+  store_wrote written InputTooLong c = absurd c
+  store_wrote written Stopped c = absurd c
+
+  module _ (is : IsIndexOf file kind cache) where
+    pub store_causes : (writes : Type 0) (status : Status) → CausesOfStore stores cache status → CausesOfIndex file kind stores writes status
+    store_causes writes Answered c = tt
+    store_causes writes Refused c = absurd c
+    store_causes writes Usage c = absurd c
+    store_causes writes ReadFault c = absurd c
+    store_causes writes StoreFault c = c
+    store_causes writes WriteFault c = absurd c
+    store_causes writes NoMemory c = tt
+    store_causes writes IndexRefused c = absurd c
+    store_causes writes IndexTooLarge c = record { built = is.built; accepted = is.accepted; holds = sym is.holds ∙ c }
+    store_causes writes FileTooBig c = absurd c
+    store_causes writes InputFault c = absurd c
+    store_causes writes InputTooLong c = absurd c
+    store_causes writes Stopped c = absurd c
+
+    pub store_leaves : (old new : Option Files) (out : List ℕ) (status : Status) → CausesOfStore stores cache status → StoreLeaves old new out cache status → LeavesIndex file kind old new out status
+    store_leaves old new out Answered c h = record { built = is.built; accepted = is.accepted; holds = subst (Keeps old new out) is.holds h }
+    store_leaves old new out Refused c h = absurd c
+    store_leaves old new out Usage c h = absurd c
+    store_leaves old new out ReadFault c h = absurd c
+    store_leaves old new out StoreFault c h = record { built = is.built; accepted = is.accepted; holds = subst (KeepsPart old new out) is.holds h }
+    store_leaves old new out WriteFault c h = absurd c
+    store_leaves old new out NoMemory c h = h
+    store_leaves old new out IndexRefused c h = absurd c
+    store_leaves old new out IndexTooLarge c h = h
+    store_leaves old new out FileTooBig c h = absurd c
+    store_leaves old new out InputFault c h = absurd c
+    store_leaves old new out InputTooLong c h = absurd c
+    store_leaves old new out Stopped c h = absurd c
+
+-- ---- they have a fault
+
+module _ (file : List ℕ) (kind : CacheKind) (f : Fault) (first : first_fault file ≡ Some f) where
+  refusal : (status : Status) (text : List ℕ) → SaysReply (Refuses f) status text → SaysIndex file status text
+  refusal Answered text h = absurd h
+  refusal Refused text h = record { fault = f; first = first; text_is = h }
+  refusal Usage text h = absurd h
+  refusal ReadFault text h = absurd h
+  refusal StoreFault text h = absurd h
+  refusal WriteFault text h = absurd h
+  refusal NoMemory text h = absurd h
+  refusal IndexRefused text h = absurd h
+  refusal IndexTooLarge text h = absurd h
+  refusal FileTooBig text h = absurd h
+  refusal InputFault text h = absurd h
+  refusal InputTooLong text h = absurd h
+  refusal Stopped text h = absurd h
+
+  pub refusal_wrote : (status : Status) (old new : Option (List ℕ)) → Wrote (SaysReply (Refuses f)) status old new → Wrote (SaysIndex file) status old new
+  refusal_wrote status old new w = wrote_weaker (SaysReply (Refuses f)) (SaysIndex file) refusal status old new w
+
+  pub refusal_causes : (stores writes : Type 0) (status : Status) → CausesOfResult writes status → CausesOfIndex file kind stores writes status
+  refusal_causes stores writes Answered c = tt
+  refusal_causes stores writes Refused c = tt
+  refusal_causes stores writes Usage c = absurd c
+  refusal_causes stores writes ReadFault c = absurd c
+  refusal_causes stores writes StoreFault c = absurd c
+  refusal_causes stores writes WriteFault c = c
+  refusal_causes stores writes NoMemory c = tt
+  refusal_causes stores writes IndexRefused c = tt
+  refusal_causes stores writes IndexTooLarge c = absurd c
+  refusal_causes stores writes FileTooBig c = absurd c
+  refusal_causes stores writes InputFault c = absurd c
+  refusal_causes stores writes InputTooLong c = absurd c
+  refusal_causes stores writes Stopped c = absurd c
+
+  pub refusal_leaves : (status : Status) (old new : Option (List ℕ)) (writes : Type 0) (shelf after : Option Files) (out : List ℕ) → Wrote (SaysReply (Refuses f)) status old new → CausesOfResult writes status → SameFiles shelf after → LeavesIndex file kind shelf after out status
+  refusal_leaves Answered old new writes shelf after out w c same = absurd w.1
+  refusal_leaves Refused old new writes shelf after out w c same = same
+  refusal_leaves Usage old new writes shelf after out w c same = absurd c
+  refusal_leaves ReadFault old new writes shelf after out w c same = absurd c
+  refusal_leaves StoreFault old new writes shelf after out w c same = absurd c
+  refusal_leaves WriteFault old new writes shelf after out w c same = same
+  refusal_leaves NoMemory old new writes shelf after out w c same = same
+  refusal_leaves IndexRefused old new writes shelf after out w c same = same
+  refusal_leaves IndexTooLarge old new writes shelf after out w c same = absurd c
+  refusal_leaves FileTooBig old new writes shelf after out w c same = absurd c
+  refusal_leaves InputFault old new writes shelf after out w c same = absurd c
+  refusal_leaves InputTooLong old new writes shelf after out w c same = absurd c
+  refusal_leaves Stopped old new writes shelf after out w c same = absurd c
+
+-- ---- it was asked for
+
+module _ (kind : CacheKind) (file out bytes : List ℕ) (told : Option Files) (holds : Holds told file bytes) where
   abbrev request : Option Request
   request = Some (OfIndex kind file out)
 
-  module _ (cache : Cache) (stores : Type 0) where
-    -- nothing is written where it is stored
-    pub stored_wrote : (told : Option Files) (written : Option (List ℕ)) (status : Status) → CausesOfStore stores cache status → Wrote (SaysRequest request told) status written written
-    stored_wrote told written Answered c = ([], refl, appends_none written)
-    stored_wrote told written StoreFault c = appends_none written
-    stored_wrote told written NoMemory c = appends_none written
-    stored_wrote told written IndexTooLarge c = appends_none written
-    stored_wrote told written Refused c = absurd c
-    stored_wrote told written Usage c = absurd c
-    stored_wrote told written ReadFault c = absurd c
-    stored_wrote told written WriteFault c = absurd c
-    stored_wrote told written IndexRefused c = absurd c
-    stored_wrote told written FileTooBig c = absurd c
+  says_index : (status : Status) (text : List ℕ) → SaysIndex bytes status text → SaysRequest request told status text
+  says_index Answered text h = h
+  says_index Refused text h = (bytes, holds, h)
+  says_index Usage text h = absurd h
+  says_index ReadFault text h = absurd h
+  says_index StoreFault text h = absurd h
+  says_index WriteFault text h = absurd h
+  says_index NoMemory text h = absurd h
+  says_index IndexRefused text h = absurd h
+  says_index IndexTooLarge text h = absurd h
+  says_index FileTooBig text h = absurd h
+  says_index InputFault text h = absurd h
+  says_index InputTooLong text h = absurd h
+  says_index Stopped text h = absurd h
 
-    module _ (told : Option Files) (holds : Holds told file bytes) (is : IsIndexOf bytes kind cache) where
-      pub stored_causes : (reads writes : Type 0) (status : Status) → CausesOfStore stores cache status → Causes request told reads stores writes status
-      stored_causes reads writes Answered c = tt
-      stored_causes reads writes StoreFault c = c
-      stored_causes reads writes NoMemory c = tt
-      stored_causes reads writes IndexTooLarge c = (bytes, holds, record { built = is.built; accepted = is.accepted; holds = sym is.holds ∙ c })
-      stored_causes reads writes Refused c = absurd c
-      stored_causes reads writes Usage c = absurd c
-      stored_causes reads writes ReadFault c = absurd c
-      stored_causes reads writes WriteFault c = absurd c
-      stored_causes reads writes IndexRefused c = absurd c
-      stored_causes reads writes FileTooBig c = absurd c
+  pub index_wrote : (status : Status) (old new : Option (List ℕ)) → Wrote (SaysIndex bytes) status old new → Wrote (SaysRequest request told) status old new
+  index_wrote status old new w = wrote_weaker (SaysIndex bytes) (SaysRequest request told) says_index status old new w
 
-      pub stored_leaves : (mid new : Option Files) → SameFiles told mid → (status : Status) → CausesOfStore stores cache status → StoreLeaves mid new out cache status → Leaves request told new status
-      stored_leaves mid new same Answered c h =
-          (bytes, holds, record { built = is.built; accepted = is.accepted; holds = subst (Keeps told new out) is.holds (keeps_from out told mid new same cache h) })
-      stored_leaves mid new same StoreFault c h =
-          (bytes, holds, record { built = is.built; accepted = is.accepted; holds = subst (KeepsPart told new out) is.holds (keeps_part_from out told mid new same cache h) })
-      stored_leaves mid new same NoMemory c h = same_files-trans told mid new same h
-      stored_leaves mid new same IndexTooLarge c h = same_files-trans told mid new same h
-      stored_leaves mid new same Refused c h = absurd c
-      stored_leaves mid new same Usage c h = absurd c
-      stored_leaves mid new same ReadFault c h = absurd c
-      stored_leaves mid new same WriteFault c h = absurd c
-      stored_leaves mid new same IndexRefused c h = absurd c
-      stored_leaves mid new same FileTooBig c h = absurd c
+  pub index_causes : (reads stores writes : Type 0) (status : Status) → CausesOfIndex bytes kind stores writes status → Causes request told reads stores writes status
+  index_causes reads stores writes Answered c = tt
+  index_causes reads stores writes Refused c = tt
+  index_causes reads stores writes Usage c = absurd c
+  index_causes reads stores writes ReadFault c = absurd c
+  index_causes reads stores writes StoreFault c = c
+  index_causes reads stores writes WriteFault c = c
+  index_causes reads stores writes NoMemory c = tt
+  index_causes reads stores writes IndexRefused c = tt
+  index_causes reads stores writes IndexTooLarge c = (bytes, holds, c)
+  index_causes reads stores writes FileTooBig c = absurd c
+  index_causes reads stores writes InputFault c = absurd c
+  index_causes reads stores writes InputTooLong c = absurd c
+  index_causes reads stores writes Stopped c = absurd c
 
-  -- ---- a file with a fault
+  pub index_leaves : (mid new : Option Files) → SameFiles told mid → (stores writes : Type 0) (status : Status) → CausesOfIndex bytes kind stores writes status → LeavesIndex bytes kind mid new out status → Leaves request told new status
+  index_leaves mid new same stores writes Answered c h = (bytes, holds, record { built = h.built; accepted = h.accepted; holds = keeps_from out told mid new same (cache_in kind h.built) h.holds })
+  index_leaves mid new same stores writes Refused c h = same_files-trans told mid new same h
+  index_leaves mid new same stores writes Usage c h = absurd c
+  index_leaves mid new same stores writes ReadFault c h = absurd c
+  index_leaves mid new same stores writes StoreFault c h = (bytes, holds, record { built = h.built; accepted = h.accepted; holds = keeps_part_from out told mid new same (cache_in kind h.built) h.holds })
+  index_leaves mid new same stores writes WriteFault c h = same_files-trans told mid new same h
+  index_leaves mid new same stores writes NoMemory c h = same_files-trans told mid new same h
+  index_leaves mid new same stores writes IndexRefused c h = same_files-trans told mid new same h
+  index_leaves mid new same stores writes IndexTooLarge c h = same_files-trans told mid new same h
+  index_leaves mid new same stores writes FileTooBig c h = absurd c
+  index_leaves mid new same stores writes InputFault c h = absurd c
+  index_leaves mid new same stores writes InputTooLong c h = absurd c
+  index_leaves mid new same stores writes Stopped c h = absurd c
 
-  module _ (told : Option Files) (holds : Holds told file bytes) (f : Fault) (first : first_fault bytes ≡ Some f) where
-    refusal : (status : Status) (text : List ℕ) → SaysReply (Refuses f) status text → SaysRequest request told status text
-    refusal Refused text h = (bytes, holds, record { fault = f; first = first; text_is = h })
-    refusal Answered text h = absurd h
-    refusal Usage text h = absurd h
-    refusal ReadFault text h = absurd h
-    refusal StoreFault text h = absurd h
-    refusal WriteFault text h = absurd h
-    refusal NoMemory text h = absurd h
-    refusal IndexRefused text h = absurd h
-    refusal IndexTooLarge text h = absurd h
-    refusal FileTooBig text h = absurd h
+-- ---- by a board
 
-    pub wrote_refusal : (status : Status) (old new : Option (List ℕ)) → Wrote (SaysReply (Refuses f)) status old new → Wrote (SaysRequest request told) status old new
-    wrote_refusal status old new w = wrote_weaker (SaysReply (Refuses f)) (SaysRequest request told) refusal status old new w
+module _ (s : Subject) (file : List ℕ) (kind : CacheKind) (same : s.file ≡ file) (writes : s.cache ≡ kind) where
+  -- an index that a reader of the board keeps is that of the file
+  pub index_kept : (c : Cache) → Makes s Write (CacheOf c) → IsIndexOf file kind c
+  index_kept c makes =
+      let b = ok_and (built_of s.file) (λ b. c ≡ cache_in s.cache b) makes in
+      record { built = b.0; accepted = ap built_of (sym same) ∙ b.1; holds = b.2 ∙ ap (λ (k : CacheKind). cache_in k b.0) writes }
 
-    pub refusal_leaves : (status : Status) (old new : Option (List ℕ)) (writes : Type 0) (shelf : Option Files) → Wrote (SaysReply (Refuses f)) status old new → CausesOfResult writes status → SameFiles told shelf → Leaves request told shelf status
-    refusal_leaves Answered old new writes shelf w c same = absurd w.1
-    refusal_leaves StoreFault old new writes shelf w c same = absurd c
-    refusal_leaves Refused old new writes shelf w c same = same
-    refusal_leaves Usage old new writes shelf w c same = same
-    refusal_leaves ReadFault old new writes shelf w c same = same
-    refusal_leaves WriteFault old new writes shelf w c same = same
-    refusal_leaves NoMemory old new writes shelf w c same = same
-    refusal_leaves IndexRefused old new writes shelf w c same = same
-    refusal_leaves IndexTooLarge old new writes shelf w c same = same
-    refusal_leaves FileTooBig old new writes shelf w c same = same
-
--- ---- by a core
-
-pub image_stops : (file : List ℕ) (s : Stop) → StopsAs s (image_of file) → IsFirstFault file s
-image_stops file stops.Memory h = tt
-image_stops file (stops.Fault f) h = image_fault file f h
-
-module _ (file : List ℕ) (image : Image) (opened : image_of file ≡ Ok image) (kind : CacheKind) (m : Machine) (build : IsBuildOf image kind m) (right : StateIsRight m.subject m.state) where
-  file_is : m.subject.file ≡ file
-  file_is = sym (parts_of m.subject.file image build.image_is).file ∙ (parts_of file image opened).file
-
-  -- what is published of the index is the index of the file
-  pub index_published : (c : Cache) → (parts m.state).cache ≡ Some c → IsIndexOf file kind c
-  index_published c is = by (ltb (level (plan_of m.subject) m.state) 3) refl
-    where
-      by : (b : Bool) → ltb (level (plan_of m.subject) m.state) 3 ≡ b → IsIndexOf file kind c
-      by true e = let none : None ≡ Some c = sym (right.parts.no_cache (ltb-true (level (plan_of m.subject) m.state) 3 e)) ∙ is in absurd (cc none)
-      by false e =
-          let made : Makes m.subject Write (CacheOf c) = subst (λ (o : Option Cache). IsSomeAnd o (λ c. Makes m.subject Write (CacheOf c))) is (right.parts.cache (omega (arith, ltb-false (level (plan_of m.subject) m.state) 3 e))) in
-          let b = ok_and (built_of m.subject.file) (λ b. c ≡ cache_in m.subject.cache b) made in
-          record { built = b.0; accepted = ap built_of (sym file_is) ∙ b.1; holds = b.2 ∙ ap (λ (k : CacheKind). cache_in k b.0) build.cache }
-
-  -- what is published of a fault is the first of the file
-  pub fault_published : (f : Fault) → (parts m.state).fault ≡ Some f → first_fault file ≡ Some f
-  fault_published f is = by (eqb (stage (plan_of m.subject) m.state) 4) refl
-    where
-      by : (b : Bool) → eqb (stage (plan_of m.subject) m.state) 4 ≡ b → first_fault file ≡ Some f
-      by true e =
-          ap first_fault (sym file_is) ∙ subst (λ (o : Option Fault). IsSomeAnd o (λ f. first_fault m.subject.file ≡ Some f)) is (right.refused (eqb-true (stage (plan_of m.subject) m.state) 4 e))
-      by false e = let none : None ≡ Some f = sym (right.no_fault (eqb-false (stage (plan_of m.subject) m.state) 4 e)) ∙ is in absurd (cc none)
+  -- so is a fault
+  pub fault_kept : (f : Fault) → first_fault s.file ≡ Some f → first_fault file ≡ Some f
+  fault_kept f first = ap first_fault (sym same) ∙ first

@@ -1,17 +1,36 @@
--- What became of the index of a file.
-use Rattle.std.specs.Prelude.{◌≡◌, ℕ, List, Some, ⊤}
-use Rattle.ix_base.specs.declared.fault.Stop.{Stop}
-use Rattle.ix_base.specs.declared.fault.Stop.TheVariants as stops
+-- What became of the index of a file's bytes.
+use Rattle.std.specs.Prelude.{◌≡◌, ℕ, List, [], Option, ⊤}
 use Rattle.index_model.specs.declared.job.CacheKind.{CacheKind}
 use Rattle.index_model.specs.Cache.{Cache}
-use Rattle.index_model.specs.Faults.{first_fault}
-use Rattle.index_cmd.specs.Stores.{ForIndexOf}
+use Rattle.outside.specs.Files.{Files, SameFiles}
+use Rattle.index_cmd.specs.Replies.{IsRefusalOf, IsTooLarge}
+use Rattle.index_cmd.specs.Stores.{ForIndexOf, Keeps, KeepsPart}
+use Rattle.index_cmd.specs.declared.status.Status.{Status}
+use Rattle.index_cmd.specs.declared.status.Status.TheVariants.{Answered, Refused, StoreFault, WriteFault, NoMemory, IndexRefused, IndexTooLarge}
 
 -- the index of this kind of these bytes, which have no fault
 abbrev pub IsIndexOf : List ℕ → CacheKind → Cache → Type 0
 IsIndexOf file kind cache = ForIndexOf file kind (λ c. cache ≡ c)
 
--- the first fault of the bytes, or want of memory
-abbrev pub IsFirstFault : List ℕ → Stop → Type 0
-IsFirstFault file (stops.Fault f) = first_fault file ≡ Some f
-IsFirstFault file stops.Memory = ⊤
+-- nothing is said of an index that is stored; of a file with a fault, its first one
+abbrev pub SaysIndex : List ℕ → Status → List ℕ → Type 0
+SaysIndex file Answered text = text ≡ []
+SaysIndex file Refused text = IsRefusalOf file text
+SaysIndex file other text = ⊥
+
+-- the cause of a status, by whether a store or a write failed
+abbrev pub CausesOfIndex : List ℕ → CacheKind → Type 0 → Type 0 → Status → Type 0
+CausesOfIndex file kind stores writes Answered = ⊤
+CausesOfIndex file kind stores writes Refused = ⊤
+CausesOfIndex file kind stores writes IndexRefused = ⊤
+CausesOfIndex file kind stores writes NoMemory = ⊤
+CausesOfIndex file kind stores writes StoreFault = stores
+CausesOfIndex file kind stores writes WriteFault = writes
+CausesOfIndex file kind stores writes IndexTooLarge = ForIndexOf file kind IsTooLarge
+CausesOfIndex file kind stores writes other = ⊥
+
+-- what the shelf holds then
+abbrev pub LeavesIndex : List ℕ → CacheKind → Option Files → Option Files → List ℕ → Status → Type 0
+LeavesIndex file kind old new out Answered = ForIndexOf file kind (Keeps old new out)
+LeavesIndex file kind old new out StoreFault = ForIndexOf file kind (KeepsPart old new out)
+LeavesIndex file kind old new out other = SameFiles old new

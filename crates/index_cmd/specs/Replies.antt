@@ -17,10 +17,10 @@ use Rattle.outside.specs.Written.{Appends, AppendsPrefix}
 use Rattle.index_cmd.specs.FilesRead.{Holds, HoldsMore}
 use Rattle.index_cmd.specs.GdbLooks.{gdb_text, IsGdbAnswerOf, IsGdbRefusalOf}
 use Rattle.index_cmd.specs.NamesLooks.{IsNamesAnswerOf, IsNamesRefusalOf}
-use Rattle.index_cmd.specs.Requests.{Request, TheHelp, TheVersion, OfFile, OfIndex, OfGdb, OfNames, AsksFile, AsksProgram, AsksIndex}
+use Rattle.index_cmd.specs.Requests.{Request, TheHelp, TheVersion, OfFile, OfIndex, OfGdb, OfNames, OfServe, AsksFile, AsksProgram, AsksIndex}
 use Rattle.index_cmd.specs.Stores.{ForIndex}
 use Rattle.index_cmd.specs.declared.status.Status.{Status}
-use Rattle.index_cmd.specs.declared.status.Status.TheVariants.{Answered, Refused, Usage, ReadFault, StoreFault, WriteFault, NoMemory, IndexRefused, IndexTooLarge, FileTooBig}
+use Rattle.index_cmd.specs.declared.status.Status.TheVariants.{Answered, Refused, Usage, ReadFault, StoreFault, WriteFault, InputFault, NoMemory, IndexRefused, IndexTooLarge, FileTooBig, InputTooLong, Stopped}
 use Rattle.index_cmd.specs.declared.about.TheConstants as about
 
 -- ---- texts
@@ -41,7 +41,7 @@ pub record IsRefusalOf (file text : List ℕ) : Type 0 where
 abbrev pub OfFileBytes : Option Files → List ℕ → (List ℕ → Type 0) → Type 0
 OfFileBytes told file P = (bytes : List ℕ) × Holds told file bytes × P bytes
 
--- the text answers what was asked; that of a stored index is empty
+-- the text answers what was asked, where that isn't a session; that of a stored index is empty
 abbrev pub IsAnswer : Option Request → Option Files → List ℕ → Type 0
 IsAnswer None told text = ⊥
 IsAnswer (Some TheHelp) told text = text ≡ about.HELP.now
@@ -50,6 +50,7 @@ IsAnswer (Some (OfFile file q)) told text = OfFileBytes told file (λ bytes. IsA
 IsAnswer (Some (OfIndex kind file out)) told text = text ≡ []
 IsAnswer (Some (OfGdb index q)) told text = OfFileBytes told index (λ bytes. IsGdbAnswerOf bytes q text)
 IsAnswer (Some (OfNames base index strings name)) told text = OfFileBytes told index (λ bytes. OfFileBytes told strings (λ held. IsNamesAnswerOf bytes held base name text))
+IsAnswer (Some (OfServe wait file)) told text = ⊥
 
 -- the text is that of the first fault of the file that was asked
 abbrev pub IsRefusal : Option Request → Option Files → List ℕ → Type 0
@@ -113,6 +114,9 @@ Wrote Says Answered old new = Writes old new (Says Answered)
 Wrote Says Refused old new = Writes old new (Says Refused)
 Wrote Says IndexRefused old new = Writes old new (Says IndexRefused)
 Wrote Says WriteFault old new = PrefixOf Says old new
+Wrote Says InputFault old new = Writes old new (Says InputFault)
+Wrote Says InputTooLong old new = Writes old new (Says InputTooLong)
+Wrote Says Stopped old new = (text : List ℕ) × Says Stopped text × AppendsPrefix old new text
 Wrote Says Usage old new = Appends old new []
 Wrote Says ReadFault old new = Appends old new []
 Wrote Says StoreFault old new = Appends old new []
@@ -126,18 +130,26 @@ Wrote Says FileTooBig old new = Appends old new []
 abbrev pub IsTooLarge : Cache → Type 0
 IsTooLarge cache = cache ≡ DoesNotFit
 
+-- an index that was asked for doesn't fit its format
+abbrev pub MakesTooLarge : Option Request → Option Files → Type 0
+MakesTooLarge (Some (OfIndex kind file out)) told = ForIndex told file kind IsTooLarge
+MakesTooLarge other told = ⊥
+
 -- the cause of a status that isn't a result, by what was asked, the files, and whether a read, a store or a write failed
 abbrev pub Causes : Option Request → Option Files → Type 0 → Type 0 → Type 0 → Status → Type 0
 Causes request told reads stores writes Answered = ⊤
 Causes request told reads stores writes Refused = ⊤
 Causes request told reads stores writes IndexRefused = ⊤
 Causes request told reads stores writes NoMemory = ⊤
+Causes request told reads stores writes InputFault = ⊤
+Causes request told reads stores writes InputTooLong = ⊤
+Causes request told reads stores writes Stopped = ⊤
 Causes request told reads stores writes Usage = request ≡ None
-Causes request told reads stores writes ReadFault = AsksFile request (λ _. reads)
+Causes request told reads stores writes ReadFault = AsksFile request (λ _ _. reads)
 Causes request told reads stores writes StoreFault = AsksIndex request (λ _ _ _. stores)
 Causes request told reads stores writes WriteFault = writes
-Causes request told reads stores writes IndexTooLarge = AsksIndex request (λ kind file _. ForIndex told file kind IsTooLarge)
-Causes request told reads stores writes FileTooBig = AsksFile request (λ file. HoldsMore told file MAX_FILE_BYTES)
+Causes request told reads stores writes IndexTooLarge = MakesTooLarge request told
+Causes request told reads stores writes FileTooBig = AsksFile request (HoldsMore told)
 
 -- the cause of a status, where a result was to be written
 abbrev pub CausesOfResult : Type 0 → Status → Type 0
@@ -168,6 +180,9 @@ line_of Answered = None
 line_of Refused = None
 line_of IndexRefused = None
 line_of WriteFault = None
+line_of InputFault = None
+line_of InputTooLong = None
+line_of Stopped = None
 
 -- a status without a line, after which nothing more is written; one with its line; or the line wasn't written whole
 pub data Ends (status : Status) (old new : Option (List ℕ)) (failed : Type 0) : Status → Type 0 where
@@ -175,17 +190,9 @@ pub data Ends (status : Status) (old new : Option (List ℕ)) (failed : Type 0) 
   with_line : (text : List ℕ) → line_of status ≡ Some text → Appends old new text → Ends status old new failed status
   cut : (text : List ℕ) → line_of status ≡ Some text → failed → AppendsPrefix old new text → Ends status old new failed WriteFault
 
--- the text of a result, or the line of another status
-abbrev pub IsText : Option Request → Option Files → List ℕ → Type 0
-IsText request told text = (status : Status) × (SaysRequest request told status text ⊎ (line_of status ≡ Some text))
-
--- a prefix of such a text was appended
-abbrev pub WritesPrefix : Option Request → Option Files → Option (List ℕ) → Option (List ℕ) → Type 0
-WritesPrefix request told old new = (text : List ℕ) × IsText request told text × AppendsPrefix old new text
-
 -- the numbers of the statuses that come
 abbrev pub IsStatus : ℕ → Type 0
-IsStatus n = Contains (0 ∷ 1 ∷ 2 ∷ 3 ∷ 4 ∷ 5 ∷ 7 ∷ 8 ∷ 9 ∷ 10 ∷ []) n
+IsStatus n = Contains (0 ∷ 1 ∷ 2 ∷ 3 ∷ 4 ∷ 5 ∷ 6 ∷ 7 ∷ 8 ∷ 9 ∷ 10 ∷ 11 ∷ []) n
 
 -- the status is that of the file's meaning, or want of memory
 pub record IsMeant (file : List ℕ) (status : ℕ) : Type 0 where
@@ -208,17 +215,19 @@ pub record IsNamesMeant (bytes strings : List ℕ) (base status : ℕ) : Type 0 
   pub answered : (index : NameIndex) → name_index bytes strings base ≡ Ok index → (status ≡ 0) ⊎ (status ≡ 7)
   pub refused : (f : Fault) → name_index bytes strings base ≡ Err f → (status ≡ 8) ⊎ (status ≡ 7)
 
--- what holds of the bytes of the file with this name, which is told and within the limit, where nothing failed
-abbrev pub OfWholeFile : Option Files → List ℕ → Type 0 → Type 0 → (List ℕ → Type 0) → Type 0
-OfWholeFile None file reads writes P = ⊤
-OfWholeFile (Some files) file reads writes P = (bytes : List ℕ) → files file ≡ Some bytes → length bytes ≤ MAX_FILE_BYTES → (reads → ⊥) → (writes → ⊥) → P bytes
+-- what holds of the bytes of the file with this name, which is told and within a limit, where nothing failed
+abbrev pub OfWholeFile : ℕ → Option Files → List ℕ → Type 0 → Type 0 → (List ℕ → Type 0) → Type 0
+OfWholeFile most None file reads writes P = ⊤
+OfWholeFile most (Some files) file reads writes P = (bytes : List ℕ) → files file ≡ Some bytes → length bytes ≤ most → (reads → ⊥) → (writes → ⊥) → P bytes
 
 -- Where nothing failed, the status is that of what was asked, or want of memory: of a file within the limit, that of its meaning.
+-- Of sessions nothing is said here.
 abbrev pub IsComplete : Option Request → Option Files → Type 0 → Type 0 → Type 0 → ℕ → Type 0
 IsComplete None told reads stores writes status = (writes → ⊥) → (status ≡ 2) ⊎ (status ≡ 7)
 IsComplete (Some TheHelp) told reads stores writes status = (writes → ⊥) → (status ≡ 0) ⊎ (status ≡ 7)
 IsComplete (Some TheVersion) told reads stores writes status = (writes → ⊥) → (status ≡ 0) ⊎ (status ≡ 7)
-IsComplete (Some (OfFile file q)) told reads stores writes status = OfWholeFile told file reads writes (λ bytes. IsMeant bytes status)
-IsComplete (Some (OfIndex kind file out)) told reads stores writes status = OfWholeFile told file reads writes (λ bytes. (stores → ⊥) → IsIndexMeant bytes kind status)
-IsComplete (Some (OfGdb index q)) told reads stores writes status = OfWholeFile told index reads writes (λ bytes. IsLookMeant bytes status)
-IsComplete (Some (OfNames base index strings name)) told reads stores writes status = OfWholeFile told index reads writes (λ bytes. OfWholeFile told strings reads writes (λ held. IsNamesMeant bytes held base status))
+IsComplete (Some (OfFile file q)) told reads stores writes status = OfWholeFile MAX_FILE_BYTES told file reads writes (λ bytes. IsMeant bytes status)
+IsComplete (Some (OfIndex kind file out)) told reads stores writes status = OfWholeFile MAX_FILE_BYTES told file reads writes (λ bytes. (stores → ⊥) → IsIndexMeant bytes kind status)
+IsComplete (Some (OfGdb index q)) told reads stores writes status = OfWholeFile MAX_FILE_BYTES told index reads writes (λ bytes. IsLookMeant bytes status)
+IsComplete (Some (OfNames base index strings name)) told reads stores writes status = OfWholeFile MAX_FILE_BYTES told index reads writes (λ bytes. OfWholeFile MAX_FILE_BYTES told strings reads writes (λ held. IsNamesMeant bytes held base status))
+IsComplete (Some (OfServe wait file)) told reads stores writes status = ⊤

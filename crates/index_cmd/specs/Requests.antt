@@ -2,17 +2,20 @@
 use Rattle.std.specs.Prelude.{◌⊎◌, ℕ, List, Option, Some, None, option_map, option_and_then, ⊤}
 use Rattle.index_model.specs.declared.job.CacheKind.{CacheKind}
 use Rattle.index_model.specs.Queries.{Query, AskName, AskSimple, AskCache, query_of}
-use Rattle.index_cmd.specs.Words.{Asked, Indexed, Looked, NamesLooked, Wanted, Help, Version, Ask, Index, LookGdb, LookNames, command_of, query_text}
+use Rattle.ix_base.specs.declared.limits.TheConstants.{MAX_FILE_BYTES}
+use Rattle.index_cmd.specs.SessionWords.{Served}
+use Rattle.index_cmd.specs.Words.{Asked, Indexed, Looked, NamesLooked, Wanted, Help, Version, Ask, Index, LookGdb, LookNames, Serve, command_of, query_text}
 
 -- The program's own texts; the answer of a file, by its name, to a query; the index of a kind of a file, to be stored under a
 -- name; the answer of a `.gdb_index`, by its name, to a query; or the entries of a name in a `.debug_names`, by the base of its
--- strings, its own name and that of the strings.
+-- strings, its own name and that of the strings. Or a session over a file from a stage on.
 pub data Request : Type 0 where
   TheHelp TheVersion : Request
   OfFile : List ℕ → Query → Request
   OfIndex : CacheKind → List ℕ → List ℕ → Request
   OfGdb : List ℕ → Query → Request
   OfNames : ℕ → List ℕ → List ℕ → List ℕ → Request
+  OfServe : ℕ → List ℕ → Request
 
 -- a query of a file
 abbrev pub asked : Asked → Option Request
@@ -49,6 +52,10 @@ offered_name line = option_and_then offer_name (query_of line)
 abbrev pub looked_names : NamesLooked → Option Request
 looked_names l = option_map (OfNames l.base l.index l.strings) (offered_name (query_text l.query))
 
+-- a session over a file
+abbrev pub served : Served → Option Request
+served s = Some (OfServe s.wait s.file)
+
 -- a command whose query is answered
 abbrev pub requested : Wanted → Option Request
 requested Help = Some TheHelp
@@ -57,17 +64,19 @@ requested (Ask a) = asked a
 requested (Index i) = indexed i
 requested (LookGdb l) = looked l
 requested (LookNames l) = looked_names l
+requested (Serve s) = served s
 
 -- what the words ask for; none where they aren't in the grammar. The number of workers changes nothing.
 abbrev pub request_of : List (List ℕ) → Option Request
 request_of words = option_and_then requested (command_of words)
 
--- a file that is read: that which is asked or indexed, the index that is asked, or its strings
-abbrev pub AsksFile : Option Request → (List ℕ → Type 0) → Type 0
-AsksFile (Some (OfFile file q)) P = P file
-AsksFile (Some (OfIndex kind file out)) P = P file
-AsksFile (Some (OfGdb index q)) P = P index
-AsksFile (Some (OfNames base index strings name)) P = P index ⊎ P strings
+-- a file that is read, with the most bytes that it may have: the program, the index that is asked, or its strings
+abbrev pub AsksFile : Option Request → (List ℕ → ℕ → Type 0) → Type 0
+AsksFile (Some (OfFile file q)) P = P file MAX_FILE_BYTES
+AsksFile (Some (OfIndex kind file out)) P = P file MAX_FILE_BYTES
+AsksFile (Some (OfGdb index q)) P = P index MAX_FILE_BYTES
+AsksFile (Some (OfNames base index strings name)) P = P index MAX_FILE_BYTES ⊎ P strings MAX_FILE_BYTES
+AsksFile (Some (OfServe wait file)) P = P file MAX_FILE_BYTES
 AsksFile (Some TheHelp) P = ⊥
 AsksFile (Some TheVersion) P = ⊥
 AsksFile None P = ⊥
@@ -87,3 +96,8 @@ AsksIndex other P = ⊥
 abbrev pub StoresNothing : Option Request → Type 0
 StoresNothing (Some (OfIndex kind file out)) = ⊥
 StoresNothing other = ⊤
+
+-- the input isn't read
+abbrev pub ReadsNoInput : Option Request → Type 0
+ReadsNoInput (Some (OfServe wait file)) = ⊥
+ReadsNoInput other = ⊤

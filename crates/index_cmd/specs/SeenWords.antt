@@ -9,13 +9,17 @@ use Rattle.index_cmd.specs.declared.words.LookGdb.{LookGdb}
 use Rattle.index_cmd.specs.declared.words.LookNames.{LookNames}
 use Rattle.index_cmd.specs.declared.words.Based.{Based}
 use Rattle.index_cmd.specs.declared.words.Split.{Split}
+use Rattle.index_cmd.specs.declared.session_words.Serve.{Serve}
+use Rattle.index_cmd.specs.declared.session_words.Counted.{Counted}
+use Rattle.index_cmd.specs.SessionWords.{Served, Counted as CountedOf}
+use Rattle.index_cmd.specs.WordParts.{Workers}
 use Rattle.index_cmd.specs.Words as grammar
 
 -- the bytes of each word
 abbrev pub words_of : {Z : Type 0} → List (String Z) → List (List ℕ)
 words_of words = map string_bytes words
 
-abbrev pub seen_split : Split → grammar.Workers
+abbrev pub seen_split : Split → Workers
 seen_split s = record { workers = s.workers; others = words_of s.others.now }
 
 abbrev pub seen_based : Based → grammar.Based
@@ -33,6 +37,12 @@ seen_look l = record { index = l.index.now; query = words_of l.query.now }
 abbrev pub seen_names : LookNames → grammar.NamesLooked
 seen_names l = record { base = l.base; index = l.index.now; strings = l.strings.now; query = words_of l.query.now }
 
+abbrev pub seen_counted : Counted → CountedOf
+seen_counted c = record { number = c.number; others = words_of c.others.now }
+
+abbrev pub seen_serve : Serve → Served
+seen_serve s = record { workers = s.workers; wait = s.wait; file = s.file.now }
+
 abbrev pub seen_command : Command → grammar.Wanted
 seen_command code.Help = grammar.Help
 seen_command code.Version = grammar.Version
@@ -40,11 +50,17 @@ seen_command (code.Ask a) = grammar.Ask (seen_ask a)
 seen_command (code.Index i) = grammar.Index (seen_index i)
 seen_command (code.LookGdb l) = grammar.LookGdb (seen_look l)
 seen_command (code.LookNames l) = grammar.LookNames (seen_names l)
+seen_command (code.Serve s) = grammar.Serve (seen_serve s)
 
 -- 1 to 64 workers
 pub record IsWorkers (workers : ℕ) : Type 0 where
   pub some : 0 < workers
   pub few : workers ≤ 64
+
+-- what `serve` asks for
+pub record IsServe (s : Serve) : Type 0 where
+  pub workers : IsWorkers s.workers
+  pub wait : s.wait ≤ 3
 
 -- a command that asks for workers asks for so many
 abbrev pub HasWorkers : Command → Type 0
@@ -54,3 +70,4 @@ HasWorkers (code.Ask a) = IsWorkers a.workers
 HasWorkers (code.Index i) = IsWorkers i.workers
 HasWorkers (code.LookGdb l) = ⊤
 HasWorkers (code.LookNames l) = ⊤
+HasWorkers (code.Serve s) = IsServe s

@@ -1,11 +1,12 @@
 -- The words of a command line, each as its bytes: `ask [--workers N] FILE QUERY`, `index --as KIND [--workers N] FILE OUT`,
--- `look gdb INDEX QUERY`, `look names [--base B] INDEX STRINGS QUERY`, `--help`, `--version`.
-use Rattle.std.specs.Prelude.{ℕ, Bool, not, ◌&&◌, nat_lt, ◌==◌, if◌then◌else◌, List, [], ◌∷◌, length, bytes_eq, codes, Option, Some, None, option_map, option_and_then}
+-- `look gdb INDEX QUERY`, `look names [--base B] INDEX STRINGS QUERY`, `serve`, `--help`, `--version`.
+use Rattle.std.specs.Prelude.{ℕ, ◌&&◌, nat_lt, ◌==◌, if◌then◌else◌, List, [], ◌∷◌, length, bytes_eq, codes, Option, Some, None, option_map, option_and_then}
 use Rattle.std.specs.List.{join_with_byte}
 use Rattle.index_model.specs.declared.job.CacheKind.{CacheKind}
 use Rattle.index_model.specs.declared.job.CacheKind.TheVariants.{Gdb8, Gdb9, Names}
-use Rattle.index_model.specs.Sections.{begins_with}
 use Rattle.index_cmd.specs.Numbers.{number_between}
+use Rattle.index_cmd.specs.SessionWords.{Served, serve_of}
+use Rattle.index_cmd.specs.WordParts.{is_file_name, workers_and_others}
 
 -- `ask`: how many workers, the file's name, and the words of the query
 pub record Asked : Type 0 where
@@ -39,30 +40,12 @@ pub data Wanted : Type 0 where
   Index : Indexed → Wanted
   LookGdb : Looked → Wanted
   LookNames : NamesLooked → Wanted
-
--- the number of workers, and the words behind it
-pub record Workers : Type 0 where
-  pub workers : ℕ
-  pub others : List (List ℕ)
+  Serve : Served → Wanted
 
 -- the base of the strings, and the words behind it
 pub record Based : Type 0 where
   pub base : ℕ
   pub others : List (List ℕ)
-
--- a file's name isn't empty and doesn't begin with `--`
-abbrev pub is_file_name : List ℕ → Bool
-is_file_name word = nat_lt 0 (length word) && not (begins_with (codes "--") word)
-
--- what stands behind `--workers`: a number from 1 to 64
-abbrev pub workers_before : List (List ℕ) → Option Workers
-workers_before [] = None
-workers_before (word ∷ others) = option_map (λ n. record { workers = n; others = others }) (number_between 1 64 word)
-
--- the workers that are asked for, 4 where none are, and the words behind that
-abbrev pub workers_and_others : List (List ℕ) → Option Workers
-workers_and_others [] = Some (record { workers = 4; others = [] })
-workers_and_others (word ∷ others) = if bytes_eq word (codes "--workers") then workers_before others else Some (record { workers = 4; others = word ∷ others })
 
 -- a file's name, and then a query of one word or more
 abbrev pub file_and_query : ℕ → List (List ℕ) → Option Asked
@@ -127,9 +110,13 @@ look_of (word ∷ others) = if bytes_eq word (codes "gdb") then option_map LookG
 abbrev pub about : List ℕ → Option Wanted
 about word = if bytes_eq word (codes "--help") then Some Help else if bytes_eq word (codes "--version") then Some Version else None
 
--- a command that builds no index
+-- a command that isn't `ask` or `index` and has words behind it
+abbrev pub longer_command : List ℕ → List (List ℕ) → Option Wanted
+longer_command word others = if bytes_eq word (codes "look") then look_of others else if bytes_eq word (codes "serve") then option_map Serve (serve_of others) else None
+
+-- a command that isn't `ask` or `index`
 abbrev pub other_command : List ℕ → List (List ℕ) → Option Wanted
-other_command word others = if bytes_eq word (codes "look") then look_of others else if nat_lt 0 (length others) then None else about word
+other_command word others = if nat_lt 0 (length others) then longer_command word others else about word
 
 -- what the words after the program's name ask for; none where they aren't in the grammar
 abbrev pub command_of : List (List ℕ) → Option Wanted

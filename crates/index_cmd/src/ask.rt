@@ -11,30 +11,31 @@ ghost use Rattle.index_cmd.specs.Requests.{asked};
 ghost use Rattle.index_cmd.specs.Replies.{Causes, CausesOfResult, SaysFile, SaysReply, SaysRequest, Wrote, status_after};
 ghost use Rattle.index_cmd.specs.SeenWords.{seen_ask};
 
-use crate::build::build;
 use crate::file::{ReadStop, read_file};
 use crate::line::query_line;
-use crate::look::{need_of, reply};
 use crate::status::Status;
 use crate::words::Ask;
-use index_model::{CacheKind, Query, Reply, Staged};
-use ix_base::{Fault, MAX_FILE_BYTES, Stop};
-use outside::{Failed, Shelf, Sink};
+use index_board::Board;
+use index_model::{CacheKind, Query, Reply};
+use index_pool::build;
+use ix_base::{Fault, MAX_FILE_BYTES};
+use outside::{Failed, Gate, Shelf, Sink};
 use query_text::{parse, write_reply};
 use std::alloc::Global;
+use std::sync::Wait;
 use std::thread::Threads;
-use unit_headers::Image;
 
 // Each worker has so many shards, so that long ones even out.
 pub(crate) const SHARDS_PER_WORKER: u32 = 4;
 
 /// Answers the query of the words over the file that they name. Of the statuses that aren't a result nothing is written here.
-pub(crate) fn ask<R: Threads + Sync, F: Shelf, K: Sink>(
+pub(crate) fn ask<R: Threads + Wait + Sync, F: Shelf, K: Sink, G: Gate + Sync>(
     rt: &R,
     alloc: Global,
     ask: &Ask<'_>,
     shelf: &mut F,
     out: &mut K,
+    gate: &G,
 ) -> Status
     requires some { 0 < ask.now.workers }
     requires few { ask.now.workers ≤ 64 }
@@ -51,14 +52,7 @@ pub(crate) fn ask<R: Threads + Sync, F: Shelf, K: Sink>(
         return Status::Usage;
     };
     match read_file(alloc, shelf, ask.file, MAX_FILE_BYTES as usize) {
-        Ok(file) => answer(
-            rt,
-            alloc,
-            &file,
-            SHARDS_PER_WORKER * ask.workers,
-            &query,
-            out,
-        ),
+        Ok(file) => answer(rt, alloc, &file, ask.workers, &query, out, gate),
         Err(ReadStop::Fault) => Status::ReadFault,
         Err(ReadStop::TooBig) => Status::FileTooBig,
         Err(ReadStop::Memory) => Status::NoMemory,
@@ -66,56 +60,32 @@ pub(crate) fn ask<R: Threads + Sync, F: Shelf, K: Sink>(
 }
 
 // The answer of the file's bytes, or their first fault.
-fn answer<R: Threads + Sync, K: Sink>(
+fn answer<R: Threads + Wait + Sync, K: Sink, G: Gate + Sync>(
     rt: &R,
     alloc: Global,
     file: &[u8],
-    shards: u32,
+    workers: u32,
     query: &Query<'_>,
     out: &mut K,
+    gate: &G,
 ) -> Status
     requires small { length file.now ≤ MAX_FILE_BYTES }
-    requires some { 0 < shards }
-    requires few { shards ≤ 256 }
+    requires some { 0 < workers }
+    requires few { workers ≤ 64 }
     ensures wrote { Wrote (SaysFile file.now (query_seen query.now)) result (K.written out.old) (K.written out.new) }
     ensures causes { CausesOfResult (Rose (K.write_faults out.old) (K.write_faults out.new)) result }
     ensures counts { K.write_faults out.old ≤ K.write_faults out.new }
 {
-    match Image::open(alloc, file) {
-        Ok(image) => answer_built(rt, alloc, &image, shards, query, out),
-        Err(Stop::Fault(fault)) => refuse(out, fault),
-        Err(Stop::Memory) => Status::NoMemory,
-    }
-}
-
-// The answer by a core that is built.
-fn answer_built<R: Threads + Sync, K: Sink>(
-    rt: &R,
-    alloc: Global,
-    image: &Image<'_>,
-    shards: u32,
-    query: &Query<'_>,
-    out: &mut K,
-) -> Status
-    requires some { 0 < shards }
-    requires few { shards ≤ 256 }
-    ensures wrote { Wrote (SaysFile image.now.file (query_seen query.now)) result (K.written out.old) (K.written out.new) }
-    ensures causes { CausesOfResult (Rose (K.write_faults out.old) (K.write_faults out.new)) result }
-    ensures counts { K.write_faults out.old ≤ K.write_faults out.new }
-{
-    let goal = need_of(query);
-    let core = match build(rt, alloc, image, shards, CacheKind::Gdb8, goal) {
-        Ok(core) => core,
+    let shards = SHARDS_PER_WORKER * workers;
+    let (board, mut pass) = match Board::open(alloc, file, CacheKind::Gdb8, shards) {
+        Ok(made) => made,
         Err(_) => return Status::NoMemory,
     };
-    let parts = match core.parts() {
-        Ok(parts) => parts,
-        Err(_) => return Status::NoMemory,
-    };
-    match reply(&parts, query, core.stage()) {
-        Some(reply) => write(out, &reply),
-        // A stage has what it can be asked for.
-        None => Status::NoMemory,
+    build(rt, alloc, &board, &mut pass, workers, gate);
+    let mut reader = board.reader(&mut pass);
+    match reader.query(rt, query) {
+        Ok(look) => write(out, &look.reply),
+        Err(_) => Status::NoMemory,
     }
 }
 

@@ -1,42 +1,38 @@
 //! `index`: the index of a file is stored.
 
-ghost use Rattle.std.specs.Prelude.{◌≡◌, ◌<◌, ◌≤◌, length, IfOk, IfErr};
-ghost use Rattle.std.specs.Arc.{arc_value};
+ghost use Rattle.std.specs.Prelude.{◌≡◌, ◌<◌, ◌≤◌, length, IfOk};
 ghost use Rattle.std.specs.String.{string_bytes};
 ghost use Rattle.ix_base.specs.declared.limits.TheConstants.{MAX_FILE_BYTES};
 ghost use Rattle.outside.specs.Counts.{Rose};
 ghost use Rattle.index_model.specs.Cache.{NameBytes};
 ghost use Rattle.stage_core.specs.Outputs.{cache_seen};
-ghost use Rattle.index_cmd.specs.Indexes.{IsFirstFault, IsIndexOf};
+ghost use Rattle.index_cmd.specs.Indexes.{CausesOfIndex, LeavesIndex, SaysIndex};
 ghost use Rattle.index_cmd.specs.Requests.{indexed};
 ghost use Rattle.index_cmd.specs.Replies.{Causes, CausesOfStore, SaysRequest, Wrote};
 ghost use Rattle.index_cmd.specs.SeenWords.{seen_index};
 ghost use Rattle.index_cmd.specs.Stores.{Leaves, StoreLeaves, strings_name};
 
 use crate::ask::{SHARDS_PER_WORKER, refuse};
-use crate::build::build;
 use crate::file::{ReadStop, read_file};
 use crate::status::Status;
 use crate::words::Index;
-use index_model::CacheKind;
-use ix_base::{MAX_FILE_BYTES, Stop};
-use outside::{Failed, Shelf, Sink};
-use stage_core::{Cache, Parts};
+use index_board::Board;
+use index_pool::build;
+use ix_base::MAX_FILE_BYTES;
+use outside::{Failed, Gate, Shelf, Sink};
+use stage_core::Cache;
 use std::alloc::{AllocError, Global};
-use std::sync::Arc;
+use std::sync::Wait;
 use std::thread::Threads;
-use unit_headers::Image;
-
-// The stage at which the index is written.
-const CACHE_WRITTEN: u8 = 3;
 
 /// Stores the index of the file that the words name. Of the statuses that aren't a result nothing is written here.
-pub(crate) fn index<R: Threads + Sync, F: Shelf, K: Sink>(
+pub(crate) fn index<R: Threads + Wait + Sync, F: Shelf, K: Sink, G: Gate + Sync>(
     rt: &R,
     alloc: Global,
     index: &Index<'_>,
     shelf: &mut F,
     out: &mut K,
+    gate: &G,
 ) -> Status
     requires some { 0 < index.now.workers }
     requires few { index.now.workers ≤ 64 }
@@ -45,43 +41,49 @@ pub(crate) fn index<R: Threads + Sync, F: Shelf, K: Sink>(
     ensures leaves { Leaves (indexed (seen_index index.now)) (F.files shelf.old) (F.files shelf.new) result }
     ensures counts { K.write_faults out.old ≤ K.write_faults out.new }
 {
-    let file = match read_file(alloc, shelf, index.file, MAX_FILE_BYTES as usize) {
-        Ok(file) => file,
-        Err(ReadStop::Fault) => return Status::ReadFault,
-        Err(ReadStop::TooBig) => return Status::FileTooBig,
-        Err(ReadStop::Memory) => return Status::NoMemory,
-    };
-    let shards = SHARDS_PER_WORKER * index.workers;
-    match written(rt, alloc, &file, shards, index.kind) {
-        Ok(cache) => store(alloc, shelf, index.out, &cache),
-        Err(Stop::Fault(fault)) => refuse(out, fault),
-        Err(Stop::Memory) => Status::NoMemory,
+    match read_file(alloc, shelf, index.file, MAX_FILE_BYTES as usize) {
+        Ok(file) => store_built(rt, alloc, &file, index, shelf, out, gate),
+        Err(ReadStop::Fault) => Status::ReadFault,
+        Err(ReadStop::TooBig) => Status::FileTooBig,
+        Err(ReadStop::Memory) => Status::NoMemory,
     }
 }
 
-// The index of the file's bytes, or their first fault.
-fn written<R: Threads + Sync>(
+// Stores the index of the file's bytes, or writes their first fault.
+fn store_built<R: Threads + Wait + Sync, F: Shelf, K: Sink, G: Gate + Sync>(
     rt: &R,
     alloc: Global,
     file: &[u8],
-    shards: u32,
-    kind: CacheKind,
-) -> Result<Arc<Cache>, Stop>
+    index: &Index<'_>,
+    shelf: &mut F,
+    out: &mut K,
+    gate: &G,
+) -> Status
     requires small { length file.now ≤ MAX_FILE_BYTES }
-    requires some { 0 < shards }
-    requires few { shards ≤ 256 }
-    ensures index { IfOk result (λ c. IsIndexOf file.now kind (cache_seen (arc_value c))) }
-    ensures fault { IfErr result (λ stop. IsFirstFault file.now stop) }
+    requires some { 0 < index.now.workers }
+    requires few { index.now.workers ≤ 64 }
+    ensures wrote { Wrote (SaysIndex file.now) result (K.written out.old) (K.written out.new) }
+    ensures causes { CausesOfIndex file.now index.now.kind (Rose (F.store_faults shelf.old) (F.store_faults shelf.new)) (Rose (K.write_faults out.old) (K.write_faults out.new)) result }
+    ensures leaves { LeavesIndex file.now index.now.kind (F.files shelf.old) (F.files shelf.new) index.now.out.now result }
+    ensures counts { K.write_faults out.old ≤ K.write_faults out.new }
 {
-    let image = Image::open(alloc, file)?;
-    let core = build(rt, alloc, &image, shards, kind, CACHE_WRITTEN)?;
-    let Parts { cache, fault, .. } = core.parts()?;
-    if let Some(fault) = fault {
-        return Err(Stop::Fault(fault));
+    let shards = SHARDS_PER_WORKER * index.workers;
+    let (board, mut pass) = match Board::open(alloc, file, index.kind, shards) {
+        Ok(made) => made,
+        Err(_) => return Status::NoMemory,
+    };
+    build(rt, alloc, &board, &mut pass, index.workers, gate);
+    let mut reader = board.reader(&mut pass);
+    if reader.fetch(rt).is_err() {
+        return Status::NoMemory;
     }
-    match cache {
-        Some(cache) => Ok(cache),
-        None => Err(Stop::Memory),
+    if let Some(fault) = reader.parts().fault {
+        return refuse(out, fault);
+    }
+    match reader.cache() {
+        Some(cache) => store(alloc, shelf, index.out, cache),
+        // A build that ended without a fault was refused memory.
+        None => Status::NoMemory,
     }
 }
 

@@ -3,14 +3,15 @@
 
 mod about;
 mod ask;
-mod build;
 mod file;
 mod gdb;
 mod index;
 mod line;
-mod look;
+mod listen;
 mod names;
 mod number;
+mod serve;
+mod session_words;
 mod status;
 mod top;
 mod words;

@@ -18,6 +18,8 @@ pub(crate) enum Status {
     StoreFault,
     /// A write to the sink failed.
     WriteFault,
+    /// A read of the input failed.
+    InputFault,
     /// Memory was refused.
     NoMemory,
     /// The bytes of an index have a fault.
@@ -26,6 +28,10 @@ pub(crate) enum Status {
     IndexTooLarge,
     /// A file is longer than its limit.
     FileTooBig,
+    /// A line, or the whole input, is longer than a session takes.
+    InputTooLong,
+    /// Memory was refused while sessions were answered: nothing is written behind their text.
+    Stopped,
 }
 
 impl Status {
@@ -40,10 +46,13 @@ impl Status {
             Status::ReadFault => 3,
             Status::StoreFault => 4,
             Status::WriteFault => 5,
+            Status::InputFault => 6,
             Status::NoMemory => 7,
             Status::IndexRefused => 8,
             Status::IndexTooLarge => 9,
             Status::FileTooBig => 10,
+            Status::InputTooLong => 11,
+            Status::Stopped => 7,
         }
     }
 }

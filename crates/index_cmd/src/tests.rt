@@ -1,12 +1,15 @@
 //! What no clause says yet: the answers themselves, on programs whose bytes and answers were written by hand.
 
 mod files;
+mod gated;
 mod indexes;
+mod serving;
 
 use crate::run;
 use files::{BASELESS, COMPILED, EMPTY, INDEXED, PLAIN};
-use outside::{MemShelf, MemSink};
+use outside::{MemShelf, MemSink, MemSource, NoGate};
 use std::alloc::Global;
+use std::sync::Wait;
 use std::test::Fail;
 use std::thread::Threads;
 
@@ -20,7 +23,7 @@ struct Answered {
 }
 
 // What a command line comes to where the name X holds the bytes.
-fn answer<R: Threads + Sync>(
+fn answer<R: Threads + Wait + Sync>(
     rt: &R,
     alloc: Global,
     file: &[u8],
@@ -32,7 +35,7 @@ fn answer<R: Threads + Sync>(
 }
 
 // What a command line comes to over a shelf.
-fn told<R: Threads + Sync>(
+fn told<R: Threads + Wait + Sync>(
     rt: &R,
     alloc: Global,
     shelf: &mut MemShelf,
@@ -42,8 +45,9 @@ fn told<R: Threads + Sync>(
     for word in words {
         line.push(String::from_str(alloc, word)?)?;
     }
+    let mut input = MemSource::new(alloc, b"")?;
     let mut out = MemSink::new(alloc);
-    let status = run(rt, alloc, &line, shelf, &mut out);
+    let status = run(rt, alloc, &line, shelf, &mut input, &mut out, &NoGate);
     let text = String::from_utf8_lossy(alloc, out.bytes())?;
     Ok(Answered { status, text })
 }

@@ -1,16 +1,17 @@
 //! The top call.
 
 ghost use Rattle.std.specs.Prelude.{◌≡◌, ◌≢◌, ◌≤◌, ◌⊎◌, None, [], ◌∷◌, codes};
-ghost use Rattle.ix_base.specs.declared.limits.TheConstants.{MAX_FILE_BYTES};
 ghost use Rattle.index_model.specs.Texts.{line};
 ghost use Rattle.outside.specs.Counts.{Rose};
 ghost use Rattle.outside.specs.Files.{SameFiles};
 ghost use Rattle.outside.specs.Written.{Appends, AppendsPrefix};
 ghost use Rattle.index_cmd.specs.FilesRead.{HoldsMore};
-ghost use Rattle.index_cmd.specs.Requests.{request_of, AsksFile, AsksIndex, StoresNothing};
-ghost use Rattle.index_cmd.specs.Replies.{Causes, Ends, IsAnswer, IsComplete, IsIndexRefusal, IsRefusal, IsStatus, IsTooLarge, SaysRequest, Writes, WritesPrefix, Wrote};
+ghost use Rattle.index_cmd.specs.Heard.{heard};
+ghost use Rattle.index_cmd.specs.Requests.{request_of, AsksFile, ReadsNoInput, StoresNothing};
+ghost use Rattle.index_cmd.specs.Replies.{Causes, Ends, IsStatus, MakesTooLarge, Writes, Wrote};
+ghost use Rattle.index_cmd.specs.Results.{Completes, Says, SaysNoMemory, WritesPrefix};
 ghost use Rattle.index_cmd.specs.SeenWords.{words_of};
-ghost use Rattle.index_cmd.specs.Stores.{ForIndex, IsPartStored, IsStored, Leaves};
+ghost use Rattle.index_cmd.specs.Stores.{IsPartStored, IsStored, Leaves};
 ghost use Rattle.index_cmd.specs.declared.status.Status.TheVariants as statuses;
 
 use crate::about::{HELP, VERSION};
@@ -18,49 +19,59 @@ use crate::ask::ask;
 use crate::gdb::look_gdb;
 use crate::index::index;
 use crate::names::look_names;
+use crate::serve::serve;
 use crate::status::Status;
 use crate::words::{Command, parse_command};
-use outside::{Failed, Shelf, Sink, write_all};
+use outside::{Failed, Gate, Shelf, Sink, Source, write_all};
 use std::alloc::Global;
+use std::sync::Wait;
 use std::thread::Threads;
 
 /// Does what the words after the program's name ask for: reads the file from the shelf, builds its index, and writes the answer to
-/// the sink or stores the index; or reads an index and writes its answer. It gives the status. No bytes depend on the number of
-/// workers.
-pub fn run<R: Threads + Sync, F: Shelf, K: Sink>(
+/// the sink or stores the index; answers the lines of the input while it builds; or reads an index and writes its
+/// answer. It gives the status. No clause speaks of the number of workers.
+pub fn run<R: Threads + Wait + Sync, F: Shelf, S: Source + Send, K: Sink + Send, G: Gate + Sync>(
     rt: &R,
     alloc: Global,
     words: &[String],
     shelf: &mut F,
+    input: &mut S,
     out: &mut K,
+    gate: &G,
 ) -> u8
     // The answer of the definitions over the file's bytes, which have no fault; or the file's first fault.
-    ensures answered { result ≡ 0 → Writes (K.written out.old) (K.written out.new) (IsAnswer (request_of (words_of words.now)) (F.files shelf.old)) }
-    ensures refused { result ≡ 1 → Writes (K.written out.old) (K.written out.new) (IsRefusal (request_of (words_of words.now)) (F.files shelf.old)) }
+    ensures answered { result ≡ 0 → Writes (K.written out.old) (K.written out.new) (Says (request_of (words_of words.now)) (F.files shelf.old) (heard S.left S.read_faults input.old input.new) statuses.Answered) }
+    ensures refused { result ≡ 1 → Writes (K.written out.old) (K.written out.new) (Says (request_of (words_of words.now)) (F.files shelf.old) (heard S.left S.read_faults input.old input.new) statuses.Refused) }
 
     // The causes of the other statuses. Want of memory has none.
     ensures usage { result ≡ 2 → request_of (words_of words.now) ≡ None }
     ensures read_fault { result ≡ 3 → Rose (F.read_faults shelf.old) (F.read_faults shelf.new) }
     ensures store_fault { result ≡ 4 → Rose (F.store_faults shelf.old) (F.store_faults shelf.new) }
     ensures write_fault { result ≡ 5 → Rose (K.write_faults out.old) (K.write_faults out.new) }
-    ensures index_refused { result ≡ 8 → Writes (K.written out.old) (K.written out.new) (IsIndexRefusal (request_of (words_of words.now)) (F.files shelf.old)) }
-    ensures index_too_large { result ≡ 9 → AsksIndex (request_of (words_of words.now)) (λ kind file _. ForIndex (F.files shelf.old) file kind IsTooLarge) }
-    ensures file_too_big { result ≡ 10 → AsksFile (request_of (words_of words.now)) (λ file. HoldsMore (F.files shelf.old) file MAX_FILE_BYTES) }
+    ensures index_refused { result ≡ 8 → Writes (K.written out.old) (K.written out.new) (Says (request_of (words_of words.now)) (F.files shelf.old) (heard S.left S.read_faults input.old input.new) statuses.IndexRefused) }
+    ensures index_too_large { result ≡ 9 → MakesTooLarge (request_of (words_of words.now)) (F.files shelf.old) }
+    ensures file_too_big { result ≡ 10 → AsksFile (request_of (words_of words.now)) (HoldsMore (F.files shelf.old)) }
+
+    // The sessions of `serve` stopped: at a fault of the input, at a line or an input that is too long, or for want of
+    // memory.
+    ensures input_fault { result ≡ 6 → Writes (K.written out.old) (K.written out.new) (Says (request_of (words_of words.now)) (F.files shelf.old) (heard S.left S.read_faults input.old input.new) statuses.InputFault) }
+    ensures input_too_long { result ≡ 11 → Writes (K.written out.old) (K.written out.new) (Says (request_of (words_of words.now)) (F.files shelf.old) (heard S.left S.read_faults input.old input.new) statuses.InputTooLong) }
+    ensures no_memory { result ≡ 7 → SaysNoMemory (request_of (words_of words.now)) (F.files shelf.old) (heard S.left S.read_faults input.old input.new) (K.written out.old) (K.written out.new) }
+    ensures input_kept { ReadsNoInput (request_of (words_of words.now)) → input.new ≡ input.old }
     ensures outside_grammar { request_of (words_of words.now) ≡ None → (result ≡ 2) ⊎ (result ≡ 5) ⊎ (result ≡ 7) }
     ensures statuses { IsStatus result }
 
     // Where the file is within the limit and nothing outside failed, a file without a fault is answered and one with a fault is
     // refused, but for want of memory.
-    ensures complete { IsComplete (request_of (words_of words.now)) (F.files shelf.old) (Rose (F.read_faults shelf.old) (F.read_faults shelf.new)) (Rose (F.store_faults shelf.old) (F.store_faults shelf.new)) (Rose (K.write_faults out.old) (K.write_faults out.new)) result }
+    ensures complete { Completes (request_of (words_of words.now)) (F.files shelf.old) (heard S.left S.read_faults input.old input.new) (Rose (F.read_faults shelf.old) (F.read_faults shelf.new)) (Rose (F.store_faults shelf.old) (F.store_faults shelf.new)) (Rose (K.write_faults out.old) (K.write_faults out.new)) result }
 
     // The line that goes with a status is the only thing that is written.
     ensures usage_line { result ≡ 2 → Appends (K.written out.old) (K.written out.new) (line (codes "usage" ∷ [])) }
     ensures read_fault_line { result ≡ 3 → Appends (K.written out.old) (K.written out.new) (line (codes "read" ∷ codes "fault" ∷ [])) }
     ensures store_fault_line { result ≡ 4 → Appends (K.written out.old) (K.written out.new) (line (codes "store" ∷ codes "fault" ∷ [])) }
-    ensures no_memory_line { result ≡ 7 → Appends (K.written out.old) (K.written out.new) (line (codes "no" ∷ codes "memory" ∷ [])) }
     ensures index_too_large_line { result ≡ 9 → Appends (K.written out.old) (K.written out.new) (line (codes "too" ∷ codes "large" ∷ [])) }
     ensures file_too_big_line { result ≡ 10 → Appends (K.written out.old) (K.written out.new) (line (codes "file" ∷ codes "too" ∷ codes "big" ∷ [])) }
-    ensures prefix { result ≡ 5 → WritesPrefix (request_of (words_of words.now)) (F.files shelf.old) (K.written out.old) (K.written out.new) }
+    ensures prefix { result ≡ 5 → WritesPrefix (request_of (words_of words.now)) (F.files shelf.old) (heard S.left S.read_faults input.old input.new) (K.written out.old) (K.written out.new) }
 
     // The index of the definitions over the file's bytes is stored, and nothing else; `ask` and `look` store nothing. A store that
     // fails leaves what was there or a prefix, and a file that was stored before it stays.
@@ -70,31 +81,35 @@ pub fn run<R: Threads + Sync, F: Shelf, K: Sink>(
     ensures untouched { result ≢ 0 → result ≢ 4 → result ≢ 5 → SameFiles (F.files shelf.old) (F.files shelf.new) }
     ensures cut { result ≡ 5 → SameFiles (F.files shelf.old) (F.files shelf.new) ⊎ IsPartStored (request_of (words_of words.now)) (F.files shelf.old) (F.files shelf.new) }
 {
-    let status = command(rt, alloc, words, shelf, out);
+    let status = command(rt, alloc, words, shelf, input, out, gate);
     end(out, status).code()
 }
 
 // Does it, but for the line of a status that isn't a result.
-fn command<R: Threads + Sync, F: Shelf, K: Sink>(
+fn command<R: Threads + Wait + Sync, F: Shelf, S: Source + Send, K: Sink + Send, G: Gate + Sync>(
     rt: &R,
     alloc: Global,
     words: &[String],
     shelf: &mut F,
+    input: &mut S,
     out: &mut K,
+    gate: &G,
 ) -> Status
-    ensures wrote { Wrote (SaysRequest (request_of (words_of words.now)) (F.files shelf.old)) result (K.written out.old) (K.written out.new) }
+    ensures wrote { Wrote (Says (request_of (words_of words.now)) (F.files shelf.old) (heard S.left S.read_faults input.old input.new)) result (K.written out.old) (K.written out.new) }
     ensures causes { Causes (request_of (words_of words.now)) (F.files shelf.old) (Rose (F.read_faults shelf.old) (F.read_faults shelf.new)) (Rose (F.store_faults shelf.old) (F.store_faults shelf.new)) (Rose (K.write_faults out.old) (K.write_faults out.new)) result }
     ensures leaves { Leaves (request_of (words_of words.now)) (F.files shelf.old) (F.files shelf.new) result }
+    ensures input { ReadsNoInput (request_of (words_of words.now)) → input.new ≡ input.old }
     ensures counts { K.write_faults out.old ≤ K.write_faults out.new }
 {
     match parse_command(words) {
         None => Status::Usage,
         Some(Command::Help) => say(out, Status::Answered, HELP.as_bytes()),
         Some(Command::Version) => say(out, Status::Answered, VERSION.as_bytes()),
-        Some(Command::Ask(words)) => ask(rt, alloc, &words, shelf, out),
-        Some(Command::Index(words)) => index(rt, alloc, &words, shelf, out),
+        Some(Command::Ask(words)) => ask(rt, alloc, &words, shelf, out, gate),
+        Some(Command::Index(words)) => index(rt, alloc, &words, shelf, out, gate),
         Some(Command::LookGdb(words)) => look_gdb(alloc, &words, shelf, out),
         Some(Command::LookNames(words)) => look_names(alloc, &words, shelf, out),
+        Some(Command::Serve(words)) => serve(rt, alloc, &words, shelf, input, out, gate),
     }
 }
 
@@ -104,7 +119,13 @@ fn end<K: Sink>(out: &mut K, status: Status) -> Status
     ensures counts { K.write_faults out.old ≤ K.write_faults out.new }
 {
     match status {
-        Status::Answered | Status::Refused | Status::IndexRefused | Status::WriteFault => status,
+        Status::Answered
+        | Status::Refused
+        | Status::IndexRefused
+        | Status::WriteFault
+        | Status::InputFault
+        | Status::InputTooLong
+        | Status::Stopped => status,
         Status::Usage => say(out, status, b"usage\n"),
         Status::ReadFault => say(out, status, b"read fault\n"),
         Status::StoreFault => say(out, status, b"store fault\n"),

@@ -2,10 +2,12 @@
 
 ghost use Rattle.std.specs.Prelude.{◌≡◌, option_map};
 ghost use Rattle.std.specs.Option.{ForSome};
-ghost use Rattle.index_cmd.specs.Words.{is_file_name, workers_and_others, workers_before, about, ask_of, base_and_others, base_before, command_of, files_of, index_as, index_of, kind_named, look_gdb_of, look_names_of, look_of, names_and_query, other_command};
+ghost use Rattle.index_cmd.specs.WordParts.{is_file_name, workers_and_others, workers_before};
+ghost use Rattle.index_cmd.specs.Words.{about, ask_of, base_and_others, base_before, command_of, files_of, index_as, index_of, kind_named, look_gdb_of, look_names_of, longer_command, look_of, names_and_query, other_command};
 ghost use Rattle.index_cmd.specs.SeenWords.{seen_split, seen_based, seen_ask, seen_index, seen_look, seen_names, seen_command, words_of, HasWorkers, IsWorkers};
 
 use crate::number::number;
+use crate::session_words::{Serve, parse_serve};
 use index_model::CacheKind;
 
 /// What a command line asks for.
@@ -17,6 +19,7 @@ pub(crate) enum Command<'w> {
     Index(Index<'w>),
     LookGdb(LookGdb<'w>),
     LookNames(LookNames<'w>),
+    Serve(Serve<'w>),
 }
 
 /// `ask [--workers N] FILE QUERY`.
@@ -66,9 +69,9 @@ struct Based<'w> {
 
 // The workers that are asked for, and the words behind that.
 #[derive(Clone, Copy)]
-struct Split<'w> {
-    workers: u32,
-    others: &'w [String],
+pub(crate) struct Split<'w> {
+    pub workers: u32,
+    pub others: &'w [String],
 }
 
 const DEFAULT_WORKERS: u32 = 4;
@@ -96,15 +99,30 @@ pub(crate) fn parse_command(words: &[String]) -> Option<Command<'_>>
     }
 }
 
-// A command that builds no index.
+// A command that isn't `ask` or `index`.
 fn other_command<'w>(word: &str, others: &'w [String]) -> Option<Command<'w>>
     ensures value { option_map seen_command result ≡ other_command word.now (words_of others.now) }
     ensures workers { ForSome result HasWorkers }
 {
+    if others.is_empty() {
+        about(word)
+    } else {
+        longer_command(word, others)
+    }
+}
+
+// One that has words behind it.
+fn longer_command<'w>(word: &str, others: &'w [String]) -> Option<Command<'w>>
+    ensures value { option_map seen_command result ≡ longer_command word.now (words_of others.now) }
+    ensures workers { ForSome result HasWorkers }
+{
     if word == "look" {
         parse_look(others)
-    } else if others.is_empty() {
-        about(word)
+    } else if word == "serve" {
+        match parse_serve(others) {
+            Some(serve) => Some(Command::Serve(serve)),
+            None => None,
+        }
     } else {
         None
     }
@@ -266,7 +284,7 @@ fn base_before(words: &[String]) -> Option<Based<'_>>
     Some(Based { base, others })
 }
 
-fn split_workers(words: &[String]) -> Option<Split<'_>>
+pub(crate) fn split_workers(words: &[String]) -> Option<Split<'_>>
     ensures value { option_map seen_split result ≡ workers_and_others (words_of words.now) }
     ensures workers { ForSome result (λ x. IsWorkers x.workers) }
 {
@@ -289,7 +307,7 @@ fn workers_before(words: &[String]) -> Option<Split<'_>>
 }
 
 // A file's name is a word that isn't empty and doesn't look like an option.
-fn is_file_name(word: &str) -> bool
+pub(crate) fn is_file_name(word: &str) -> bool
     ensures { result ≡ is_file_name word.now }
 {
     !word.is_empty() && !word.as_bytes().starts_with(b"--")

@@ -2,7 +2,7 @@
 #![tactic(auto)]
 
 use index_cmd::run;
-use outside::{FileShelf, StreamSink};
+use outside::{FileShelf, NoGate, StreamSink, StreamSource};
 use std::alloc::AllocError;
 use std::process::ExitCode;
 use std::{env, io};
@@ -13,6 +13,16 @@ fn main(rt: HostRuntime) -> io::Result<ExitCode> {
         words.push(word).map_err(AllocError::from)?;
     }
     let mut shelf = FileShelf::new(&rt, rt.alloc())?;
+    let mut input = StreamSource::new(rt.reader());
     let mut out = StreamSink::new(&rt);
-    Ok(ExitCode::from(run(&rt, rt.alloc(), &words, &mut shelf, &mut out)))
+    let status = run(
+        &rt,
+        rt.alloc(),
+        &words,
+        &mut shelf,
+        &mut input,
+        &mut out,
+        &NoGate,
+    );
+    Ok(ExitCode::from(status))
 }

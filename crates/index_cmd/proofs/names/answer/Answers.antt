@@ -1,4 +1,4 @@
-use Rattle.std.proofs.Common.{◌≡◌, ℕ, List, Ok, Err, refl, sym, subst}
+use Rattle.std.proofs.Common.{◌≡◌, ℕ, Ok, Err, refl, sym, subst}
 use Rattle.index_model.specs.NameIndexRead.{name_index, name_index_hits}
 use Rattle.index_model.specs.LookTexts.{text_of_hits, text_of_index_fault}
 use Rattle.index_cmd.specs.Replies.{SaysNames, Wrote}

@@ -1,10 +1,21 @@
-use Rattle.std.proofs.Common.{ap}
+use Rattle.std.proofs.Common.{◌≡◌, ◌⊎◌, inl, inr, None, ap}
 use Rattle.index_cmd.specs.Replies.{line_of}
+use Rattle.index_cmd.specs.declared.status.Status.{Status}
+use Rattle.index_cmd.specs.declared.status.Status.TheVariants.{Answered, Refused, IndexRefused, WriteFault, InputFault, InputTooLong, Stopped}
 use Rattle.index_cmd.proofs.Outcomes.{no_line, line_said}
 use Rattle.index_cmd.proofs.top.end.Goals as goal
 
 pub returns-in-Answered-clause-ends : goal.returns-in-Answered-clause-ends
-returns-in-Answered-clause-ends g c = no_line c.args.status (g.K.Sink.written c.args.out.now) _ c.in-Answered.is
+returns-in-Answered-clause-ends g c = no_line c.args.status (g.K.Sink.written c.args.out.now) _ (by c.args.status c.in-Answered.is)
+  where
+    by : (s : Status) → (s ≡ Answered) ⊎ (s ≡ Refused) ⊎ (s ≡ IndexRefused) ⊎ (s ≡ WriteFault) ⊎ (s ≡ InputFault) ⊎ (s ≡ InputTooLong) ⊎ (s ≡ Stopped) → line_of s ≡ None
+    by s (inl e) = ap line_of e
+    by s (inr (inl e)) = ap line_of e
+    by s (inr (inr (inl e))) = ap line_of e
+    by s (inr (inr (inr (inl e)))) = ap line_of e
+    by s (inr (inr (inr (inr (inl e))))) = ap line_of e
+    by s (inr (inr (inr (inr (inr (inl e)))))) = ap line_of e
+    by s (inr (inr (inr (inr (inr (inr e)))))) = ap line_of e
 
 pub returns-in-Usage-clause-ends : goal.returns-in-Usage-clause-ends
 returns-in-Usage-clause-ends g c = line_said c.args.status c.say.result (g.K.Sink.written c.args.out.now) (g.K.Sink.written c.say.new.out) _ _ (ap line_of c.in-Usage.is) c.say.ensures.said c.say.ensures.either c.say.ensures.fault c.say.ensures.left

@@ -1,4 +1,0 @@
-use Rattle.index_cmd.proofs.look.named.Given as goal
-
-abbrev pub ghosts-counted_by_name : goal.ghosts-counted_by_name
-ghosts-counted_by_name a = record { name = a.blank.name; parts = a.blank.parts }

@@ -1,0 +1,17 @@
+use denote.Param.Send.{IsSend, sendable}
+use Rattle.std.proofs.Crossing.{crosses}
+use Rattle.query_text.specs.contracts.line_buf.LineBuf as LineBuf
+use Rattle.index_board.proofs.Crossing.{reader_send}
+use Rattle.index_cmd.proofs.serve.listen_beside.Goals as goal
+
+line_send : IsSend LineBuf.the_row
+line_send = search (sendable, crosses) depth 60 fits 60000
+
+-- the bounds are bound by names, since a search takes those first
+pub join_mut-requires-send-F : goal.join_mut-requires-send-F
+join_mut-requires-send-F g c κs within =
+    let input_send = c.type_bounds.send-S in
+    let out_send = c.type_bounds.send-K in
+    let runtime_sync = c.type_bounds.sync-R in
+    let gate_sync = c.type_bounds.sync-G in
+    search (sendable, crosses, reader_send, line_send) depth 30 fits 5000 parts 0
