@@ -1,20 +1,22 @@
 #!/usr/bin/env python3
 """python3 rows.py PROGRAM
 
-Runs PROGRAM over the rows of tools/rows whose command it knows, each in a folder with copies of the row's files, and compares
-what it writes, its status and the files that it stores with what the row says. A row of `ask` or `index` that names no number of
-workers is run again with 1, 2, 8 and 64: none of them may change a byte. The last line is 'rows: N passed, M failed'."""
+Runs PROGRAM over the rows of tools/rows and .ci/rows, each in a folder with copies of the row's files, with the row's `stdin` as
+its input, and compares what it writes, its status and the files that it stores with what the row says. A row that could name a
+number of workers and doesn't is run again with 1, 2, 8 and 64: none of them may change a byte. The last line is
+'rows: N passed, M failed'."""
 import os
 import shutil
 import subprocess
 import sys
 import tempfile
 
-ROWS = os.path.join(os.path.dirname(os.path.dirname(os.path.abspath(__file__))), "tools", "rows")
+HERE = os.path.dirname(os.path.abspath(__file__))
+FOLDERS = (os.path.join(os.path.dirname(HERE), "tools", "rows"), os.path.join(HERE, "rows"))
 # What lies in a row's folder beside the files that the program reads.
-TOLD = {"args", "stdout", "status", "expect"}
+TOLD = {"args", "stdin", "stdout", "status", "expect"}
 # How many words stand before the option of the number of workers.
-BEFORE_WORKERS = {"ask": 1, "index": 3}
+BEFORE_WORKERS = {"ask": 1, "index": 3, "serve": 1}
 WORKERS = (1, 2, 8, 64)
 
 
@@ -33,15 +35,10 @@ def words_of(row):
     return read(os.path.join(row, "args")).decode().split("\n")[:-1]
 
 
-def is_known(words):
-    """Whether the program has the command: sessions aren't offered yet."""
-    return words[:1] in (["ask"], ["index"], ["look"])
-
-
 def runs_of(words):
     """The words as they stand, and with each number of workers, where they can name one and don't."""
     yield words
-    if words[0] in BEFORE_WORKERS and "--workers" not in words:
+    if words[:1] and words[0] in BEFORE_WORKERS and "--workers" not in words:
         before = BEFORE_WORKERS[words[0]]
         for number in WORKERS:
             yield words[:before] + ["--workers", str(number)] + words[before:]
@@ -53,7 +50,7 @@ def differs(program, row, words):
     with tempfile.TemporaryDirectory() as folder:
         for name in inputs:
             shutil.copy(os.path.join(row, name), folder)
-        done = subprocess.run([program, *words], cwd=folder, stdin=subprocess.DEVNULL, capture_output=True, timeout=120)
+        done = subprocess.run([program, *words], cwd=folder, input=read(os.path.join(row, "stdin")), capture_output=True, timeout=120)
         left = files_in(folder)
     wanted = read(os.path.join(row, "stdout")), int(read(os.path.join(row, "status"), b"0") or 0)
     got = done.stdout, done.returncode
@@ -73,18 +70,15 @@ def files_in_row(row):
 def main():
     program = os.path.abspath(sys.argv[1])
     passed, failed = 0, 0
-    for name in sorted(os.listdir(ROWS)):
-        row = os.path.join(ROWS, name)
+    for row in sorted(os.path.join(folder, name) for folder in FOLDERS for name in os.listdir(folder)):
         words = words_of(row)
-        if not is_known(words):
-            continue
         for run in runs_of(words):
             wrong = differs(program, row, run)
             if wrong is None:
                 passed += 1
             else:
                 failed += 1
-                print("rows: %s as %s %s" % (name, " ".join(run), wrong))
+                print("rows: %s as %s %s" % (os.path.basename(row), " ".join(run), wrong))
     print("rows: %d passed, %d failed" % (passed, failed))
     return 1 if failed or not passed else 0
 
