@@ -1,6 +1,6 @@
 -- What a session during a build says, and what is said once both have ended.
 use Rattle.std.proofs.Common.{◌≡◌, ℕ, ◌^◌, ◌≤◌, ◌<◌, List, [], ◌∷◌, length, true, false, Option, Result, Ok, Err, refl, sym, subst, inl, inr, append-nil, arith}
-use Rattle.std.specs.Prelude.{OnOk, IfErr, IsSome}
+use Rattle.std.specs.Prelude.{All, OnOk, IfErr, IsSome}
 use Rattle.std.proofs.lemmas.List.Elements.{All-nil}
 use Rattle.outside.specs.Counts.{Rose}
 use Rattle.outside.specs.Files.{Files}
@@ -19,7 +19,7 @@ use Rattle.index_pool.specs.declared.ended.Ended.{Ended}
 use Rattle.index_pool.specs.declared.ended.Ended.TheVariants as ends
 use Rattle.query_text.specs.declared.fault.SessionFault.{SessionFault}
 use Rattle.query_text.specs.declared.fault.SessionFault.TheVariants as faults
-use Rattle.query_text.specs.Sessions.{Answers, SessionStops, TakesUntil}
+use Rattle.query_text.specs.Sessions.{Answers, IsShort, SessionStops, TakesUntil}
 use Rattle.query_text.specs.WholeLines.{whole_lines_of}
 use Rattle.query_text.proofs.SessionLaws.{takes_none}
 use Rattle.index_cmd.specs.Floors.{HasMost, any, until, IsOver}
@@ -68,8 +68,8 @@ module _ (file : List ℕ) (wait : ℕ) (s u : Option (List ℕ)) (i j : ℕ) (o
       (said.0, record { taken = stop.taken; ended = stop.ended; takes = stop.takes; lines = before.lines; rest = before.line ∷ before.rest; front = before.front; says = said.1 }, appends-prefix a c said.0 said.2)
 
   -- what the session says
-  pub heard_lines : {X : Type 0} (r : Result X SessionFault) → OnOk r ((taken : List ℕ) × TakesUntil s u true taken × (length taken < 2 ^ 32) × Answers old new a c (lines_of taken)) → IfErr r (λ fault. SessionStops s u i j old new a c k n fault) → Listened file wait h a c new.pass.floor r
-  heard_lines (Ok x) all stops = all_served all.0 all.1 all.3
+  pub heard_lines : {X : Type 0} (r : Result X SessionFault) → OnOk r ((taken : List ℕ) × TakesUntil s u true taken × (length taken < 2 ^ 32) × All IsShort (lines_of taken) × Answers old new a c (lines_of taken)) → IfErr r (λ fault. SessionStops s u i j old new a c k n fault) → Listened file wait h a c new.pass.floor r
+  heard_lines (Ok x) all stops = all_served all.0 all.1 all.4
   heard_lines (Err fault) all stops = stop_served fault stops
 
 -- the cause of its status, and its board
@@ -92,8 +92,8 @@ module _ (s u : Option (List ℕ)) (i j : ℕ) (old new : Reader) (a c : Option 
   same_board faults.WriteFault stop = stop.stops.1.answers.gained.board
   same_board faults.NoMemory stop = stop.stops.answers.gained.board
 
-  pub board_stays : {X : Type 0} (r : Result X SessionFault) → OnOk r ((taken : List ℕ) × TakesUntil s u true taken × (length taken < 2 ^ 32) × Answers old new a c (lines_of taken)) → IfErr r (λ fault. SessionStops s u i j old new a c k n fault) → new.board ≡ old.board
-  board_stays (Ok x) all stops = all.3.gained.board
+  pub board_stays : {X : Type 0} (r : Result X SessionFault) → OnOk r ((taken : List ℕ) × TakesUntil s u true taken × (length taken < 2 ^ 32) × All IsShort (lines_of taken) × Answers old new a c (lines_of taken)) → IfErr r (λ fault. SessionStops s u i j old new a c k n fault) → new.board ≡ old.board
+  board_stays (Ok x) all stops = all.4.gained.board
   board_stays (Err fault) all stops = same_board fault stops
 
 -- ---- beside the build

@@ -5,11 +5,13 @@ pub mod EntryLaws
 pub mod GainLaws
 pub mod HexLaws
 pub mod LineLaws
+pub mod LongLines
 pub mod LookLaws
 pub mod NewlineLaws
 pub mod PlaceLaws
 pub mod SendingLaws
 pub mod SessionLaws
+pub mod ShortLines
 pub mod TextLaws
 pub mod ElementLaws
 pub mod TranscriptLaws

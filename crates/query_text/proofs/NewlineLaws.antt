@@ -12,7 +12,7 @@ use Rattle.query_text.specs.WholeLines.{HasNoNewline, IsFirstNewline, Spells, wh
 same_byte : (x : ℕ) → eqb x 10 ≡ true → x ≡ 10
 same_byte x e = grind (arith, nat_tests)
 
-other_byte : (x : ℕ) → x ≢ 10 → eqb x 10 ≡ false
+pub other_byte : (x : ℕ) → x ≢ 10 → eqb x 10 ≡ false
 other_byte x e = grind (arith, nat_tests)
 
 not_newline : (x : ℕ) → (eqb x 10 ≡ true → ⊥) → x ≢ 10

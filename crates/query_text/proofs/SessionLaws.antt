@@ -1,7 +1,8 @@
 -- How far a session is in its input.
 use Rattle.std.proofs.Common.{◌≡◌, ℕ, ◌+◌, ◌^◌, ◌<◌, ◌≤◌, ◌++◌, List, [], ◌∷◌, length, take, drop, true, false, Option, Some, None, refl, sym, ap, ◌∙◌, subst, append_assoc, append-nil, arith}
-use Rattle.std.specs.Prelude.{◌≢◌}
+use Rattle.std.specs.Prelude.{◌≢◌, All}
 use Rattle.std.proofs.lemmas.List.{length-append}
+use Rattle.std.proofs.lemmas.List.Elements.{All-nil, All-append}
 use Rattle.outside.specs.Taken.{Takes, IsAtEnd}
 use Rattle.index_model.specs.Texts.{newline}
 use Rattle.index_model.specs.Transcripts.{lines_of}
@@ -9,10 +10,11 @@ use Rattle.index_board.specs.Readers.{Reader}
 use Rattle.query_text.specs.declared.fault.SessionFault.{SessionFault}
 use Rattle.query_text.specs.declared.fault.SessionFault.TheVariants.{ReadFault, WriteFault, LineTooLong, InputTooLong, NoMemory}
 use Rattle.query_text.specs.Buffers.{longest_line}
-use Rattle.query_text.specs.Sessions.{Answers, AnswersWhole, HasLongLine, SessionStops, Stops, StopsAt, TakesUntil}
+use Rattle.query_text.specs.Sessions.{Answers, AnswersWhole, HasLongLine, IsShort, SessionStops, Stops, StopsAt, TakesUntil}
 use Rattle.query_text.specs.WholeLines.{HasNoNewline, Spells, whole_lines_of}
 use Rattle.query_text.proofs.AnswerLaws.{answers_more, answers_none, stops_front, stops_more}
 use Rattle.query_text.proofs.NewlineLaws.{last_line, last_none, lines_behind, spells_line, spells_more, spells_none, whole_behind, whole_line, whole_none}
+use Rattle.query_text.proofs.ShortLines.{last_short, lines_short}
 
 -- ---- what is taken
 
@@ -49,7 +51,7 @@ pub record AtLine (old : Reader) (told_old : Option (List ℕ)) (bytes : List �
   pub answers : Answers old new told_old told_new lines
 
 -- at first
-pub at_first : (r : Reader) (told : Option (List ℕ)) (bytes : List ℕ) → AtLine r told bytes r told bytes
+abbrev pub at_first : (r : Reader) (told : Option (List ℕ)) (bytes : List ℕ) → AtLine r told bytes r told bytes
 at_first r told bytes = record { text = []; lines = []; whole = refl; spells = spells_none; answers = answers_none r told }
 
 -- a line that begins with the part and ends with the first newline
@@ -86,12 +88,13 @@ module _ (old r new : Reader) (a b c : Option (List ℕ)) (bytes left : List ℕ
 
 -- ---- pieces, one after the other
 
--- what was taken so far, and the part of a line that is left of it
+-- what was taken so far, whose whole lines are short, and the part of a line that is left of it
 pub record Reading (left_old left_new : Option (List ℕ)) (old new : Reader) (told_old told_new : Option (List ℕ)) (part : List ℕ) (room : ℕ) : Type 0 where
   pub taken : List ℕ
   pub takes : Takes left_old left_new taken
   pub size : length taken + room ≡ 2 ^ 32
   pub at : AtLine old told_old taken new told_new part
+  pub short : All IsShort at.lines
   pub one_line : HasNoNewline part
 
 pub reading_first : (left : Option (List ℕ)) (r : Reader) (told : Option (List ℕ)) (part : List ℕ) → part ≡ [] → Reading left left r r told told part (2 ^ 32)
@@ -100,6 +103,7 @@ reading_first left r told part is = subst (λ (l : List ℕ). Reading left left 
   takes = takes_none left;
   size = refl;
   at = at_first r told [];
+  short = All-nil IsShort;
   one_line = tt;
 })
 
@@ -136,8 +140,8 @@ module _ (s t : Option (List ℕ)) (old r : Reader) (a b : Option (List ℕ)) (p
     at_piece = record { text = p.at.text; lines = p.at.lines; whole = piece_behind; spells = p.at.spells; answers = p.at.answers }
 
     -- the lines in it were answered
-    pub reading_more : (new : Reader) (c : Option (List ℕ)) (text rest : List ℕ) (lines : List (List ℕ)) (less : ℕ) → part ++ piece ≡ text ++ rest → Spells text lines → Answers r new b c lines → HasNoNewline rest → length piece + less ≡ room → Reading s u old new a c rest less
-    reading_more new c text rest lines less is spells h one fits = record {
+    pub reading_more : (new : Reader) (c : Option (List ℕ)) (text rest : List ℕ) (lines : List (List ℕ)) (less : ℕ) → part ++ piece ≡ text ++ rest → Spells text lines → Answers r new b c lines → HasNoNewline rest → length piece + less ≡ room → length part + length piece ≤ longest_line + 1 → Reading s u old new a c rest less
+    reading_more new c text rest lines less is spells h one fits held = record {
       taken = p.taken ++ piece;
       takes = takes_more s t u p.taken piece p.takes q;
       size = let e = p.size in let n = length-append p.taken piece in omega (arith, e, n, fits);
@@ -148,6 +152,9 @@ module _ (s t : Option (List ℕ)) (old r : Reader) (a b : Option (List ℕ)) (p
         spells = spells_more p.at.text text p.at.lines lines p.at.spells spells;
         answers = answers_more old r new a b c p.at.lines p.at.answers lines h;
       };
+      short =
+          let n = length-append part piece in
+          All-append IsShort p.at.lines lines p.short (lines_short (part ++ piece) text rest lines (omega (arith, n, held)) is spells one);
       one_line = one;
     }
 
@@ -168,11 +175,12 @@ module _ (s t : Option (List ℕ)) (old r : Reader) (a b : Option (List ℕ)) (p
       end = λ _. ends;
     }
 
-    pub all_answered : (new : Reader) (c : Option (List ℕ)) → 0 < room → Answers r new b c (lines_of part) → (taken : List ℕ) × TakesUntil s u true taken × (length taken < 2 ^ 32) × Answers old new a c (lines_of taken)
-    all_answered new c more h = (
+    pub all_answered : (new : Reader) (c : Option (List ℕ)) → 0 < room → length part ≤ longest_line → Answers r new b c (lines_of part) → (taken : List ℕ) × TakesUntil s u true taken × (length taken < 2 ^ 32) × All IsShort (lines_of taken) × Answers old new a c (lines_of taken)
+    all_answered new c more le h = (
       p.taken,
       took_all,
       (let e = p.size in omega (arith, e, more)),
+      subst (All IsShort) (sym (lines_left old r r a b b p.taken part p.at)) (All-append IsShort p.at.lines (lines_of part) p.short (last_short part p.one_line le)),
       subst (λ (ls : List (List ℕ)). Answers old new a c ls) (sym (lines_left old r r a b b p.taken part p.at)) (answers_more old r new a b c p.at.lines p.at.answers (lines_of part) h),
     )
 

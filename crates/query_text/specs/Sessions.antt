@@ -1,5 +1,5 @@
 -- What a session does: the lines that it answers, the marks that its reader gains, and what it writes.
-use Rattle.std.specs.Prelude.{◌≡◌, ◌<◌, ℕ, ◌+◌, ◌^◌, Bool, true, List, [], ◌∷◌, ◌++◌, length, Option, Some, None, IsSome}
+use Rattle.std.specs.Prelude.{◌≡◌, ◌≤◌, ◌<◌, ℕ, ◌+◌, ◌^◌, Bool, true, List, [], ◌∷◌, ◌++◌, length, Option, Some, None, IsSome}
 use Rattle.outside.specs.Counts.{Rose}
 use Rattle.outside.specs.Taken.{Takes, IsAtEnd}
 use Rattle.outside.specs.Written.{Appends, AppendsPrefix}
@@ -81,6 +81,10 @@ Stops old new told_old told_new faults_old faults_new known _ = ⊥
 pub record TakesUntil (left_old left_new : Option (List ℕ)) (ended : Bool) (taken : List ℕ) : Type 0 where
   pub takes : Takes left_old left_new taken
   pub end : ended ≡ true → IsAtEnd left_new
+
+-- a line has no more bytes than the longest
+abbrev pub IsShort : List ℕ → Type 0
+IsShort line = length line ≤ longest_line
 
 -- the bytes behind the last newline begin a line that is longer than the longest
 pub record HasLongLine (taken : List ℕ) : Type 0 where

@@ -67,6 +67,7 @@ impl LineBuf {
         requires room { length self.old.part ≤ longest_line }
         requires some { 1 ≤ most }
         ensures part { self.new.part ≡ self.old.part }
+        ensures fits { length self.new.part + length self.new.fresh ≤ longest_line + 1 }
         ensures fresh { IfOk result (λ n. length self.new.fresh ≡ n) }
         ensures most { IfOk result (λ n. n ≤ most) }
         ensures taken { IfOk result (λ n. Takes (S.left input.old) (S.left input.new) self.new.fresh) }

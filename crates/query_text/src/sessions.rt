@@ -1,8 +1,8 @@
 //! A session: the lines of an input, and a reply to each.
 
-ghost use Rattle.std.specs.Prelude.{◌≡◌, ◌≤◌, ◌<◌, ◌^◌, ℕ, ◌+◌, Bool, true, false, List, [], ◌∷◌, ◌++◌, length, IfOk, OnOk, IfErr};
+ghost use Rattle.std.specs.Prelude.{◌≡◌, ◌≤◌, ◌<◌, ◌^◌, ℕ, ◌+◌, Bool, true, false, List, [], ◌∷◌, ◌++◌, length, All, IfOk, OnOk, IfErr};
 ghost use Rattle.index_model.specs.Transcripts.{lines_of};
-ghost use Rattle.query_text.specs.Sessions.{Answers, SessionStops, Stops, TakesUntil};
+ghost use Rattle.query_text.specs.Sessions.{Answers, IsShort, SessionStops, Stops, TakesUntil};
 ghost use Rattle.query_text.specs.WholeLines.{HasNoNewline, Spells, whole_lines_of};
 
 use crate::answer::{Asker, answer};
@@ -28,7 +28,7 @@ pub fn session<R: Wait, S: Source, K: Sink, G: Gate>(
     line: &mut LineBuf,
     gate: &G,
 ) -> Result<(), SessionFault>
-    ensures ok { OnOk result ((taken : List ℕ) × TakesUntil (S.left input.old) (S.left input.new) true taken × (length taken < 2 ^ 32) × Answers reader.old reader.new (K.written out.old) (K.written out.new) (lines_of taken)) }
+    ensures ok { OnOk result ((taken : List ℕ) × TakesUntil (S.left input.old) (S.left input.new) true taken × (length taken < 2 ^ 32) × All IsShort (lines_of taken) × Answers reader.old reader.new (K.written out.old) (K.written out.new) (lines_of taken)) }
     ensures err { IfErr result (λ fault. SessionStops (S.left input.old) (S.left input.new) (S.read_faults input.old) (S.read_faults input.new) reader.old reader.new (K.written out.old) (K.written out.new) (K.write_faults out.old) (K.write_faults out.new) fault) }
     ensures reads { S.read_faults input.old ≤ S.read_faults input.new }
     ensures writes { K.write_faults out.old ≤ K.write_faults out.new }

@@ -31,7 +31,7 @@ returns-in-Ok-eq0-clause-ok g c =
     let ends : IsAtEnd (g.S.Source.left c.fill.new.input) = c.in-Ok-eq0.ensures.end zero in
     let part : c.part.result.now ≡ c.loop-left.line.part = c.part.ensures ∙ c.fill.ensures.part in
     let more : 0 < c.loop-left.left = grind (arith, nat_tests, c.loop-left-test.true) in
-    on_ok_weaker c.answer_last.result (λ h. all_answered (g.S.Source.left c.args.input.now) (g.S.Source.left c.loop-left.input) c.args.reader.now c.loop-left.reader (g.K.Sink.written c.args.out.now) (g.K.Sink.written c.loop-left.out) c.loop-left.line.part c.loop-left.left c.loop-left.invariant.reading (g.S.Source.left c.fill.new.input) took ends c.answer_last.new.reader (g.K.Sink.written c.answer_last.new.out) more
+    on_ok_weaker c.answer_last.result (λ h. all_answered (g.S.Source.left c.args.input.now) (g.S.Source.left c.loop-left.input) c.args.reader.now c.loop-left.reader (g.K.Sink.written c.args.out.now) (g.K.Sink.written c.loop-left.out) c.loop-left.line.part c.loop-left.left c.loop-left.invariant.reading (g.S.Source.left c.fill.new.input) took ends c.answer_last.new.reader (g.K.Sink.written c.answer_last.new.out) more c.loop-left.invariant.short
     (subst (λ (l : List ℕ). Answers c.loop-left.reader c.answer_last.new.reader (g.K.Sink.written c.loop-left.out) (g.K.Sink.written c.answer_last.new.out) (lines_of l)) part h)) c.answer_last.ensures.ok
 
 pub returns-in-Ok-eq0-clause-err : goal.returns-in-Ok-eq0-clause-err
@@ -72,8 +72,9 @@ returns-then-part-gt-LONGEST-clause-err g c =
     let less = c.loop-left.left - c.in-Ok.count in
     let whole : c.loop-left.line.part ++ c.fill.new.self.fresh ≡ h.0 ++ rest = subst (λ (l : List ℕ). l ++ c.fill.new.self.fresh ≡ h.0 ++ rest) c.fill.ensures.part h.2 in
     let fits : length c.fill.new.self.fresh + less ≡ c.loop-left.left = omega (arith, c.in-Ok.ensures.fresh, c.in-Ok.ensures.most) in
+    let held : length c.loop-left.line.part + length c.fill.new.self.fresh ≤ longest_line + 1 = subst (λ (l : List ℕ). length l + length c.fill.new.self.fresh ≤ longest_line + 1) c.fill.ensures.part c.fill.ensures.fits in
     let next : Reading (g.S.Source.left c.args.input.now) (g.S.Source.left c.fill.new.input) c.args.reader.now c.answer_whole.new.reader (g.K.Sink.written c.args.out.now) (g.K.Sink.written c.answer_whole.new.out) rest less =
-    reading_more (g.S.Source.left c.args.input.now) (g.S.Source.left c.loop-left.input) c.args.reader.now c.loop-left.reader (g.K.Sink.written c.args.out.now) (g.K.Sink.written c.loop-left.out) c.loop-left.line.part c.loop-left.left c.loop-left.invariant.reading (g.S.Source.left c.fill.new.input) c.fill.new.self.fresh c.in-Ok.ensures.taken c.answer_whole.new.reader (g.K.Sink.written c.answer_whole.new.out) h.0 rest h.1 less whole h.3 h.4 c.in_ok-answer_whole.ensures.one_line fits in
+    reading_more (g.S.Source.left c.args.input.now) (g.S.Source.left c.loop-left.input) c.args.reader.now c.loop-left.reader (g.K.Sink.written c.args.out.now) (g.K.Sink.written c.loop-left.out) c.loop-left.line.part c.loop-left.left c.loop-left.invariant.reading (g.S.Source.left c.fill.new.input) c.fill.new.self.fresh c.in-Ok.ensures.taken c.answer_whole.new.reader (g.K.Sink.written c.answer_whole.new.out) h.0 rest h.1 less whole h.3 h.4 c.in_ok-answer_whole.ensures.one_line fits held in
     let same : length c.part-in-loop-left.result.now ≡ length rest = ap length c.part-in-loop-left.ensures in
     let long : longest_line < length rest = grind (arith, nat_tests, same, c.if-part-gt-LONGEST.true) in
     too_long (g.S.Source.left c.args.input.now) (g.S.Source.left c.fill.new.input) c.args.reader.now c.answer_whole.new.reader (g.K.Sink.written c.args.out.now) (g.K.Sink.written c.answer_whole.new.out) rest less next long
@@ -85,8 +86,9 @@ loop-left-preserved g c =
     let less = c.loop-left.left - c.in-Ok.count in
     let whole : c.loop-left.line.part ++ c.fill.new.self.fresh ≡ h.0 ++ rest = subst (λ (l : List ℕ). l ++ c.fill.new.self.fresh ≡ h.0 ++ rest) c.fill.ensures.part h.2 in
     let fits : length c.fill.new.self.fresh + less ≡ c.loop-left.left = omega (arith, c.in-Ok.ensures.fresh, c.in-Ok.ensures.most) in
+    let held : length c.loop-left.line.part + length c.fill.new.self.fresh ≤ longest_line + 1 = subst (λ (l : List ℕ). length l + length c.fill.new.self.fresh ≤ longest_line + 1) c.fill.ensures.part c.fill.ensures.fits in
     let next : Reading (g.S.Source.left c.args.input.now) (g.S.Source.left c.fill.new.input) c.args.reader.now c.answer_whole.new.reader (g.K.Sink.written c.args.out.now) (g.K.Sink.written c.answer_whole.new.out) rest less =
-    reading_more (g.S.Source.left c.args.input.now) (g.S.Source.left c.loop-left.input) c.args.reader.now c.loop-left.reader (g.K.Sink.written c.args.out.now) (g.K.Sink.written c.loop-left.out) c.loop-left.line.part c.loop-left.left c.loop-left.invariant.reading (g.S.Source.left c.fill.new.input) c.fill.new.self.fresh c.in-Ok.ensures.taken c.answer_whole.new.reader (g.K.Sink.written c.answer_whole.new.out) h.0 rest h.1 less whole h.3 h.4 c.in_ok-answer_whole.ensures.one_line fits in
+    reading_more (g.S.Source.left c.args.input.now) (g.S.Source.left c.loop-left.input) c.args.reader.now c.loop-left.reader (g.K.Sink.written c.args.out.now) (g.K.Sink.written c.loop-left.out) c.loop-left.line.part c.loop-left.left c.loop-left.invariant.reading (g.S.Source.left c.fill.new.input) c.fill.new.self.fresh c.in-Ok.ensures.taken c.answer_whole.new.reader (g.K.Sink.written c.answer_whole.new.out) h.0 rest h.1 less whole h.3 h.4 c.in_ok-answer_whole.ensures.one_line fits held in
     let same : length c.part-in-loop-left.result.now ≡ length rest = ap length c.part-in-loop-left.ensures in
     record {
       reading = next;
