@@ -1,10 +1,8 @@
 -- The entries of a file lie inside their units, its ranges are of its units, and main is one of its entries.
 use Rattle.std.proofs.Common.{◌≡◌, ℕ, ◌+◌, ◌-◌, ◌<◌, ◌≤◌, Bool, true, false, cond, not, ◌&&◌, eqb, List, [], ◌∷◌, length, filter, find, flat_map, map, Option, Some, None, Ok, refl, sym, ap, subst, ◌∙◌, arith, ⊎_elim}
 use Rattle.std.specs.Prelude.{All, Contains, slice_get, bytes_eq, option_to_list, IsSomeAnd}
-use Rattle.std.specs.List.{list_any}
 use Rattle.std.specs.Option.{option_or, option_map}
 use Rattle.std.proofs.lemmas.Slice.Eq.{bytes_eq-Decides}
-use Rattle.index_model.specs.declared.answer.Main.{Main}
 use Rattle.index_model.specs.declared.entry.Entry.{Entry}
 use Rattle.index_model.specs.declared.range.Range.{Range}
 use Rattle.index_model.specs.declared.range.UnitRange.{UnitRange}
@@ -12,19 +10,19 @@ use Rattle.index_model.specs.declared.unit.Unit.{Unit as UnitHeader}
 use Rattle.index_model.specs.Attributes.{says_main}
 use Rattle.index_model.specs.Chains.{linkage_name_of}
 use Rattle.index_model.specs.Entries.{entry_of, may_have_linkage, linkage_entry_of, entries_of_link, entries_of}
-use Rattle.index_model.specs.Faults.{Built, built_of, program_of, links_of, all_ranges}
+use Rattle.index_model.specs.Faults.{program_of, links_of, all_ranges}
 use Rattle.index_model.specs.Languages.{language_of}
 use Rattle.index_model.specs.LawsRanges.{IsLeastUnit}
 use Rattle.index_model.specs.Links.{Link, links_in, is_link_indexed, indexed_in}
 use Rattle.index_model.specs.MainProgram.{full_name, is_named_main, main_in, main_of}
-use Rattle.index_model.specs.Meaning.{◌>>=◌, each}
-use Rattle.index_model.specs.Pieces.{IsPieces, pieces}
+use Rattle.index_model.specs.Meaning.{each}
+use Rattle.index_model.specs.Pieces.{IsPieces}
 use Rattle.index_model.specs.Program.{Walked, Program}
 use Rattle.index_model.specs.Ranges.{ranges_of, unit_ranges, ranges_in, unit_at}
 use Rattle.index_model.proofs.MaximalLaws.{pieces_are_maximal}
 use Rattle.index_model.proofs.Meanings.{bind_ok, same_ok, same_some, contains_here, contains_later, contains_cases}
 use Rattle.index_model.proofs.Pairs.{of_map, of_filter, of_flat_map}
-use Rattle.index_model.proofs.Scans.{AreScans, program_parts}
+use Rattle.index_model.proofs.Scans.{AreScans}
 use Rattle.index_model.proofs.ShardRoots.{Numbered, program_numbered}
 use Rattle.index_model.proofs.UnitAtLaws.{unit_at_least}
 use Rattle.index_model.proofs.UnitReads.{if_some}
@@ -33,7 +31,7 @@ use Rattle.range_lists.proofs.Runs.{scan_unit}
 use Rattle.gdbindex_write.specs.Writable.{IsInUnits, IsMainOf, is_plainly_named}
 use Rattle.shard_build.proofs.OnePlace.{to_flat_map}
 use Rattle.index_jobs.proofs.Built.{built, built_with}
-use Rattle.index_jobs.proofs.Counts.{Stands, stands}
+use Rattle.index_jobs.proofs.Counts.{stands}
 use Rattle.index_jobs.proofs.FileUnits.{all_of}
 use Rattle.index_jobs.proofs.Owners.{each_member, in_optional, link_unit}
 use Rattle.index_jobs.proofs.Picks.{any_of}

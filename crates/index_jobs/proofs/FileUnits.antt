@@ -1,6 +1,6 @@
 -- The units of a file follow one another, those of `.debug_info` first.
-use Rattle.std.proofs.Common.{◌≡◌, ℕ, ◌+◌, ◌<◌, ◌≤◌, ◌^◌, Bool, true, false, List, [], ◌∷◌, ◌++◌, length, drop, get_or, Ok, refl, sym, ap, subst, ◌∙◌, arith, length-drop, ⊎_elim}
-use Rattle.std.specs.Prelude.{All, AllPairs, Contains, codes, sum_by}
+use Rattle.std.proofs.Common.{◌≡◌, ℕ, ◌+◌, ◌≤◌, ◌^◌, Bool, true, false, List, [], ◌∷◌, ◌++◌, length, get_or, Ok, sym, ap, subst, ◌∙◌, arith, length-drop, ⊎_elim}
+use Rattle.std.specs.Prelude.{All, Contains, codes, sum_by}
 use Rattle.std.proofs.lemmas.List.Elements.{Contains-get_or}
 use Rattle.std.proofs.lemmas.List.Sums.{sum_by-append, sum_by-cons}
 use Rattle.ix_base.specs.Reading.{Input, input}

@@ -1,5 +1,5 @@
 -- The output of the Write job.
-use Rattle.std.proofs.Common.{◌≡◌, ◌⊎◌, ℕ, ◌+◌, ◌<◌, ◌≤◌, ◌^◌, Bool, true, false, cond, ◌&&◌, leb, List, [], ◌∷◌, length, map, Option, Some, None, Result, Ok, Err, Vec, refl, sym, ap, subst, ◌∙◌, arith, inl, inr, ⊎_elim}
+use Rattle.std.proofs.Common.{◌≡◌, ◌⊎◌, ℕ, ◌+◌, ◌<◌, ◌≤◌, ◌^◌, Bool, true, false, cond, ◌&&◌, leb, List, [], ◌∷◌, length, map, Option, Some, Result, Ok, Err, Vec, refl, sym, ap, subst, ◌∙◌, arith, inl, inr}
 use Rattle.std.specs.Prelude.{All, IfOk, IfErr, OnOk, IsOkAnd, IsSomeAnd, codes}
 use Rattle.std.proofs.lemmas.Bool.{le-leb, leb-true}
 use Rattle.std.proofs.lemmas.Bool.Decides.{nat_tests}
@@ -9,19 +9,17 @@ use Rattle.unit_headers.proofs.Images.{parts_of}
 use Rattle.index_model.specs.declared.answer.Main.{Main as MainOf}
 use Rattle.index_model.specs.declared.entry.Entry.{Entry}
 use Rattle.index_model.specs.declared.job.CacheKind.{CacheKind}
-use Rattle.index_model.specs.declared.job.CacheKind.TheVariants.{Gdb8, Gdb9, Names}
+use Rattle.index_model.specs.declared.job.CacheKind.TheVariants.{Names}
 use Rattle.index_model.specs.declared.job.Job.{Job}
 use Rattle.index_model.specs.declared.job.Job.TheVariants.{Main, Merge, Write}
 use Rattle.index_model.specs.declared.range.UnitRange.{UnitRange}
 use Rattle.index_model.specs.declared.unit.Unit.{Unit as UnitHeader}
 use Rattle.index_model.specs.Answers.{entries_in}
 use Rattle.index_model.specs.Cache.{Cache, GdbBytes, NameBytes, DoesNotFit, gdb_cache, name_cache, cache_of, cache_in, string_bytes_in}
-use Rattle.index_model.specs.Entries.{entries_of}
 use Rattle.index_model.specs.Faults.{Built, built_of, program_of, links_of, all_ranges}
 use Rattle.index_model.specs.GdbIndex.{gdb_index_bytes}
-use Rattle.index_model.specs.Links.{Link, links_in}
+use Rattle.index_model.specs.Links.{links_in}
 use Rattle.index_model.specs.MainProgram.{main_of}
-use Rattle.index_model.specs.Meaning.{◌>>=◌}
 use Rattle.index_model.specs.NameIndex.{name_index_bytes, name_index_strings}
 use Rattle.index_model.specs.Pieces.{IsPieces, pieces}
 use Rattle.index_model.specs.Program.{Walked, Program}
@@ -30,7 +28,6 @@ use Rattle.index_model.specs.Units.{units_of}
 use Rattle.index_model.specs.Machine.{Output, Memory, Faulty, Gave}
 use Rattle.index_model.specs.Outputs.{Subject, Summary, Made, ShardOf, LinkedOf, SummaryOf, RunOf, TableOf, CacheOf, Makes, IsOutputOf}
 use Rattle.index_model.specs.Parts.{Parts}
-use Rattle.index_model.specs.LawsCore.{HasRuns}
 use Rattle.index_model.proofs.Meanings.{bind_ok, same_ok}
 use Rattle.index_model.proofs.Scans.{AreScans, scanned_walked, program_parts}
 use Rattle.index_model.proofs.UnitsApart.{walk_parts}
@@ -43,7 +40,7 @@ use Rattle.debugnames_write.specs.declared.writer.WriteStop.{WriteStop as NamesS
 use Rattle.debugnames_write.specs.declared.writer.WriteStop.TheVariants as names_stops
 use Rattle.debugnames_write.specs.Conditions.{AreIndexable, Fits}
 use Rattle.stage_core.specs.Inputs.{PublishedOf}
-use Rattle.index_jobs.specs.Drawn.{IsDrawn, ForDrawn}
+use Rattle.index_jobs.specs.Drawn.{IsDrawn}
 use Rattle.index_jobs.specs.Outputs.{gdb_output, names_output}
 use Rattle.index_jobs.specs.Written.{ArePublished, IsIndexOf, kind_of_version}
 use Rattle.index_jobs.proofs.FileEntries.{entries_in_units, pieces_in_units, main_named}
@@ -51,7 +48,7 @@ use Rattle.index_jobs.proofs.FileUnits.{gdb_units, name_units}
 use Rattle.index_jobs.proofs.Given.{IsWrite, is_write}
 use Rattle.index_jobs.proofs.Lists.{ok_and, and_ok, at_ok}
 use Rattle.index_jobs.proofs.Next.{HandedOut, handed_out}
-use Rattle.index_jobs.proofs.ScanJob.{Same, same_image}
+use Rattle.index_jobs.proofs.ScanJob.{same_image}
 
 above : (n m : ℕ) → m < n → leb n m ≡ false
 above n m lt = grind (arith, nat_tests)

@@ -1,9 +1,9 @@
 //! The ranges of all units of a file.
 
-ghost use Rattle.std.specs.Prelude.{◌<◌, ◌≡◌, ◌+◌, Ok, Result, length, map, take, vec_items};
+ghost use Rattle.std.specs.Prelude.{◌<◌, ◌+◌, Ok, length, map, take};
 ghost use Rattle.std.specs.Arc.{arc_value};
 ghost use Rattle.index_model.specs.Faults.{all_ranges};
-ghost use Rattle.index_model.specs.Gives.{Gives, StopsAs};
+ghost use Rattle.index_model.specs.Gives.{Gives};
 ghost use Rattle.index_model.specs.Ranges.{ranges_in};
 ghost use Rattle.qualified_names.specs.Files.{AreLinkedOfFile, ForLinks};
 ghost use Rattle.index_jobs.specs.Files.{AreFirstRanges};

@@ -1,6 +1,6 @@
 //! Main, and the unit at each address.
 
-ghost use Rattle.std.specs.Prelude.{◌≡◌, map, IfOk};
+ghost use Rattle.std.specs.Prelude.{map};
 ghost use Rattle.std.specs.Arc.{arc_value};
 ghost use Rattle.index_model.specs.Faults.{all_ranges};
 ghost use Rattle.index_model.specs.Gives.{GivesFor};
