@@ -1,9 +1,11 @@
 -- Where nothing failed, a command comes to what was asked, or to want of memory.
-use Rattle.std.proofs.Common.{◌≡◌, ◌⊎◌, inl, inr, ℕ, ◌<◌, ◌≤◌, List, Option, Some, None, Ok, Err, refl, sym, ap, subst, ◌∙◌, arith}
+use Rattle.std.proofs.Common.{◌≡◌, ◌⊎◌, inl, inr, ⊎_elim, ℕ, ◌<◌, ◌≤◌, List, Option, Some, None, Ok, Err, refl, sym, ap, subst, ◌∙◌, arith}
 use Rattle.std.specs.Prelude.{length, IsSome}
 use Rattle.ix_base.specs.declared.fault.Fault.{Fault}
 use Rattle.ix_base.specs.declared.limits.TheConstants.{MAX_FILE_BYTES}
+use Rattle.elf_make.specs.Generated.{generated_file}
 use Rattle.index_model.specs.declared.job.CacheKind.{CacheKind}
+use Rattle.index_model.specs.declared.job.CacheKind.TheVariants.{Gdb8, Names}
 use Rattle.index_model.specs.Cache.{Cache, GdbBytes, NameBytes, DoesNotFit, cache_in}
 use Rattle.index_model.specs.Faults.{Built, first_fault, built_of, IsAccepted}
 use Rattle.index_model.specs.GdbIndexRead.{GdbIndex, gdb_index}
@@ -11,10 +13,12 @@ use Rattle.index_model.specs.NameIndexRead.{NameIndex, name_index}
 use Rattle.index_model.specs.Queries.{Query}
 use Rattle.index_model.proofs.Meanings.{same_ok}
 use Rattle.outside.specs.Files.{Files}
-use Rattle.index_cmd.specs.Requests.{Request, TheHelp, TheVersion, OfFile, OfIndex, OfGdb, OfNames, OfServe, AsksFile, AsksProgram, AsksIndex}
+use Rattle.index_cmd.specs.declared.script.TheConstants.{MAX_SCRIPT_BYTES}
+use Rattle.index_cmd.specs.Requests.{Request, TheHelp, TheVersion, OfFile, OfIndex, OfGdb, OfNames, OfServe, OfRace, OfDrill, AsksFile, AsksProgram, AsksIndex}
+use Rattle.index_cmd.specs.Drills.{HasTooLarge, IsSummaryOf}
 use Rattle.index_cmd.specs.FilesRead.{HoldsMore}
 use Rattle.index_cmd.specs.Heard.{Heard}
-use Rattle.index_cmd.specs.Results.{Says, Completes, IsServeMeant}
+use Rattle.index_cmd.specs.Results.{Says, Completes, IsServeMeant, IsDrillMeant}
 use Rattle.index_cmd.specs.Replies.{Causes, MakesTooLarge, IsIndexRefusal, IsMeant, IsIndexMeant, IsLookMeant, IsNamesMeant, line_of}
 use Rattle.index_cmd.specs.Statuses.{status_code}
 use Rattle.index_cmd.specs.Stores.{Keeps, LeavesAtEnd}
@@ -285,6 +289,82 @@ module _ (request : Option Request) (files : Files) (heard : Heard) (reads store
   session_meant says_yes says_no never input status (lines text is c a) = let e = session_line status text is c in record { answered = λ _. inr (inl e); refused_ = λ f some. inr (inl e) }
   session_meant says_yes says_no never input status (fails f p) = absurd (no_write f)
 
+-- ---- drill
+
+-- where both indexes fit, none is too large
+none_too_large : (file : List ℕ) (b : Built) → built_of file ≡ Ok b → (cache_in Gdb8 b ≡ DoesNotFit → ⊥) → (cache_in Names b ≡ DoesNotFit → ⊥) → HasTooLarge file → ⊥
+none_too_large file b is gdb names large = by large.large
+  where
+    same : b ≡ large.built
+    same = same_ok b large.built (sym is ∙ large.accepted)
+
+    by : (cache_in Gdb8 large.built ≡ DoesNotFit) ⊎ (cache_in Names large.built ≡ DoesNotFit) → ⊥
+    by (inl off) = gdb (ap (cache_in Gdb8) same ∙ off)
+    by (inr off) = names (ap (cache_in Names) same ∙ off)
+
+-- those whose sizes were written fit
+sizes_fit : (file text : List ℕ) → IsSummaryOf file text → HasTooLarge file → ⊥
+sizes_fit file text s large = none_too_large file s.built s.accepted
+    (λ off. let e : GdbBytes s.gdb ≡ DoesNotFit = sym s.gdb_is ∙ off in cc e)
+    (λ off. let e : NameBytes s.names s.strings ≡ DoesNotFit = sym s.names_is ∙ off in cc e) large
+
+-- an accepted file has no fault
+not_faulty : (file : List ℕ) (b : Built) (f : Fault) → built_of file ≡ Ok b → first_fault file ≡ Some f → ⊥
+not_faulty file b f is first = none_some f (sym (accepted_built file b is) ∙ first)
+
+module _ (seed units : ℕ) (told : Option Files) (heard : Heard) (reads stores writes : Type 0) (old new : Option (List ℕ)) (no_write : writes → ⊥) where
+  abbrev drilled : Option Request
+  drilled = Some (OfDrill seed units)
+
+  abbrev made : List ℕ
+  made = generated_file seed units
+
+  -- the line of a status can be that of want of memory or of an index that is too large
+  drill_line : (status : Status) (text : List ℕ) → line_of status ≡ Some text → Causes drilled told reads stores writes status → IsDrillMeant made (status_code status)
+  drill_line NoMemory text is c = record { answered = λ b e gdb names. inr refl; too_large = λ large. inr refl; refused_ = λ f first. inr refl }
+  drill_line IndexTooLarge text is c = record {
+    answered = λ b e gdb names. absurd (none_too_large made b e gdb names c);
+    too_large = λ large. inl refl;
+    refused_ = λ f first. absurd (not_faulty made c.built f c.accepted first);
+  }
+  drill_line Usage text is c = absurd (cc c)
+  drill_line ReadFault text is c = absurd c
+  drill_line StoreFault text is c = absurd c
+  drill_line FileTooBig text is c = absurd c
+  drill_line Answered text is c = absurd (cc is)
+  drill_line Refused text is c = absurd (cc is)
+  drill_line IndexRefused text is c = absurd (cc is)
+  drill_line WriteFault text is c = absurd (cc is)
+  drill_line InputFault text is c = absurd (cc is)
+  drill_line InputTooLong text is c = absurd (cc is)
+  drill_line Stopped text is c = absurd (cc is)
+
+  drill_meant : (status : Status) → Outcome drilled told heard reads stores writes old new status → IsDrillMeant made (status_code status)
+  drill_meant Answered (tells t w) = record {
+    answered = λ b e gdb names. inl refl;
+    too_large = λ large. absurd (sizes_fit made w.0 w.1 large);
+    refused_ = λ f first. absurd (not_faulty made w.1.built f w.1.accepted first);
+  }
+  drill_meant Refused (tells t w) = record {
+    answered = λ b e gdb names. absurd (not_faulty made b w.1.fault e w.1.first);
+    too_large = λ large. absurd (not_faulty made large.built w.1.fault large.accepted w.1.first);
+    refused_ = λ f first. inl refl;
+  }
+  drill_meant IndexRefused (tells t w) = absurd w.1
+  drill_meant InputFault (tells t w) = absurd w.1
+  drill_meant InputTooLong (tells t w) = absurd w.1
+  drill_meant Usage (tells t w) = absurd t
+  drill_meant ReadFault (tells t w) = absurd t
+  drill_meant StoreFault (tells t w) = absurd t
+  drill_meant WriteFault (tells t w) = absurd t
+  drill_meant NoMemory (tells t w) = absurd t
+  drill_meant IndexTooLarge (tells t w) = absurd t
+  drill_meant FileTooBig (tells t w) = absurd t
+  drill_meant Stopped (tells t w) = absurd t
+  drill_meant status (stops text says part) = absurd says
+  drill_meant status (lines text is c a) = drill_line status text is c
+  drill_meant status (fails f p) = absurd (no_write f)
+
 pub complete : (request : Option Request) (told shelf : Option Files) (heard : Heard) (reads stores writes : Type 0) (old new : Option (List ℕ)) (status : Status) → Outcome request told heard reads stores writes old new status → LeavesAtEnd request told shelf status →
     Completes request told heard reads stores writes (status_code status)
 complete None told shelf heard reads stores writes old new status o left = nothing_asked told reads stores writes old new status (plain None told reads stores writes old new heard (λ _ _ h. h) status o)
@@ -302,3 +382,8 @@ complete (Some (OfServe wait file)) None shelf heard reads stores writes old new
 complete (Some (OfServe wait file)) (Some files) shelf heard reads stores writes old new status o left = λ bytes holds small no_read no_write no_input.
     session_meant (Some (OfServe wait file)) files heard reads stores writes old new file bytes holds no_read (λ h. h) (fits MAX_FILE_BYTES (files file) bytes holds small) (λ h. h) (λ e. cc e) no_write
     (λ text h. (h.0, h.1, h.2.0)) (λ text h. (h.0, h.1, h.2.0)) (λ text h. h.2) (λ text h. no_input h.2.0) status o
+complete (Some (OfRace readers file script)) None shelf heard reads stores writes old new status o left = tt
+complete (Some (OfRace readers file script)) (Some files) shelf heard reads stores writes old new status o left = λ bytes holds small no_read no_write held has_script small_script again_no_read again_no_write.
+    session_meant (Some (OfRace readers file script)) files heard reads stores writes old new file bytes holds (⊎_elim no_read no_read) (λ h. h) (⊎_elim (fits MAX_FILE_BYTES (files file) bytes holds small) (fits MAX_SCRIPT_BYTES (files script) held has_script small_script)) (λ h. h) (λ e. cc e) no_write
+    (λ text h. (h.0, h.1, h.2.2.0)) (λ text h. (h.0, h.1, h.2.2.0)) (λ text h. h.2.2) (λ text h. h.2.2) status o
+complete (Some (OfDrill seed units)) told shelf heard reads stores writes old new status o left = λ no_write. drill_meant seed units told heard reads stores writes old new no_write status o

@@ -3,7 +3,7 @@ use Rattle.std.proofs.Common.{◌≡◌, ◌⊎◌, inl, inr, ℕ, List, Option,
 use Rattle.std.specs.Prelude.{option_map}
 use Rattle.index_model.specs.Queries.{Query}
 use Rattle.outside.specs.Files.{Files, SameFiles}
-use Rattle.index_cmd.specs.Requests.{Request, TheHelp, TheVersion, OfFile, OfIndex, OfGdb, OfNames, OfServe, AsksIndex, StoresNothing}
+use Rattle.index_cmd.specs.Requests.{Request, TheHelp, TheVersion, OfFile, OfIndex, OfGdb, OfNames, OfServe, OfRace, OfDrill, AsksIndex, StoresNothing}
 use Rattle.index_cmd.specs.Replies.{Causes, Ends, without_line, with_line, cut, line_of}
 use Rattle.index_cmd.specs.Statuses.{status_code}
 use Rattle.index_cmd.specs.Stores.{IsStored, IsPartStored, Leaves, LeavesAtEnd}
@@ -33,6 +33,8 @@ stored_same (Some (OfFile file q)) old new n h = h
 stored_same (Some (OfGdb index q)) old new n h = h
 stored_same (Some (OfNames base index strings name)) old new n h = h
 stored_same (Some (OfServe wait file)) old new n h = h
+stored_same (Some (OfRace readers file script)) old new n h = h
+stored_same (Some (OfDrill seed units)) old new n h = h
 stored_same (Some (OfIndex kind file out)) old new n h = absurd n
 
 same_stored : (request : Option Request) (old new : Option Files) → StoresNothing request → SameFiles old new → IsStored request old new
@@ -43,6 +45,8 @@ same_stored (Some (OfFile file q)) old new n h = h
 same_stored (Some (OfGdb index q)) old new n h = h
 same_stored (Some (OfNames base index strings name)) old new n h = h
 same_stored (Some (OfServe wait file)) old new n h = h
+same_stored (Some (OfRace readers file script)) old new n h = h
+same_stored (Some (OfDrill seed units)) old new n h = h
 same_stored (Some (OfIndex kind file out)) old new n h = absurd n
 
 no_part : (request : Option Request) (old new : Option Files) → StoresNothing request → IsPartStored request old new → ⊥
@@ -53,6 +57,8 @@ no_part (Some (OfFile file q)) old new n h = h
 no_part (Some (OfGdb index q)) old new n h = h
 no_part (Some (OfNames base index strings name)) old new n h = h
 no_part (Some (OfServe wait file)) old new n h = h
+no_part (Some (OfRace readers file script)) old new n h = h
+no_part (Some (OfDrill seed units)) old new n h = h
 no_part (Some (OfIndex kind file out)) old new n h = n
 
 no_index : (request : Option Request) (P : Type 0) → StoresNothing request → AsksIndex request (λ _ _ _. P) → ⊥
@@ -63,6 +69,8 @@ no_index (Some (OfFile file q)) P n h = h
 no_index (Some (OfGdb index q)) P n h = h
 no_index (Some (OfNames base index strings name)) P n h = h
 no_index (Some (OfServe wait file)) P n h = h
+no_index (Some (OfRace readers file script)) P n h = h
+no_index (Some (OfDrill seed units)) P n h = h
 no_index (Some (OfIndex kind file out)) P n h = n
 
 module _ (request : Option Request) (old new : Option Files) (n : StoresNothing request) where

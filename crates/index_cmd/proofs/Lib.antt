@@ -7,8 +7,12 @@ mod GdbLaws
 mod NamesLaws
 mod HitCounts
 mod StoreLaws
+mod DrillLaws
 mod BoardLaws
 mod Leavings
 mod Completeness
 mod SessionTexts
 mod ListenLaws
+mod Crossing
+mod RunnerLaws
+mod RaceLaws

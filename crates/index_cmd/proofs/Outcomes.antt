@@ -10,7 +10,7 @@ use Rattle.outside.specs.Written.{Appends, AppendsPrefix}
 use Rattle.outside.proofs.WrittenLaws.{appends_more, appends_more_prefix}
 use Rattle.index_cmd.specs.Words.{Wanted, command_of}
 use Rattle.index_cmd.specs.Heard.{Heard}
-use Rattle.index_cmd.specs.Requests.{Request, TheHelp, TheVersion, OfFile, OfIndex, OfGdb, OfNames, OfServe, AsksFile, AsksIndex, requested, request_of}
+use Rattle.index_cmd.specs.Requests.{Request, TheHelp, TheVersion, OfFile, OfIndex, OfGdb, OfNames, OfServe, OfRace, OfDrill, AsksFile, AsksIndex, requested, request_of}
 use Rattle.index_cmd.specs.Replies.{Causes, Ends, without_line, with_line, cut, IsAnswer, IsRefusal, IsIndexRefusal, IsStatus, SaysRequest, Wrote, Writes, line_of}
 use Rattle.index_cmd.specs.Results.{Says, SaysNoMemory, WritesPrefix}
 use Rattle.index_cmd.specs.Statuses.{status_code}
@@ -144,10 +144,12 @@ module _ (request : Option Request) (told : Option Files) (heard : Heard) (reads
   no_memory status (lines text is c a) e = inl (text, no_memory_line status text e is, a)
   no_memory status (fails f p) e = absurd (omega (arith, e))
 
--- ---- requests that aren't a session
+-- ---- requests that are neither sessions nor a generated program
 
 abbrev pub IsPlain : Option Request → Type 0
 IsPlain (Some (OfServe wait file)) = ⊥
+IsPlain (Some (OfRace readers file script)) = ⊥
+IsPlain (Some (OfDrill seed units)) = ⊥
 IsPlain other = ⊤
 
 -- what is said of them
@@ -160,6 +162,8 @@ says_plain (Some (OfIndex kind file out)) p told heard status text h = h
 says_plain (Some (OfGdb index q)) p told heard status text h = h
 says_plain (Some (OfNames base index strings name)) p told heard status text h = h
 says_plain (Some (OfServe wait file)) p told heard status text h = absurd p
+says_plain (Some (OfRace readers file script)) p told heard status text h = absurd p
+says_plain (Some (OfDrill seed units)) p told heard status text h = absurd p
 
 pub wrote_plain : (request : Option Request) → IsPlain request → (told : Option Files) (heard : Heard) (status : Status) (old new : Option (List ℕ)) → Wrote (SaysRequest request told) status old new → Wrote (Says request told heard) status old new
 wrote_plain request p told heard status old new w = wrote_weaker (SaysRequest request told) (Says request told heard) (says_plain request p told heard) status old new w
@@ -212,6 +216,9 @@ asks (Some (OfGdb index q)) P h = h
 asks (Some (OfNames base index strings name)) P (inl h) = h
 asks (Some (OfNames base index strings name)) P (inr h) = h
 asks (Some (OfServe wait file)) P h = h
+asks (Some (OfRace readers file script)) P (inl h) = h
+asks (Some (OfRace readers file script)) P (inr h) = h
+asks (Some (OfDrill seed units)) P h = absurd h
 asks (Some TheHelp) P h = absurd h
 asks (Some TheVersion) P h = absurd h
 asks None P h = absurd h
@@ -222,6 +229,8 @@ asks_index (Some (OfFile file q)) P h = absurd h
 asks_index (Some (OfGdb index q)) P h = absurd h
 asks_index (Some (OfNames base index strings name)) P h = absurd h
 asks_index (Some (OfServe wait file)) P h = absurd h
+asks_index (Some (OfRace readers file script)) P h = absurd h
+asks_index (Some (OfDrill seed units)) P h = absurd h
 asks_index (Some TheHelp) P h = absurd h
 asks_index (Some TheVersion) P h = absurd h
 asks_index None P h = absurd h

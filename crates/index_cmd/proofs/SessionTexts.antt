@@ -57,7 +57,7 @@ in_range s least most floor (m ∷ ms) low each has =
 
 -- ---- texts
 
-transcript_is : (file : List ℕ) (s : Subject) → IsOver file s → (lines : List (List ℕ)) (marks : List ℕ) → transcript s lines marks ≡ transcript_of (built_of file) (size_in Gdb8 (built_of file)) lines marks
+pub transcript_is : (file : List ℕ) (s : Subject) → IsOver file s → (lines : List (List ℕ)) (marks : List ℕ) → transcript s lines marks ≡ transcript_of (built_of file) (size_in Gdb8 (built_of file)) lines marks
 transcript_is file s over lines marks =
     ap (λ (f : List ℕ). transcript_of (built_of f) (size_in s.cache (built_of f)) lines marks) over.file_is
     ∙ ap (λ (kind : CacheKind). transcript_of (built_of file) (size_in kind (built_of file)) lines marks) over.cache_is

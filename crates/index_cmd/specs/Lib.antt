@@ -1,6 +1,7 @@
 pub mod Numbers
 pub mod WordParts
 pub mod SessionWords
+pub mod DrillWords
 pub mod Words
 pub mod SeenWords
 pub mod FilesRead
@@ -9,10 +10,15 @@ pub mod Requests
 pub mod Heard
 pub mod Floors
 pub mod Sessions
+pub mod Races
+pub mod Drills
 pub mod GdbLooks
 pub mod NamesLooks
 pub mod Stores
 pub mod Replies
+pub mod Summaries
 pub mod Indexes
 pub mod Results
 pub mod Listens
+pub mod Runners
+pub mod RaceEnds

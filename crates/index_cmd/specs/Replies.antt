@@ -11,13 +11,15 @@ use Rattle.index_model.specs.GdbIndexRead.{GdbIndex, gdb_index}
 use Rattle.index_model.specs.NameIndexRead.{NameIndex, name_index}
 use Rattle.index_model.specs.Queries.{Query}
 use Rattle.index_model.specs.Texts.{line, text_of_answer, text_of_fault}
+use Rattle.elf_make.specs.Generated.{generated_file}
 use Rattle.outside.specs.declared.shelf.Failed.{Failed}
 use Rattle.outside.specs.Files.{Files}
 use Rattle.outside.specs.Written.{Appends, AppendsPrefix}
+use Rattle.index_cmd.specs.Drills.{HasTooLarge}
 use Rattle.index_cmd.specs.FilesRead.{Holds, HoldsMore}
 use Rattle.index_cmd.specs.GdbLooks.{gdb_text, IsGdbAnswerOf, IsGdbRefusalOf}
 use Rattle.index_cmd.specs.NamesLooks.{IsNamesAnswerOf, IsNamesRefusalOf}
-use Rattle.index_cmd.specs.Requests.{Request, TheHelp, TheVersion, OfFile, OfIndex, OfGdb, OfNames, OfServe, AsksFile, AsksProgram, AsksIndex}
+use Rattle.index_cmd.specs.Requests.{Request, TheHelp, TheVersion, OfFile, OfIndex, OfGdb, OfNames, OfServe, OfRace, OfDrill, AsksFile, AsksProgram, AsksIndex}
 use Rattle.index_cmd.specs.Stores.{ForIndex}
 use Rattle.index_cmd.specs.declared.status.Status.{Status}
 use Rattle.index_cmd.specs.declared.status.Status.TheVariants.{Answered, Refused, Usage, ReadFault, StoreFault, WriteFault, InputFault, NoMemory, IndexRefused, IndexTooLarge, FileTooBig, InputTooLong, Stopped}
@@ -41,7 +43,7 @@ pub record IsRefusalOf (file text : List ℕ) : Type 0 where
 abbrev pub OfFileBytes : Option Files → List ℕ → (List ℕ → Type 0) → Type 0
 OfFileBytes told file P = (bytes : List ℕ) × Holds told file bytes × P bytes
 
--- the text answers what was asked, where that isn't a session; that of a stored index is empty
+-- the text answers what was asked of a file or an index; that of a stored index is empty
 abbrev pub IsAnswer : Option Request → Option Files → List ℕ → Type 0
 IsAnswer None told text = ⊥
 IsAnswer (Some TheHelp) told text = text ≡ about.HELP.now
@@ -51,6 +53,8 @@ IsAnswer (Some (OfIndex kind file out)) told text = text ≡ []
 IsAnswer (Some (OfGdb index q)) told text = OfFileBytes told index (λ bytes. IsGdbAnswerOf bytes q text)
 IsAnswer (Some (OfNames base index strings name)) told text = OfFileBytes told index (λ bytes. OfFileBytes told strings (λ held. IsNamesAnswerOf bytes held base name text))
 IsAnswer (Some (OfServe wait file)) told text = ⊥
+IsAnswer (Some (OfRace readers file script)) told text = ⊥
+IsAnswer (Some (OfDrill seed units)) told text = ⊥
 
 -- the text is that of the first fault of the file that was asked
 abbrev pub IsRefusal : Option Request → Option Files → List ℕ → Type 0
@@ -133,6 +137,7 @@ IsTooLarge cache = cache ≡ DoesNotFit
 -- an index that was asked for doesn't fit its format
 abbrev pub MakesTooLarge : Option Request → Option Files → Type 0
 MakesTooLarge (Some (OfIndex kind file out)) told = ForIndex told file kind IsTooLarge
+MakesTooLarge (Some (OfDrill seed units)) told = HasTooLarge (generated_file seed units)
 MakesTooLarge other told = ⊥
 
 -- the cause of a status that isn't a result, by what was asked, the files, and whether a read, a store or a write failed
@@ -221,7 +226,7 @@ OfWholeFile most None file reads writes P = ⊤
 OfWholeFile most (Some files) file reads writes P = (bytes : List ℕ) → files file ≡ Some bytes → length bytes ≤ most → (reads → ⊥) → (writes → ⊥) → P bytes
 
 -- Where nothing failed, the status is that of what was asked, or want of memory: of a file within the limit, that of its meaning.
--- Of sessions nothing is said here.
+-- Of sessions and of generated programs nothing is said here.
 abbrev pub IsComplete : Option Request → Option Files → Type 0 → Type 0 → Type 0 → ℕ → Type 0
 IsComplete None told reads stores writes status = (writes → ⊥) → (status ≡ 2) ⊎ (status ≡ 7)
 IsComplete (Some TheHelp) told reads stores writes status = (writes → ⊥) → (status ≡ 0) ⊎ (status ≡ 7)
@@ -231,3 +236,5 @@ IsComplete (Some (OfIndex kind file out)) told reads stores writes status = OfWh
 IsComplete (Some (OfGdb index q)) told reads stores writes status = OfWholeFile MAX_FILE_BYTES told index reads writes (λ bytes. IsLookMeant bytes status)
 IsComplete (Some (OfNames base index strings name)) told reads stores writes status = OfWholeFile MAX_FILE_BYTES told index reads writes (λ bytes. OfWholeFile MAX_FILE_BYTES told strings reads writes (λ held. IsNamesMeant bytes held base status))
 IsComplete (Some (OfServe wait file)) told reads stores writes status = ⊤
+IsComplete (Some (OfRace readers file script)) told reads stores writes status = ⊤
+IsComplete (Some (OfDrill seed units)) told reads stores writes status = ⊤

@@ -3,12 +3,15 @@ use Rattle.std.specs.Prelude.{◌⊎◌, ℕ, List, Option, Some, None, option_m
 use Rattle.index_model.specs.declared.job.CacheKind.{CacheKind}
 use Rattle.index_model.specs.Queries.{Query, AskName, AskSimple, AskCache, query_of}
 use Rattle.ix_base.specs.declared.limits.TheConstants.{MAX_FILE_BYTES}
-use Rattle.index_cmd.specs.SessionWords.{Served}
-use Rattle.index_cmd.specs.Words.{Asked, Indexed, Looked, NamesLooked, Wanted, Help, Version, Ask, Index, LookGdb, LookNames, Serve, command_of, query_text}
+use Rattle.index_cmd.specs.declared.script.TheConstants.{MAX_SCRIPT_BYTES}
+use Rattle.index_cmd.specs.DrillWords.{Drilled}
+use Rattle.index_cmd.specs.SessionWords.{Raced, Served}
+use Rattle.index_cmd.specs.Words.{Asked, Indexed, Looked, NamesLooked, Wanted, Help, Version, Ask, Index, LookGdb, LookNames, Serve, Race, Drill, command_of, query_text}
 
 -- The program's own texts; the answer of a file, by its name, to a query; the index of a kind of a file, to be stored under a
 -- name; the answer of a `.gdb_index`, by its name, to a query; or the entries of a name in a `.debug_names`, by the base of its
--- strings, its own name and that of the strings. Or a session over a file from a stage on.
+-- strings, its own name and that of the strings. Or a session over a file from a stage on; sessions of so many readers over a file
+-- and a script; or the sizes of the program that a seed makes of so many units, and of its indexes.
 pub data Request : Type 0 where
   TheHelp TheVersion : Request
   OfFile : List ℕ → Query → Request
@@ -16,6 +19,8 @@ pub data Request : Type 0 where
   OfGdb : List ℕ → Query → Request
   OfNames : ℕ → List ℕ → List ℕ → List ℕ → Request
   OfServe : ℕ → List ℕ → Request
+  OfRace : ℕ → List ℕ → List ℕ → Request
+  OfDrill : ℕ → ℕ → Request
 
 -- a query of a file
 abbrev pub asked : Asked → Option Request
@@ -56,6 +61,14 @@ looked_names l = option_map (OfNames l.base l.index l.strings) (offered_name (qu
 abbrev pub served : Served → Option Request
 served s = Some (OfServe s.wait s.file)
 
+-- sessions over a file and a script
+abbrev pub raced : Raced → Option Request
+raced r = Some (OfRace r.readers r.file r.script)
+
+-- the sizes of a generated program
+abbrev pub drilled : Drilled → Option Request
+drilled d = Some (OfDrill d.seed d.units)
+
 -- a command whose query is answered
 abbrev pub requested : Wanted → Option Request
 requested Help = Some TheHelp
@@ -65,18 +78,22 @@ requested (Index i) = indexed i
 requested (LookGdb l) = looked l
 requested (LookNames l) = looked_names l
 requested (Serve s) = served s
+requested (Race r) = raced r
+requested (Drill d) = drilled d
 
 -- what the words ask for; none where they aren't in the grammar. The number of workers changes nothing.
 abbrev pub request_of : List (List ℕ) → Option Request
 request_of words = option_and_then requested (command_of words)
 
--- a file that is read, with the most bytes that it may have: the program, the index that is asked, or its strings
+-- a file that is read, with the most bytes that it may have: the program, the index that is asked, its strings, or a script
 abbrev pub AsksFile : Option Request → (List ℕ → ℕ → Type 0) → Type 0
 AsksFile (Some (OfFile file q)) P = P file MAX_FILE_BYTES
 AsksFile (Some (OfIndex kind file out)) P = P file MAX_FILE_BYTES
 AsksFile (Some (OfGdb index q)) P = P index MAX_FILE_BYTES
 AsksFile (Some (OfNames base index strings name)) P = P index MAX_FILE_BYTES ⊎ P strings MAX_FILE_BYTES
 AsksFile (Some (OfServe wait file)) P = P file MAX_FILE_BYTES
+AsksFile (Some (OfRace readers file script)) P = P file MAX_FILE_BYTES ⊎ P script MAX_SCRIPT_BYTES
+AsksFile (Some (OfDrill seed units)) P = ⊥
 AsksFile (Some TheHelp) P = ⊥
 AsksFile (Some TheVersion) P = ⊥
 AsksFile None P = ⊥

@@ -10,8 +10,11 @@ use Rattle.index_cmd.specs.declared.words.LookNames.{LookNames}
 use Rattle.index_cmd.specs.declared.words.Based.{Based}
 use Rattle.index_cmd.specs.declared.words.Split.{Split}
 use Rattle.index_cmd.specs.declared.session_words.Serve.{Serve}
+use Rattle.index_cmd.specs.declared.session_words.Race.{Race}
+use Rattle.index_cmd.specs.declared.drill_words.Drill.{Drill}
 use Rattle.index_cmd.specs.declared.session_words.Counted.{Counted}
-use Rattle.index_cmd.specs.SessionWords.{Served, Counted as CountedOf}
+use Rattle.index_cmd.specs.DrillWords.{Drilled}
+use Rattle.index_cmd.specs.SessionWords.{Raced, Served, Counted as CountedOf}
 use Rattle.index_cmd.specs.WordParts.{Workers}
 use Rattle.index_cmd.specs.Words as grammar
 
@@ -43,6 +46,12 @@ seen_counted c = record { number = c.number; others = words_of c.others.now }
 abbrev pub seen_serve : Serve → Served
 seen_serve s = record { workers = s.workers; wait = s.wait; file = s.file.now }
 
+abbrev pub seen_race : Race → Raced
+seen_race r = record { workers = r.workers; readers = r.readers; file = r.file.now; script = r.script.now }
+
+abbrev pub seen_drill : Drill → Drilled
+seen_drill d = record { seed = d.seed; units = d.units; workers = d.workers }
+
 abbrev pub seen_command : Command → grammar.Wanted
 seen_command code.Help = grammar.Help
 seen_command code.Version = grammar.Version
@@ -51,6 +60,8 @@ seen_command (code.Index i) = grammar.Index (seen_index i)
 seen_command (code.LookGdb l) = grammar.LookGdb (seen_look l)
 seen_command (code.LookNames l) = grammar.LookNames (seen_names l)
 seen_command (code.Serve s) = grammar.Serve (seen_serve s)
+seen_command (code.Race r) = grammar.Race (seen_race r)
+seen_command (code.Drill d) = grammar.Drill (seen_drill d)
 
 -- 1 to 64 workers
 pub record IsWorkers (workers : ℕ) : Type 0 where
@@ -62,6 +73,22 @@ pub record IsServe (s : Serve) : Type 0 where
   pub workers : IsWorkers s.workers
   pub wait : s.wait ≤ 3
 
+-- 1 to 16 readers
+pub record IsReaders (readers : ℕ) : Type 0 where
+  pub some : 0 < readers
+  pub few : readers ≤ 16
+
+-- what `race` asks for
+pub record IsRace (r : Race) : Type 0 where
+  pub workers : IsWorkers r.workers
+  pub readers : IsReaders r.readers
+
+-- what `drill` asks for: a program of 1 to 100,000 units
+pub record IsDrill (d : Drill) : Type 0 where
+  pub some : 0 < d.units
+  pub few : d.units ≤ 100000
+  pub workers : IsWorkers d.workers
+
 -- a command that asks for workers asks for so many
 abbrev pub HasWorkers : Command → Type 0
 HasWorkers code.Help = ⊤
@@ -71,3 +98,5 @@ HasWorkers (code.Index i) = IsWorkers i.workers
 HasWorkers (code.LookGdb l) = ⊤
 HasWorkers (code.LookNames l) = ⊤
 HasWorkers (code.Serve s) = IsServe s
+HasWorkers (code.Race r) = IsRace r
+HasWorkers (code.Drill d) = IsDrill d

@@ -1,4 +1,5 @@
--- The words of the command that answers while it builds: `serve [--workers N] [--wait S] FILE`.
+-- The words of the commands that answer while they build: `serve [--workers N] [--wait S] FILE`, `race [--workers N] [--readers M]
+-- FILE SCRIPT`.
 use Rattle.std.specs.Prelude.{ℕ, ◌&&◌, ◌==◌, if◌then◌else◌, List, [], ◌∷◌, length, bytes_eq, codes, Option, Some, None, option_map, option_and_then}
 use Rattle.index_cmd.specs.Numbers.{number_between}
 use Rattle.index_cmd.specs.WordParts.{is_file_name, workers_and_others}
@@ -8,6 +9,13 @@ pub record Served : Type 0 where
   pub workers : ℕ
   pub wait : ℕ
   pub file : List ℕ
+
+-- `race`: how many workers and readers, the file's name, and that of the script
+pub record Raced : Type 0 where
+  pub workers : ℕ
+  pub readers : ℕ
+  pub file : List ℕ
+  pub script : List ℕ
 
 -- a number, and the words behind it
 pub record Counted : Type 0 where
@@ -32,3 +40,13 @@ serve_file workers wait (file ∷ others) = if length others == 0 && is_file_nam
 -- the words behind `serve`
 abbrev pub serve_of : List (List ℕ) → Option Served
 serve_of words = option_and_then (λ w. option_and_then (λ s. serve_file w.workers s.number s.others) (option_and_others (codes "--wait") 0 3 0 w.others)) (workers_and_others words)
+
+-- the names of a file and of a script, and nothing behind them
+abbrev pub race_files : ℕ → ℕ → List (List ℕ) → Option Raced
+race_files workers readers [] = None
+race_files workers readers (file ∷ []) = None
+race_files workers readers (file ∷ script ∷ others) = if length others == 0 && is_file_name file && is_file_name script then Some (record { workers = workers; readers = readers; file = file; script = script }) else None
+
+-- the words behind `race`
+abbrev pub race_of : List (List ℕ) → Option Raced
+race_of words = option_and_then (λ w. option_and_then (λ r. race_files w.workers r.number r.others) (option_and_others (codes "--readers") 1 16 2 w.others)) (workers_and_others words)

@@ -5,7 +5,6 @@ use Rattle.index_model.specs.declared.job.CacheKind.TheVariants.{Gdb8}
 use Rattle.index_model.specs.Cache.{size_in}
 use Rattle.index_model.specs.Faults.{built_of, first_fault, IsAccepted}
 use Rattle.index_model.specs.Stages.{initial, stopped, IsReachable}
-use Rattle.index_model.specs.Texts.{line}
 use Rattle.index_model.specs.Transcripts.{lines_of, transcript_of}
 use Rattle.query_text.specs.Sessions.{look_ups, HasLongLine, TakesUntil}
 use Rattle.query_text.specs.WholeLines.{known_lines, whole_lines_of}

@@ -1,11 +1,12 @@
 -- The words of a command line, each as its bytes: `ask [--workers N] FILE QUERY`, `index --as KIND [--workers N] FILE OUT`,
--- `look gdb INDEX QUERY`, `look names [--base B] INDEX STRINGS QUERY`, `serve`, `--help`, `--version`.
+-- `look gdb INDEX QUERY`, `look names [--base B] INDEX STRINGS QUERY`, `serve`, `race`, `drill`, `--help`, `--version`.
 use Rattle.std.specs.Prelude.{ℕ, ◌&&◌, nat_lt, ◌==◌, if◌then◌else◌, List, [], ◌∷◌, length, bytes_eq, codes, Option, Some, None, option_map, option_and_then}
 use Rattle.std.specs.List.{join_with_byte}
 use Rattle.index_model.specs.declared.job.CacheKind.{CacheKind}
 use Rattle.index_model.specs.declared.job.CacheKind.TheVariants.{Gdb8, Gdb9, Names}
 use Rattle.index_cmd.specs.Numbers.{number_between}
-use Rattle.index_cmd.specs.SessionWords.{Served, serve_of}
+use Rattle.index_cmd.specs.DrillWords.{Drilled, drill_of}
+use Rattle.index_cmd.specs.SessionWords.{Raced, Served, race_of, serve_of}
 use Rattle.index_cmd.specs.WordParts.{is_file_name, workers_and_others}
 
 -- `ask`: how many workers, the file's name, and the words of the query
@@ -41,6 +42,8 @@ pub data Wanted : Type 0 where
   LookGdb : Looked → Wanted
   LookNames : NamesLooked → Wanted
   Serve : Served → Wanted
+  Race : Raced → Wanted
+  Drill : Drilled → Wanted
 
 -- the base of the strings, and the words behind it
 pub record Based : Type 0 where
@@ -110,9 +113,13 @@ look_of (word ∷ others) = if bytes_eq word (codes "gdb") then option_map LookG
 abbrev pub about : List ℕ → Option Wanted
 about word = if bytes_eq word (codes "--help") then Some Help else if bytes_eq word (codes "--version") then Some Version else None
 
+-- a command that answers while it builds
+abbrev pub session_command : List ℕ → List (List ℕ) → Option Wanted
+session_command word others = if bytes_eq word (codes "serve") then option_map Serve (serve_of others) else if bytes_eq word (codes "race") then option_map Race (race_of others) else None
+
 -- a command that isn't `ask` or `index` and has words behind it
 abbrev pub longer_command : List ℕ → List (List ℕ) → Option Wanted
-longer_command word others = if bytes_eq word (codes "look") then look_of others else if bytes_eq word (codes "serve") then option_map Serve (serve_of others) else None
+longer_command word others = if bytes_eq word (codes "look") then look_of others else if bytes_eq word (codes "drill") then option_map Drill (drill_of others) else session_command word others
 
 -- a command that isn't `ask` or `index`
 abbrev pub other_command : List ℕ → List (List ℕ) → Option Wanted

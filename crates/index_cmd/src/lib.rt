@@ -3,6 +3,8 @@
 
 mod about;
 mod ask;
+mod drill;
+mod drill_words;
 mod file;
 mod gdb;
 mod index;
@@ -10,10 +12,16 @@ mod line;
 mod listen;
 mod names;
 mod number;
+mod race;
+mod race_end;
+mod rounds;
+mod runner;
+mod script;
 mod serve;
 mod session_words;
 mod status;
 mod top;
+mod totals;
 mod words;
 
 pub use top::run;

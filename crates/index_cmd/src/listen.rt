@@ -69,7 +69,7 @@ fn status_of(fault: SessionFault) -> Status
     }
 }
 
-fn status_at(ended: Ended) -> Status
+pub(crate) fn status_at(ended: Ended) -> Status
     ensures { result ≡ status_at ended }
 {
     match ended {

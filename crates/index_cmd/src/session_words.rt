@@ -1,9 +1,9 @@
-//! The words of the command that answers while it builds.
+//! The words of the commands that answer while they build.
 
 ghost use Rattle.std.specs.Prelude.{◌≡◌, ◌≤◌, option_map};
 ghost use Rattle.std.specs.Option.{ForSome};
-ghost use Rattle.index_cmd.specs.SessionWords.{number_before, option_and_others, serve_file, serve_of};
-ghost use Rattle.index_cmd.specs.SeenWords.{seen_counted, seen_serve, words_of, IsServe, IsWorkers};
+ghost use Rattle.index_cmd.specs.SessionWords.{number_before, option_and_others, race_files, race_of, serve_file, serve_of};
+ghost use Rattle.index_cmd.specs.SeenWords.{seen_counted, seen_race, seen_serve, words_of, IsRace, IsReaders, IsServe, IsWorkers};
 
 use crate::number::number;
 use crate::words::{Split, is_file_name, split_workers};
@@ -17,6 +17,15 @@ pub(crate) struct Serve<'w> {
     pub file: &'w str,
 }
 
+/// `race [--workers N] [--readers M] FILE SCRIPT`.
+#[derive(Clone, Copy)]
+pub(crate) struct Race<'w> {
+    pub workers: u32,
+    pub readers: u32,
+    pub file: &'w str,
+    pub script: &'w str,
+}
+
 // A number, and the words behind it.
 #[derive(Clone, Copy)]
 struct Counted<'w> {
@@ -25,6 +34,10 @@ struct Counted<'w> {
 }
 
 const MAX_WAIT: u32 = 3;
+
+const MAX_READERS: u32 = 16;
+
+const DEFAULT_READERS: u32 = 2;
 
 pub(crate) fn parse_serve(words: &[String]) -> Option<Serve<'_>>
     ensures value { option_map seen_serve result ≡ serve_of (words_of words.now) }
@@ -50,6 +63,41 @@ fn serve_file(workers: u32, wait: u8, words: &[String]) -> Option<Serve<'_>>
         workers,
         wait,
         file: file.as_str(),
+    })
+}
+
+pub(crate) fn parse_race(words: &[String]) -> Option<Race<'_>>
+    ensures value { option_map seen_race result ≡ race_of (words_of words.now) }
+    ensures range { ForSome result IsRace }
+{
+    let Split { workers, others } = split_workers(words)?;
+    let Counted { number, others } = split_number(
+        "--readers",
+        1,
+        MAX_READERS,
+        DEFAULT_READERS,
+        others,
+    )?;
+    race_files(workers, number, others)
+}
+
+// The names of a file and of a script, and nothing behind them.
+fn race_files(workers: u32, readers: u32, words: &[String]) -> Option<Race<'_>>
+    requires workers { IsWorkers workers }
+    requires readers { IsReaders readers }
+    ensures value { option_map seen_race result ≡ race_files workers readers (words_of words.now) }
+    ensures range { ForSome result IsRace }
+{
+    let (file, words) = words.split_first()?;
+    let (script, words) = words.split_first()?;
+    if !words.is_empty() || !is_file_name(file.as_str()) || !is_file_name(script.as_str()) {
+        return None;
+    }
+    Some(Race {
+        workers,
+        readers,
+        file: file.as_str(),
+        script: script.as_str(),
     })
 }
 

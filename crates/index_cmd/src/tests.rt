@@ -1,8 +1,10 @@
 //! What no clause says yet: the answers themselves, on programs whose bytes and answers were written by hand.
 
+mod drilling;
 mod files;
 mod gated;
 mod indexes;
+mod racing;
 mod serving;
 
 use crate::run;

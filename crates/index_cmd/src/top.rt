@@ -16,9 +16,11 @@ ghost use Rattle.index_cmd.specs.declared.status.Status.TheVariants as statuses;
 
 use crate::about::{HELP, VERSION};
 use crate::ask::ask;
+use crate::drill::drill;
 use crate::gdb::look_gdb;
 use crate::index::index;
 use crate::names::look_names;
+use crate::race::race;
 use crate::serve::serve;
 use crate::status::Status;
 use crate::words::{Command, parse_command};
@@ -28,8 +30,8 @@ use std::sync::Wait;
 use std::thread::Threads;
 
 /// Does what the words after the program's name ask for: reads the file from the shelf, builds its index, and writes the answer to
-/// the sink or stores the index; answers the lines of the input while it builds; or reads an index and writes its
-/// answer. It gives the status. No clause speaks of the number of workers.
+/// the sink or stores the index; answers the lines of the input or of a script while it builds; reads an index and writes its
+/// answer; or makes a program and writes the sizes of its indexes. It gives the status. No clause speaks of the number of workers.
 pub fn run<R: Threads + Wait + Sync, F: Shelf, S: Source + Send, K: Sink + Send, G: Gate + Sync>(
     rt: &R,
     alloc: Global,
@@ -52,7 +54,7 @@ pub fn run<R: Threads + Wait + Sync, F: Shelf, S: Source + Send, K: Sink + Send,
     ensures index_too_large { result ≡ 9 → MakesTooLarge (request_of (words_of words.now)) (F.files shelf.old) }
     ensures file_too_big { result ≡ 10 → AsksFile (request_of (words_of words.now)) (HoldsMore (F.files shelf.old)) }
 
-    // The sessions of `serve` stopped: at a fault of the input, at a line or an input that is too long, or for want of
+    // The sessions of `serve` and `race` stopped: at a fault of the input, at a line or an input that is too long, or for want of
     // memory.
     ensures input_fault { result ≡ 6 → Writes (K.written out.old) (K.written out.new) (Says (request_of (words_of words.now)) (F.files shelf.old) (heard S.left S.read_faults input.old input.new) statuses.InputFault) }
     ensures input_too_long { result ≡ 11 → Writes (K.written out.old) (K.written out.new) (Says (request_of (words_of words.now)) (F.files shelf.old) (heard S.left S.read_faults input.old input.new) statuses.InputTooLong) }
@@ -110,6 +112,8 @@ fn command<R: Threads + Wait + Sync, F: Shelf, S: Source + Send, K: Sink + Send,
         Some(Command::LookGdb(words)) => look_gdb(alloc, &words, shelf, out),
         Some(Command::LookNames(words)) => look_names(alloc, &words, shelf, out),
         Some(Command::Serve(words)) => serve(rt, alloc, &words, shelf, input, out, gate),
+        Some(Command::Race(words)) => race(rt, alloc, &words, shelf, out, gate),
+        Some(Command::Drill(words)) => drill(rt, alloc, &words, out, gate),
     }
 }
 

@@ -3,11 +3,12 @@
 ghost use Rattle.std.specs.Prelude.{◌≡◌, option_map};
 ghost use Rattle.std.specs.Option.{ForSome};
 ghost use Rattle.index_cmd.specs.WordParts.{is_file_name, workers_and_others, workers_before};
-ghost use Rattle.index_cmd.specs.Words.{about, ask_of, base_and_others, base_before, command_of, files_of, index_as, index_of, kind_named, look_gdb_of, look_names_of, longer_command, look_of, names_and_query, other_command};
+ghost use Rattle.index_cmd.specs.Words.{about, ask_of, base_and_others, base_before, command_of, files_of, index_as, index_of, kind_named, look_gdb_of, look_names_of, longer_command, look_of, names_and_query, other_command, session_command};
 ghost use Rattle.index_cmd.specs.SeenWords.{seen_split, seen_based, seen_ask, seen_index, seen_look, seen_names, seen_command, words_of, HasWorkers, IsWorkers};
 
+use crate::drill_words::{Drill, parse_drill};
 use crate::number::number;
-use crate::session_words::{Serve, parse_serve};
+use crate::session_words::{Race, Serve, parse_race, parse_serve};
 use index_model::CacheKind;
 
 /// What a command line asks for.
@@ -20,6 +21,8 @@ pub(crate) enum Command<'w> {
     LookGdb(LookGdb<'w>),
     LookNames(LookNames<'w>),
     Serve(Serve<'w>),
+    Race(Race<'w>),
+    Drill(Drill),
 }
 
 /// `ask [--workers N] FILE QUERY`.
@@ -76,7 +79,7 @@ pub(crate) struct Split<'w> {
 
 const DEFAULT_WORKERS: u32 = 4;
 
-const MAX_WORKERS: u32 = 64;
+pub(crate) const MAX_WORKERS: u32 = 64;
 
 /// The command that the words after the program's name ask for; None where they aren't in the grammar.
 pub(crate) fn parse_command(words: &[String]) -> Option<Command<'_>>
@@ -118,9 +121,29 @@ fn longer_command<'w>(word: &str, others: &'w [String]) -> Option<Command<'w>>
 {
     if word == "look" {
         parse_look(others)
-    } else if word == "serve" {
+    } else if word == "drill" {
+        match parse_drill(others) {
+            Some(drill) => Some(Command::Drill(drill)),
+            None => None,
+        }
+    } else {
+        session_command(word, others)
+    }
+}
+
+// One that answers while it builds.
+fn session_command<'w>(word: &str, others: &'w [String]) -> Option<Command<'w>>
+    ensures value { option_map seen_command result ≡ session_command word.now (words_of others.now) }
+    ensures workers { ForSome result HasWorkers }
+{
+    if word == "serve" {
         match parse_serve(others) {
             Some(serve) => Some(Command::Serve(serve)),
+            None => None,
+        }
+    } else if word == "race" {
+        match parse_race(others) {
+            Some(race) => Some(Command::Race(race)),
             None => None,
         }
     } else {

@@ -9,8 +9,8 @@ use std::sync::Wait;
 use std::test::Fail;
 use std::thread::Threads;
 
-// Two scans each begin only once the other has begun. There are eight runs, of which the last has the only unit.
-fn gate(alloc: Global) -> Result<TestGate, Fail> {
+// Two scans each begin only once the other has begun.
+pub(super) fn gate(alloc: Global) -> Result<TestGate, Fail> {
     let first = GateEvent::Job(Job::Scan(0), Moment::Begin);
     let second = GateEvent::Job(Job::Scan(1), Moment::Begin);
     let holds = [
@@ -26,7 +26,8 @@ fn gate(alloc: Global) -> Result<TestGate, Fail> {
     Ok(TestGate::new(alloc, &holds)?)
 }
 
-// The status of the words at that gate, where the name X holds a small program, and what was written. Both holds are met.
+// The status of the words at that gate, where the name X holds a small program, and what was written. Both holds are met: there
+// are eight runs, of which the last has the only unit.
 fn told_at_gate<R: Threads + Wait + Sync>(
     rt: &R,
     alloc: Global,

@@ -1,11 +1,8 @@
-use denote.Param.Send.{IsSend, sendable}
+use denote.Param.Send.{sendable}
 use Rattle.std.proofs.Crossing.{crosses}
-use Rattle.query_text.specs.contracts.line_buf.LineBuf as LineBuf
 use Rattle.index_board.proofs.Crossing.{reader_send}
+use Rattle.index_cmd.proofs.Crossing.{line_send}
 use Rattle.index_cmd.proofs.serve.listen_beside.Goals as goal
-
-line_send : IsSend LineBuf.the_row
-line_send = search (sendable, crosses) depth 60 fits 60000
 
 -- the bounds are bound by names, since a search takes those first
 pub join_mut-requires-send-F : goal.join_mut-requires-send-F

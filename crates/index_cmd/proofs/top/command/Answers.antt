@@ -1,16 +1,18 @@
 use Rattle.std.proofs.Common.{◌≡◌, Option, Some, refl, sym, ap, subst, ◌∙◌}
 use Rattle.index_model.specs.Queries.{query_of}
 use Rattle.outside.specs.Counts.{Rose}
+use Rattle.outside.proofs.FileLaws.{same_files-refl}
 use Rattle.index_cmd.specs.Heard.{heard}
-use Rattle.index_cmd.specs.Replies.{Wrote}
+use Rattle.index_cmd.specs.Replies.{Causes, Wrote}
 use Rattle.index_cmd.specs.Results.{Says}
-use Rattle.index_cmd.specs.Requests.{Request, TheHelp, TheVersion, asked, indexed, looked, looked_names, offered_gdb, offered_name, served, request_of, ReadsNoInput}
-use Rattle.index_cmd.specs.SeenWords.{seen_ask, seen_index, seen_look, seen_names, seen_serve, seen_command, words_of, HasWorkers}
+use Rattle.index_cmd.specs.Requests.{Request, TheHelp, TheVersion, asked, drilled, indexed, looked, looked_names, offered_gdb, offered_name, raced, served, request_of, ReadsNoInput}
+use Rattle.index_cmd.specs.SeenWords.{seen_ask, seen_drill, seen_index, seen_look, seen_names, seen_race, seen_serve, seen_command, words_of, HasWorkers}
 use Rattle.index_cmd.specs.Stores.{Leaves}
-use Rattle.index_cmd.specs.Words.{Help, Version, Ask, Index, LookGdb, LookNames, Serve, query_text}
+use Rattle.index_cmd.specs.Words.{Help, Version, Ask, Index, LookGdb, LookNames, Serve, Race, Drill, query_text}
 use Rattle.index_cmd.specs.declared.words.Command.{Command}
 use Rattle.index_cmd.proofs.Outcomes.{wrote_own, request_is, wrote_plain, asked_plain, looked_plain, names_plain}
 use Rattle.index_cmd.proofs.Leavings.{leaves_same, asked_stores_nothing, looked_stores_nothing, names_stores_nothing}
+use Rattle.index_cmd.proofs.DrillLaws.{causes_asked}
 use Rattle.index_cmd.proofs.top.command.Goals as goal
 
 pub ask-requires-clause-some : goal.ask-requires-clause-some
@@ -137,3 +139,58 @@ returns-in-Some-Serve-clause-input g c none =
     let words = words_of c.args.words.now in
     let request : request_of words ≡ served (seen_serve c.in-Some-Serve.words) = request_is words (Serve (seen_serve c.in-Some-Serve.words)) (ap (λ (x : Command). Some (seen_command x)) (sym c.in-Some-Serve.field-0-is) ∙ c.in-Some-Serve.ensures.value) in
     absurd (subst ReadsNoInput request none)
+
+pub race-requires-clause-workers : goal.race-requires-clause-workers
+race-requires-clause-workers g c κs within = (subst HasWorkers c.in-Some-Race.field-0-is (c.in-Some-Race.ensures.workers c.in-Some-Race.field-0 refl)).workers
+
+pub race-requires-clause-readers : goal.race-requires-clause-readers
+race-requires-clause-readers g c κs within = (subst HasWorkers c.in-Some-Race.field-0-is (c.in-Some-Race.ensures.workers c.in-Some-Race.field-0 refl)).readers
+
+pub returns-in-Some-Race-clause-wrote : goal.returns-in-Some-Race-clause-wrote
+returns-in-Some-Race-clause-wrote g c =
+    let input = heard g.S.Source.left g.S.Source.read_faults c.args.input.now c.args.input.now in
+    let words = words_of c.args.words.now in
+    let told = g.F.Shelf.files c.args.shelf.now in
+    let request : request_of words ≡ raced (seen_race c.in-Some-Race.words) = request_is words (Race (seen_race c.in-Some-Race.words)) (ap (λ (x : Command). Some (seen_command x)) (sym c.in-Some-Race.field-0-is) ∙ c.in-Some-Race.ensures.value) in
+    subst (λ (r : Option Request). Wrote (Says r told input) c.race.result (g.K.Sink.written c.args.out.now) (g.K.Sink.written c.race.new.out)) (sym request) c.race.ensures.wrote
+
+pub returns-in-Some-Race-clause-leaves : goal.returns-in-Some-Race-clause-leaves
+returns-in-Some-Race-clause-leaves g c =
+    let words = words_of c.args.words.now in
+    let told = g.F.Shelf.files c.args.shelf.now in
+    let r = seen_race c.in-Some-Race.words in
+    let request : request_of words ≡ raced (seen_race c.in-Some-Race.words) = request_is words (Race (seen_race c.in-Some-Race.words)) (ap (λ (x : Command). Some (seen_command x)) (sym c.in-Some-Race.field-0-is) ∙ c.in-Some-Race.ensures.value) in
+    subst (λ (q : Option Request). Leaves q told (g.F.Shelf.files c.race.new.shelf) c.race.result) (sym request)
+    (leaves_same (raced r) told (g.F.Shelf.files c.race.new.shelf) tt told (Rose (g.F.Shelf.read_faults c.args.shelf.now) (g.F.Shelf.read_faults c.race.new.shelf)) (Rose (g.F.Shelf.store_faults c.args.shelf.now) (g.F.Shelf.store_faults c.race.new.shelf)) (Rose (g.K.Sink.write_faults c.args.out.now) (g.K.Sink.write_faults c.race.new.out)) c.race.result c.race.ensures.causes c.race.ensures.kept)
+
+pub drill-requires-clause-asked : goal.drill-requires-clause-asked
+drill-requires-clause-asked g c κs within = subst HasWorkers c.in-Some-Drill.field-0-is (c.in-Some-Drill.ensures.workers c.in-Some-Drill.field-0 refl)
+
+pub returns-in-Some-Drill-clause-wrote : goal.returns-in-Some-Drill-clause-wrote
+returns-in-Some-Drill-clause-wrote g c =
+    let input = heard g.S.Source.left g.S.Source.read_faults c.args.input.now c.args.input.now in
+    let words = words_of c.args.words.now in
+    let told = g.F.Shelf.files c.args.shelf.now in
+    let request : request_of words ≡ drilled (seen_drill c.in-Some-Drill.words) = request_is words (Drill (seen_drill c.in-Some-Drill.words)) (ap (λ (x : Command). Some (seen_command x)) (sym c.in-Some-Drill.field-0-is) ∙ c.in-Some-Drill.ensures.value) in
+    subst (λ (r : Option Request). Wrote (Says r told input) c.drill.result (g.K.Sink.written c.args.out.now) (g.K.Sink.written c.drill.new.out)) (sym request) c.drill.ensures.wrote
+
+pub returns-in-Some-Drill-clause-causes : goal.returns-in-Some-Drill-clause-causes
+returns-in-Some-Drill-clause-causes g c =
+    let words = words_of c.args.words.now in
+    let told = g.F.Shelf.files c.args.shelf.now in
+    let d = seen_drill c.in-Some-Drill.words in
+    let reads = Rose (g.F.Shelf.read_faults c.args.shelf.now) (g.F.Shelf.read_faults c.args.shelf.now) in
+    let stores = Rose (g.F.Shelf.store_faults c.args.shelf.now) (g.F.Shelf.store_faults c.args.shelf.now) in
+    let writes = Rose (g.K.Sink.write_faults c.args.out.now) (g.K.Sink.write_faults c.drill.new.out) in
+    let request : request_of words ≡ drilled d = request_is words (Drill d) (ap (λ (x : Command). Some (seen_command x)) (sym c.in-Some-Drill.field-0-is) ∙ c.in-Some-Drill.ensures.value) in
+    subst (λ (r : Option Request). Causes r told reads stores writes c.drill.result) (sym request) (causes_asked d.seed d.units told reads stores writes c.drill.result c.drill.ensures.causes)
+
+pub returns-in-Some-Drill-clause-leaves : goal.returns-in-Some-Drill-clause-leaves
+returns-in-Some-Drill-clause-leaves g c =
+    let words = words_of c.args.words.now in
+    let told = g.F.Shelf.files c.args.shelf.now in
+    let d = seen_drill c.in-Some-Drill.words in
+    let writes = Rose (g.K.Sink.write_faults c.args.out.now) (g.K.Sink.write_faults c.drill.new.out) in
+    let request : request_of words ≡ drilled d = request_is words (Drill d) (ap (λ (x : Command). Some (seen_command x)) (sym c.in-Some-Drill.field-0-is) ∙ c.in-Some-Drill.ensures.value) in
+    subst (λ (r : Option Request). Leaves r told told c.drill.result) (sym request)
+    (leaves_same (drilled d) told told tt told ⊥ ⊥ writes c.drill.result (causes_asked d.seed d.units told ⊥ ⊥ writes c.drill.result c.drill.ensures.causes) (same_files-refl told))
