@@ -16,7 +16,7 @@ FOLDERS = (os.path.join(os.path.dirname(HERE), "tools", "rows"), os.path.join(HE
 # What lies in a row's folder beside the files that the program reads.
 TOLD = {"args", "stdin", "stdout", "status", "expect"}
 # How many words stand before the option of the number of workers.
-BEFORE_WORKERS = {"ask": 1, "index": 3, "serve": 1}
+BEFORE_WORKERS = {"ask": 1, "index": 3, "race": 1, "serve": 1}
 WORKERS = (1, 2, 8, 64)
 
 
