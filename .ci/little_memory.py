@@ -14,7 +14,8 @@ import tempfile
 HERE = os.path.dirname(os.path.abspath(__file__))
 PROGRAM_FILE = os.path.join(os.path.dirname(HERE), "crates", "index_tool", "data", "A")
 MIB = 1 << 20
-# Commands, with what stands in their input. FILE, INDEX and SCRIPT are names of files, OUT that of one that is stored.
+# Commands, with what stands in their input. FILE, INDEX and SCRIPT are names of files, OUT that of one that is stored. The script
+# has no query, since the stages that look-ups see during a build differ from run to run.
 COMMANDS = [
     (["ask", "--workers", "1", "FILE", "name", "main"], b""),
     (["ask", "--workers", "4", "FILE", "main"], b""),
@@ -74,7 +75,7 @@ def main():
         with open(PROGRAM_FILE, "rb") as file, open(os.path.join(folder, "FILE"), "wb") as copy:
             copy.write(file.read())
         with open(os.path.join(folder, "SCRIPT"), "wb") as script:
-            script.write(b"main\nname main\n")
+            script.write(b"x\nname\n")
         subprocess.run([program, "index", "--as", "gdb8", "FILE", "INDEX"], cwd=folder, check=True)
         least = least_limit(program, folder)
         for words, given in COMMANDS:
