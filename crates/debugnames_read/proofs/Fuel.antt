@@ -1,5 +1,5 @@
 -- A list of entries doesn't go by how many are allowed, where those are more than the bytes that are left.
-use Rattle.std.proofs.Common.{◌≡◌, ℕ, zero, suc, ◌+◌, ◌-◌, ◌*◌, ◌^◌, ◌<◌, ◌≤◌, ℤ, Bool, true, false, cond, eqb, ltb, leb, List, [], ◌∷◌, length, Option, Some, None, Result, Ok, refl, arith, ap, subst}
+use Rattle.std.proofs.Common.{◌≡◌, ℕ, zero, suc, ◌+◌, ◌-◌, ◌*◌, ◌^◌, ◌<◌, ◌≤◌, ℤ, Bool, true, false, cond, eqb, ltb, leb, List, [], ◌∷◌, length, drop, drop-drop, Option, Some, None, Result, Ok, refl, arith, ap, sym, subst, ◌∙◌}
 use Rattle.std.specs.Prelude.{find}
 use Rattle.std.proofs.lemmas.List.{length-drop}
 use Rattle.byteorder.specs.Endian.{little_number}
@@ -18,41 +18,49 @@ pub bind_some : {A B : Type 0} (r : Option A) (f : A → Option B) (y : B) → (
 bind_some (Some x) f y e = (x, refl, e)
 bind_some None f y e = absurd cc
 
--- a reading leaves no more than there was
-abbrev pub Shrinks : {A : Type 0} → (Input → Option (A × Input)) → Type 0
-Shrinks {A} read = (i j : Input) (v : A) → read i ≡ Some (v, j) → length j.rest ≤ length i.rest
+-- a reading passes bytes
+abbrev pub Passes : {A : Type 0} → (Input → Option (A × Input)) → Type 0
+Passes {A} read = (i j : Input) (v : A) → read i ≡ Some (v, j) → (n : ℕ) × (j ≡ past n i)
 
-left_past : (n : ℕ) (i : Input) → length (past n i).rest ≤ length i.rest
-left_past n i = omega (arith, length-drop n i.rest)
+past_none : (i : Input) → i ≡ past 0 i
+past_none i =
+    let at : i.at ≡ i.at + 0 = omega arith in
+    ap (λ (n : ℕ). let j : Input = record { at = n; rest = i.rest } in j) at
+
+pub past_past : (m n : ℕ) (i : Input) → past n (past m i) ≡ past (m + n) i
+past_past m n i =
+    let at : i.at + m + n ≡ i.at + (m + n) = omega arith in
+    let rest : drop n (drop m i.rest) ≡ drop (m + n) i.rest = drop-drop n m i.rest in
+    rw (at, rest) refl
 
 abbrev read_as : {A : Type 0} → A → Input → Option (A × Input)
 read_as v i = Some (v, i)
 
--- how many bytes are left
-abbrev left_of : {A : Type 0} → Option (A × Input) → ℕ
-left_of None = 0
-left_of (Some x) = length x.1.rest
+-- what is left
+abbrev left_of : {A : Type 0} → Input → Option (A × Input) → Input
+left_of d None = d
+left_of d (Some x) = x.1
 
-same_left : {A : Type 0} (v w : A) (i j : Input) → read_as v i ≡ read_as w j → length i.rest ≡ length j.rest
-same_left v w i j e = ap left_of e
+same_left : {A : Type 0} (v w : A) (i j : Input) → read_as v i ≡ read_as w j → i ≡ j
+same_left v w i j e = ap (left_of i) e
 
-number_shrinks : (n : ℕ) → Shrinks (number n)
-number_shrinks n i j v e =
+number_passes : (n : ℕ) → Passes (number n)
+number_passes n i j v e =
     let p = some_cond (leb n (length i.rest)) (little_number n i.rest, past n i) (v, j) e in
-    omega (arith, ap (λ (q : ℕ × Input). length q.1.rest) p.1, left_past n i)
+    (n, sym (ap (λ (q : ℕ × Input). q.1) p.1))
 
-uleb_shrinks : Shrinks uleb
-uleb_shrinks i j v e =
+uleb_passes : Passes uleb
+uleb_passes i j v e =
     let b = bind_some (leb64 i.rest) (λ n. read_as n.0 (past n.1 i)) (v, j) e in
-    omega (arith, same_left b.0.0 v (past b.0.1 i) j b.2, left_past b.0.1 i)
+    (b.0.1, sym (same_left b.0.0 v (past b.0.1 i) j b.2))
 
 abbrev Signed : Type 0
 Signed = Option (ℤ × ℕ)
 
-sleb_shrinks : Shrinks sleb
-sleb_shrinks i j v e =
+sleb_passes : Passes sleb
+sleb_passes i j v e =
     let b = bind_some (signed_leb64 i.rest) (λ n. read_as n.0 (past n.1 i)) (v, j) e in
-    omega (arith, same_left b.0.0 v (past b.0.1 i) j b.2, left_past b.0.1 i)
+    (b.0.1, sym (same_left b.0.0 v (past b.0.1 i) j b.2))
 
 abbrev one_more : ℕ → ℕ × ℕ → Option (ℕ × ℕ)
 one_more b high = Some (b - 128 + 128 * high.0, high.1 + 1)
@@ -76,55 +84,57 @@ uleb_takes i j v e =
     let c = bind_some (unsigned_leb i.rest) (λ n. cond (ltb n.0 (2 ^ 64)) (Some n) None) b.0 b.1 in
     let p = some_cond (ltb c.0.0 (2 ^ 64)) c.0 b.0 c.2 in
     let t = takes_some i.rest c.0 c.1 in
-    omega (arith, same_left b.0.0 v (past b.0.1 i) j b.2, length-drop b.0.1 i.rest, ap (λ (q : ℕ × ℕ). q.1) p.1, t.0, t.1)
+    omega (arith, ap (λ (k : Input). length k.rest) (same_left b.0.0 v (past b.0.1 i) j b.2), length-drop b.0.1 i.rest, ap (λ (q : ℕ × ℕ). q.1) p.1, t.0, t.1)
 
 -- ---- the values of an entry
 
-by_shrinks : (read : Input → Option (ℕ × Input)) → Shrinks read → Shrinks (by read)
-by_shrinks read shrinks i j v e =
+by_passes : (read : Input → Option (ℕ × Input)) → Passes read → Passes (by read)
+by_passes read passes i j v e =
     let b = bind_some (read i) (λ n. read_as (Some n.0) n.1) (v, j) e in
-    omega (arith, shrinks i b.0.1 b.0.0 b.1, same_left (Some b.0.0) v b.0.1 j b.2)
+    let p = passes i b.0.1 b.0.0 b.1 in
+    (p.0, sym (same_left (Some b.0.0) v b.0.1 j b.2) ∙ p.1)
 
-signed_shrinks : Shrinks (λ i. sleb i >>=? λ z. read_as (as_number z.0) z.1)
-signed_shrinks i j v e =
+signed_passes : Passes (λ i. sleb i >>=? λ z. read_as (as_number z.0) z.1)
+signed_passes i j v e =
     let b = bind_some (sleb i) (λ z. read_as (as_number z.0) z.1) (v, j) e in
-    omega (arith, sleb_shrinks i b.0.1 b.0.0 b.1, same_left (as_number b.0.0) v b.0.1 j b.2)
+    let p = sleb_passes i b.0.1 b.0.0 b.1 in
+    (p.0, sym (same_left (as_number b.0.0) v b.0.1 j b.2) ∙ p.1)
 
-present_shrinks : Shrinks (read_as {A = Option ℕ} None)
-present_shrinks i j v e = omega (arith, same_left None v i j e)
+present_passes : Passes (read_as {A = Option ℕ} None)
+present_passes i j v e = (0, sym (same_left None v i j e) ∙ past_none i)
 
-abbrev AllShrink : List (ℕ × Reader) → Type 0
-AllShrink [] = Unit {0}
-AllShrink (row ∷ rows) = Shrinks row.1 × AllShrink rows
+abbrev AllPass : List (ℕ × Reader) → Type 0
+AllPass [] = Unit {0}
+AllPass (row ∷ rows) = Passes row.1 × AllPass rows
 
-all_shrink : (wide : Bool) → AllShrink (forms wide)
-all_shrink wide = (
-  by_shrinks (number 1) (number_shrinks 1),
+all_pass : (wide : Bool) → AllPass (forms wide)
+all_pass wide = (
+  by_passes (number 1) (number_passes 1),
   (
-    by_shrinks (number 1) (number_shrinks 1),
+    by_passes (number 1) (number_passes 1),
     (
-      by_shrinks (number 1) (number_shrinks 1),
+      by_passes (number 1) (number_passes 1),
       (
-        by_shrinks (number 2) (number_shrinks 2),
+        by_passes (number 2) (number_passes 2),
         (
-          by_shrinks (number 2) (number_shrinks 2),
+          by_passes (number 2) (number_passes 2),
           (
-            by_shrinks (number 4) (number_shrinks 4),
+            by_passes (number 4) (number_passes 4),
             (
-              by_shrinks (number 4) (number_shrinks 4),
+              by_passes (number 4) (number_passes 4),
               (
-                by_shrinks (number 8) (number_shrinks 8),
+                by_passes (number 8) (number_passes 8),
                 (
-                  by_shrinks (number 8) (number_shrinks 8),
+                  by_passes (number 8) (number_passes 8),
                   (
-                    by_shrinks uleb uleb_shrinks,
+                    by_passes uleb uleb_passes,
                     (
-                      by_shrinks uleb uleb_shrinks,
+                      by_passes uleb uleb_passes,
                       (
-                        by_shrinks (offset wide) (number_shrinks (cond wide 8 4)),
+                        by_passes (offset wide) (number_passes (cond wide 8 4)),
                         (
-                          by_shrinks (offset wide) (number_shrinks (cond wide 8 4)),
-                          (signed_shrinks, (present_shrinks, tt)),
+                          by_passes (offset wide) (number_passes (cond wide 8 4)),
+                          (signed_passes, (present_passes, tt)),
                         ),
                       ),
                     ),
@@ -139,11 +149,11 @@ all_shrink wide = (
   ),
 )
 
-found_shrinks : (p : ℕ × Reader → Bool) (rows : List (ℕ × Reader)) (row : ℕ × Reader) → AllShrink rows → find p rows ≡ Some row → Shrinks row.1
-found_shrinks p [] row all e = absurd cc
-found_shrinks p (r ∷ rows) row all e = elim (p r) as (λ b. cond b (Some r) (find p rows) ≡ Some row → Shrinks row.1) [
-  | true ↦ λ h. let same : r ≡ row = cc in subst (λ (x : ℕ × Reader). Shrinks x.1) same all.0
-  | false ↦ λ h. found_shrinks p rows row all.1 h
+found_passes : (p : ℕ × Reader → Bool) (rows : List (ℕ × Reader)) (row : ℕ × Reader) → AllPass rows → find p rows ≡ Some row → Passes row.1
+found_passes p [] row all e = absurd cc
+found_passes p (r ∷ rows) row all e = elim (p r) as (λ b. cond b (Some r) (find p rows) ≡ Some row → Passes row.1) [
+  | true ↦ λ h. let same : r ≡ row = cc in subst (λ (x : ℕ × Reader). Passes x.1) same all.0
+  | false ↦ λ h. found_passes p rows row all.1 h
 ] e
 
 module _ (wide : Bool) where
@@ -153,16 +163,16 @@ module _ (wide : Bool) where
   abbrev with_value : ℕ → Option ℕ → Option (List Attribute × Input) → Option (List Attribute × Input)
   with_value attribute v r = r >>=? λ others. Some ((attribute, v) ∷ others.0, others.1)
 
-  pub values_shrink : (ss : List Spec) → Shrinks (values wide ss)
+  values_pass : (ss : List Spec) → Passes (values wide ss)
   unfolding values
-  values_shrink [] i j vs e = omega (arith, same_left [] vs i j e)
-  values_shrink (s ∷ ss) i j vs e =
+  values_pass [] i j vs e = (0, sym (same_left [] vs i j e) ∙ past_none i)
+  values_pass (s ∷ ss) i j vs e =
       let r = bind_some (find (of_form s.form) (forms wide)) (λ row. row.1 i >>=? λ v. with_value s.attribute v.0 (values wide ss v.1)) (vs, j) e in
       let v = bind_some (r.0.1 i) (λ v. with_value s.attribute v.0 (values wide ss v.1)) (vs, j) r.2 in
       let o = bind_some (values wide ss v.0.1) (λ others. Some ((s.attribute, v.0.0) ∷ others.0, others.1)) (vs, j) v.2 in
-      let here = found_shrinks (of_form s.form) (forms wide) r.0 (all_shrink wide) r.1 i v.0.1 v.0.0 v.1 in
-      let later = values_shrink ss v.0.1 o.0.1 o.0.0 o.1 in
-      omega (arith, here, later, same_left ((s.attribute, v.0.0) ∷ o.0.0) vs o.0.1 j o.2)
+      let here = found_passes (of_form s.form) (forms wide) r.0 (all_pass wide) r.1 i v.0.1 v.0.0 v.1 in
+      let later = values_pass ss v.0.1 o.0.1 o.0.0 o.1 in
+      (here.0 + later.0, sym (same_left ((s.attribute, v.0.0) ∷ o.0.0) vs o.0.1 j o.2) ∙ later.1 ∙ ap (past later.0) here.1 ∙ past_past here.0 later.0 i)
 
 -- ---- the entries of a name
 
@@ -170,13 +180,26 @@ module _ (t : Tables) (abbrevs : List Abbreviation) where
   abbrev of_code : ℕ → Abbreviation → Bool
   of_code code a = eqb a.code code
 
-  pub entry_shrinks : (code : ℕ) → Shrinks (entry_with t abbrevs code)
+  entry_passes : (code : ℕ) → Passes (entry_with t abbrevs code)
   unfolding entry_with
-  entry_shrinks code i j h e =
+  entry_passes code i j h e =
       let a = bind_some (find (of_code code) abbrevs) (λ a. values t.wide a.specs i >>=? λ vs. hit t a.tag vs.0 >>=? λ h. read_as h vs.1) (h, j) e in
       let vs = bind_some (values t.wide a.0.specs i) (λ vs. hit t a.0.tag vs.0 >>=? λ h. read_as h vs.1) (h, j) a.2 in
       let o = bind_some (hit t a.0.tag vs.0.0) (λ h. read_as h vs.0.1) (h, j) vs.2 in
-      omega (arith, values_shrink t.wide a.0.specs i vs.0.1 vs.0.0 vs.1, same_left o.0 h vs.0.1 j o.2)
+      let p = values_pass t.wide a.0.specs i vs.0.1 vs.0.0 vs.1 in
+      (p.0, sym (same_left o.0 h vs.0.1 j o.2) ∙ p.1)
+
+  pub entry_shrinks : (code : ℕ) (i j : Input) (h : NameHit) → entry_with t abbrevs code i ≡ Some (h, j) → length j.rest ≤ length i.rest
+  entry_shrinks code i j h e =
+      let p = entry_passes code i j h e in
+      omega (arith, ap (λ (k : Input). length k.rest) p.1, length-drop p.0 i.rest)
+
+  -- an entry behind its code, and the code, pass bytes
+  pub entry_on : (code : ℕ) (i k j : Input) (h : NameHit) → uleb i ≡ Some (code, k) → entry_with t abbrevs code k ≡ Some (h, j) → (n : ℕ) × (j ≡ past n i)
+  entry_on code i k j h u e =
+      let a = uleb_passes i k code u in
+      let b = entry_passes code k j h e in
+      (a.0 + b.0, b.1 ∙ ap (past b.0) a.1 ∙ past_past a.0 b.0 i)
 
   abbrev with_hit : NameHit → Result (List NameHit) Fault → Result (List NameHit) Fault
   with_hit h r = r >>= λ others. Ok (h ∷ others)

@@ -2,7 +2,7 @@
 use Rattle.std.proofs.Common.{◌≡◌, ℕ, suc, ◌+◌, ◌<◌, ◌≤◌, Bool, true, false, cond, eqb, List, [], ◌∷◌, length, Option, Some, None, Result, Ok, Err, refl, arith, ap, sym, subst, ◌∙◌}
 use Rattle.std.specs.Prelude.{IsOk, is_ok}
 use Rattle.ix_base.specs.declared.fault.Fault.{Fault}
-use Rattle.ix_base.specs.Reading.{Input, uleb}
+use Rattle.ix_base.specs.Reading.{Input, past, uleb}
 use Rattle.index_model.specs.declared.index_code.TheConstants.{NAMES_ENTRY_POOL}
 use Rattle.index_model.specs.Meaning.{◌>>=◌, fault, some_or}
 use Rattle.index_model.specs.NameAbbreviations.{Abbreviation}
@@ -12,7 +12,7 @@ use Rattle.debugnames_read.specs.Abbreviations.{abbreviations_in}
 use Rattle.debugnames_read.specs.Entries.{entry_at}
 use Rattle.debugnames_read.specs.Hits.{entries_left, IsList}
 use Rattle.debugnames_read.specs.Results.{list_in}
-use Rattle.debugnames_read.proofs.Fuel.{entry_shrinks, same_entries, uleb_takes}
+use Rattle.debugnames_read.proofs.Fuel.{entry_on, entry_shrinks, same_entries, uleb_takes}
 use Rattle.debugnames_read.proofs.Readings.{entries_end, entries_list, entries_ok, entries_wrong}
 
 module _ (t : Tables) where
@@ -32,7 +32,7 @@ module _ (t : Tables) where
   same_pair x h j e = let some : (x.0, x.1) ≡ (h, j) = cc in ap (λ (p : NameHit × Input). p.1) some
 
   -- an entry takes a byte
-  entry_takes : (i j : Input) (h : NameHit) → entry_at t abbrevs i ≡ read_to h j → length j.rest < length i.rest
+  pub entry_takes : (i j : Input) (h : NameHit) → entry_at t abbrevs i ≡ read_to h j → length j.rest < length i.rest
   unfolding entry_at
   entry_takes i j h e = by (uleb i) refl e
     where
@@ -45,6 +45,25 @@ module _ (t : Tables) where
       by_code false code k u e = by_entry k (entry_with t abbrevs code k) (uleb_takes i k code u) (entry_shrinks t abbrevs code k) e
 
       by : (r : Option (ℕ × Input)) → uleb i ≡ r → (some_or r (fault NAMES_ENTRY_POOL i.at) >>= λ code. of_code (fault NAMES_ENTRY_POOL i.at) (eqb code.0 0) (of_entry (fault NAMES_ENTRY_POOL i.at) (entry_with t abbrevs code.0 code.1))) ≡ read_to h j → length j.rest < length i.rest
+      by None u e = absurd cc
+      by (Some code) u e = by_code (eqb code.0 0) code.0 code.1 u e
+
+  -- an entry passes bytes
+  pub entry_passes : (i j : Input) (h : NameHit) → entry_at t abbrevs i ≡ read_to h j → (n : ℕ) × (j ≡ past n i)
+  unfolding entry_at
+  entry_passes i j h e = by (uleb i) refl e
+    where
+      by_entry : (r : Option (NameHit × Input)) → ((m : Input) (x : NameHit) → r ≡ Some (x, m) → (n : ℕ) × (m ≡ past n i)) → of_entry (fault NAMES_ENTRY_POOL i.at) r ≡ read_to h j → (n : ℕ) × (j ≡ past n i)
+      by_entry None passes e = absurd cc
+      by_entry (Some x) passes e =
+          let p = passes x.1 x.0 refl in
+          (p.0, sym (same_pair x h j e) ∙ p.1)
+
+      by_code : (b : Bool) (code : ℕ) (k : Input) → uleb i ≡ Some (code, k) → of_code (fault NAMES_ENTRY_POOL i.at) b (of_entry (fault NAMES_ENTRY_POOL i.at) (entry_with t abbrevs code k)) ≡ read_to h j → (n : ℕ) × (j ≡ past n i)
+      by_code true code k u e = absurd cc
+      by_code false code k u e = by_entry (entry_with t abbrevs code k) (λ m x is. entry_on t abbrevs code i k m x u is) e
+
+      by : (r : Option (ℕ × Input)) → uleb i ≡ r → (some_or r (fault NAMES_ENTRY_POOL i.at) >>= λ code. of_code (fault NAMES_ENTRY_POOL i.at) (eqb code.0 0) (of_entry (fault NAMES_ENTRY_POOL i.at) (entry_with t abbrevs code.0 code.1))) ≡ read_to h j → (n : ℕ) × (j ≡ past n i)
       by None u e = absurd cc
       by (Some code) u e = by_code (eqb code.0 0) code.0 code.1 u e
 

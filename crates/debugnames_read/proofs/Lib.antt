@@ -10,4 +10,4 @@ pub mod EntryLaws
 pub mod NameLaws
 pub mod HitLaws
 pub mod LeftLaws
-pub mod SeenLaws
+pub mod ListLaws

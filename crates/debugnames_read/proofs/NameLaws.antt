@@ -12,7 +12,8 @@ use Rattle.index_model.specs.NameAbbreviations.{Abbreviation}
 use Rattle.index_model.specs.NameIndexRead.{NameHit, entries_at, entries_of_name, has_hash, is_hashed, is_in_bucket, name_at, place_in, string_of}
 use Rattle.index_model.specs.NameTables.{Tables}
 use Rattle.index_model.specs.Strings.{offset_size}
-use Rattle.debugnames_read.specs.Names.{list_at, string_at, text_in, up_to}
+use Rattle.debugnames_read.specs.Names.{list_at, string_at, up_to}
+use Rattle.debugnames_read.specs.Texts.{text_in}
 use Rattle.debugnames_read.proofs.Readings.{ok_is, is_ok_by}
 use Rattle.debugnames_read.proofs.Opened.{parts}
 

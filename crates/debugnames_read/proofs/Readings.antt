@@ -359,5 +359,8 @@ module _ (t : Tables) (abbrevs : List Abbreviation) where
       pub entries_ok : IsOk (entries_at t abbrevs (suc most) i) → IsOk (entries_at t abbrevs most j)
       entries_ok ok = sym (ok_with_hit (entries_at t abbrevs most j)) ∙ ap is_ok (sym entries_more) ∙ ok
 
+      pub entries_back : IsOk (entries_at t abbrevs most j) → IsOk (entries_at t abbrevs (suc most) i)
+      entries_back ok = ap is_ok entries_more ∙ ok_with_hit (entries_at t abbrevs most j) ∙ ok
+
       pub entries_list : IsOk (entries_at t abbrevs (suc most) i) → list_in (entries_at t abbrevs (suc most) i) ≡ h ∷ list_in (entries_at t abbrevs most j)
       entries_list ok = ap list_in entries_more ∙ list_with_hit (entries_at t abbrevs most j) (entries_ok ok)

@@ -5,5 +5,9 @@ pub mod Specs
 pub mod Abbreviations
 pub mod Values
 pub mod Entries
+pub mod Known
+pub mod Checked
+pub mod Lists
+pub mod Texts
 pub mod Names
 pub mod Hits

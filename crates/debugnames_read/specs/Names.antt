@@ -1,8 +1,8 @@
 -- The names of an index, by their numbers.
-use Rattle.std.specs.Prelude.{IsOk, ◌≡◌, ℕ, ◌-◌, ◌<◌, ◌≤◌, Bool, true, false, not, nat_le, if◌then◌else◌, ◌==◌, List, [], length, drop, filter, flat_map, bytes_eq, Option, Some, None, unwrap_or, Result, Ok, Err, IfSome}
+use Rattle.std.specs.Prelude.{IsOk, ◌≡◌, ℕ, ◌-◌, ◌<◌, ◌≤◌, Bool, true, false, not, nat_le, ◌==◌, List, [], filter, flat_map, bytes_eq, Option, Some, None, unwrap_or, Result, Ok, Err, IfSome}
 use Rattle.std.specs.List.{list_any, enumerate_from, range_with_len}
 use Rattle.ix_base.specs.declared.fault.Fault.{Fault}
-use Rattle.ix_base.specs.Reading.{Input, before_zero, skip, ◌>>=◌ as ◌>>=?◌}
+use Rattle.ix_base.specs.Reading.{Input, skip, ◌>>=◌ as ◌>>=?◌}
 use Rattle.index_model.specs.Hashes.{name_hash}
 use Rattle.index_model.specs.Layout.{below, nth}
 use Rattle.index_model.specs.Meaning.{◌>>=◌, ◌>>◌, each, value_of}
@@ -20,20 +20,6 @@ use Rattle.debugnames_read.specs.Tables.{tables_seen}
 abbrev pub tables_of : Names → Tables
 tables_of n = tables_seen n.tables
 
--- the tables and the strings
-pub record Seen : Type 0 where
-  pub tables : Tables
-  pub strings : List ℕ
-  pub base : ℕ
-
--- all names
-abbrev pub names_seen : Names → Seen
-names_seen n = record { tables = tables_of n; strings = n.strings.now; base = n.base }
-
--- the string at an offset, if it has an end
-abbrev pub text_in : List ℕ → ℕ → Option (List ℕ)
-text_in strings offset = if nat_le offset (length strings) then before_zero (drop offset strings) else None
-
 -- the string of a name, if it has one
 abbrev pub string_at : Tables → List ℕ → ℕ → ℕ → Option (List ℕ)
 string_at t strings base k = value_of (string_of t strings base k)
@@ -41,10 +27,6 @@ string_at t strings base k = value_of (string_of t strings base k)
 -- where the entries of a name begin
 abbrev pub list_at : Tables → ℕ → Option Input
 list_at t k = skip (nth t.entries.numbers k) t.pool >>=? λ x. Some x.1
-
--- the abbreviations have no fault
-abbrev pub HasAbbreviations : Names → Type 0
-HasAbbreviations n = IsOk (abbreviations (tables_of n).abbreviations)
 
 -- a name has no fault
 abbrev pub IsRight : Names → ℕ → Type 0
@@ -90,8 +72,12 @@ abbrev pub hits_between : Names → List ℕ → ℕ → ℕ → List NameHit
 hits_between n name i to = flat_map (hits_at (tables_of n)) (filter (is_named n name) (up_to i to))
 
 -- where a hash is given it is that of the name, and the index has hashes for such names
+abbrev pub IsHashBy : Tables → List ℕ → Option ℕ → Type 0
+IsHashBy t name hash = IfSome hash (λ h. (h ≡ name_hash name) × (list_any (λ c. nat_le 0x80 c) name ≡ false) × (0 < t.counts.buckets))
+
+-- the same of a name that is looked for
 abbrev pub IsHashOf : Tables → Sought → Type 0
-IsHashOf t s = IfSome s.hash (λ h. (h ≡ name_hash s.name.now) × (list_any (λ c. nat_le 0x80 c) s.name.now ≡ false) × (0 < t.counts.buckets))
+IsHashOf t s = IsHashBy t s.name.now s.hash
 
 -- the name with this number has another hash than the one that is given
 abbrev pub is_other_hash : Tables → ℕ → Option ℕ → Bool

@@ -4,7 +4,6 @@ ghost use Rattle.std.specs.Prelude.{◌≡◌, IsOk, ◌+◌, ◌==◌, find, le
 ghost use Rattle.ix_base.specs.Moves.{MovesOn, Reads};
 ghost use Rattle.index_model.specs.declared.index_code.TheConstants.{NAMES_ABBREVIATION};
 ghost use Rattle.index_model.specs.Gives.{GivesAlways};
-ghost use Rattle.index_model.specs.Meaning.{wrong_in};
 ghost use Rattle.index_model.specs.NameAbbreviations.{abbreviations, specs_at};
 ghost use Rattle.debugnames_read.specs.Specs.{is_last, place_behind, spec_at, spec_seen, HasSpecs};
 
@@ -70,22 +69,18 @@ impl<'a> Abbreviation<'a> {
         Ok(Some(Abbreviation { code, tag, specs }))
     }
 
-    /// Whether all abbreviations of an area have no fault.
-    pub fn check_all(area: &Cursor<'_>) -> Result<(), Fault>
-        ensures { wrong_in result ≡ wrong_in (abbreviations area.now) }
+    /// The same abbreviation again.
+    pub fn again(&self) -> Abbreviation<'a>
+        ensures { abbreviation_seen result ≡ abbreviation_seen self.now }
     {
-        let mut cursor = area.copied();
-        // There are fewer abbreviations than bytes.
-        'abbreviations: for _ in 0..area.rest().len() + 1 {
-            match Abbreviation::read(&mut cursor)? {
-                None => return Ok(()),
-                Some(_) => {}
-            }
+        Abbreviation {
+            code: self.code,
+            tag: self.tag,
+            specs: self.specs.copied(),
         }
-        Err(fault(NAMES_ABBREVIATION, cursor.at()))
     }
 
-    /// The first abbreviation with a code, in an area without a fault.
+    /// The first abbreviation with a code, in an area without a fault. Those before it are read.
     pub fn find(area: &Cursor<'a>, code: u64) -> Option<Abbreviation<'a>>
         requires { IsOk (abbreviations area.now) }
         ensures { option_map abbreviation_seen result ≡ find (λ a. a.code == code) (abbreviations_in area.now) }

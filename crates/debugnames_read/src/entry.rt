@@ -1,18 +1,18 @@
 //! The entries of the pool (DWARF 5, section 6.1.1.4.8).
 
-ghost use Rattle.std.specs.Prelude.{◌≡◌, IsOk, option_map};
+ghost use Rattle.std.specs.Prelude.{◌≡◌, option_map};
 ghost use Rattle.ix_base.specs.Moves.{MovesOn, Reads};
 ghost use Rattle.index_model.specs.Gives.{GivesAlways};
-ghost use Rattle.index_model.specs.NameAbbreviations.{abbreviations};
 ghost use Rattle.index_model.specs.NameIndexRead.{entry_with, type_unit, unit_of};
 ghost use Rattle.debugnames_read.specs.Abbreviations.{abbreviations_in};
 ghost use Rattle.debugnames_read.specs.Entries.{entry_at, hit_by, hit_seen, unit_seen};
+ghost use Rattle.debugnames_read.specs.Names.{tables_of};
 ghost use Rattle.debugnames_read.specs.Tables.{tables_seen};
 ghost use Rattle.debugnames_read.specs.Values.{kept_seen};
 
-use crate::abbreviation::Abbreviation;
 use crate::attributes::{Attributes, number_in};
 use crate::header::fault;
+use crate::names::Names;
 use crate::tables::Tables;
 use index_model::index_code::NAMES_ENTRY_POOL;
 use ix_base::{Cursor, Fault};
@@ -41,13 +41,12 @@ pub struct NameHit {
     pub offset: u64,
 }
 
-impl<'a> Tables<'a> {
+impl<'a> Names<'a> {
     /// The entry at the cursor, None where the code 0 ends the entries, or the fault that it is cut, has an unknown code or
     /// doesn't say its unit and its offset.
     #[tactic(auto, unfolding(crate::specs::Entries::entry_at))]
     pub fn read_entry(&self, cursor: &mut Cursor<'a>) -> Result<Option<NameHit>, Fault>
-        requires { IsOk (abbreviations (tables_seen self.now).abbreviations) }
-        ensures value { GivesAlways (λ o. option_map (λ h. (hit_seen h, cursor.new)) o) result (entry_at (tables_seen self.now) (abbreviations_in (tables_seen self.now).abbreviations) cursor.old) }
+        ensures value { GivesAlways (λ o. option_map (λ h. (hit_seen h, cursor.new)) o) result (entry_at (tables_of self.now) (abbreviations_in (tables_of self.now).abbreviations) cursor.old) }
         ensures place { MovesOn cursor.old cursor.new }
     {
         let wrong = fault(NAMES_ENTRY_POOL, cursor.at());
@@ -62,16 +61,17 @@ impl<'a> Tables<'a> {
     // The entry with a code, behind the code.
     #[tactic(auto, unfolding(index_model::specs::NameIndexRead::entry_with))]
     fn entry_with(&self, code: u64, cursor: &mut Cursor<'a>) -> Option<NameHit>
-        requires { IsOk (abbreviations (tables_seen self.now).abbreviations) }
-        ensures value { Reads hit_seen (entry_with (tables_seen self.now) (abbreviations_in (tables_seen self.now).abbreviations) code) cursor.old cursor.new result }
+        ensures value { Reads hit_seen (entry_with (tables_of self.now) (abbreviations_in (tables_of self.now).abbreviations) code) cursor.old cursor.new result }
         ensures place { MovesOn cursor.old cursor.new }
     {
-        let abbreviation = Abbreviation::find(&self.abbreviations, code)?;
+        let abbreviation = self.known.find(&self.tables.abbreviations, code)?;
         let tag = abbreviation.tag;
-        let attributes = Attributes::read(self.wide, abbreviation.specs, cursor)?;
-        self.hit(tag, &attributes)
+        let attributes = Attributes::read(self.tables.wide, abbreviation.specs, cursor)?;
+        self.tables.hit(tag, &attributes)
     }
+}
 
+impl<'a> Tables<'a> {
     // What the attributes of an entry say.
     #[tactic(auto, unfolding(crate::specs::Entries::hit_by))]
     fn hit(&self, tag: u64, attributes: &Attributes) -> Option<NameHit>

@@ -1,25 +1,22 @@
 //! The entries of a name.
 
-ghost use Rattle.std.specs.Prelude.{◌≡◌, IsOk, ◌++◌, [], MatchOption, ◌∷◌};
+ghost use Rattle.std.specs.Prelude.{◌≡◌, [], MatchOption, ◌∷◌};
 ghost use Rattle.std.specs.Iterator.{YieldsFirstBy, item_count};
-ghost use Rattle.index_model.specs.NameAbbreviations.{abbreviations};
 ghost use Rattle.index_model.specs.NameIndexRead.{name_index_hits};
 ghost use Rattle.debugnames_read.specs.Entries.{hit_seen};
 ghost use Rattle.debugnames_read.specs.Hits.{entries_left, hits_left, IsLeft, IsList};
 ghost use Rattle.debugnames_read.specs.Names.{index_seen, tables_of, IsHashOf, IsOpened};
-ghost use Rattle.debugnames_read.specs.Tables.{tables_seen};
 
 use crate::buckets::{Sought, Span};
 use crate::entry::NameHit;
 use crate::names::Names;
-use crate::tables::Tables;
 use ix_base::Cursor;
 use std::marker::Model;
 
 /// The entries of a name that are still to come, in the order of the table. Contracts see them as a list.
 #[derive(Drop)]
-pub struct NameHits<'a> {
-    names: Names<'a>,
+pub struct NameHits<'i, 'a> {
+    names: &'i Names<'a>,
     sought: Sought<'a>,
     left: Left<'a>,
 }
@@ -31,7 +28,7 @@ pub(crate) struct Left<'a> {
     names: Span,
 }
 
-impl<'a> Model for NameHits<'a> {
+impl<'i, 'a> Model for NameHits<'i, 'a> {
     ghost use Rattle.std.specs.Prelude.{List};
     ghost use Rattle.index_model.specs.NameIndexRead.{NameHit as Meaning};
 
@@ -39,14 +36,14 @@ impl<'a> Model for NameHits<'a> {
 
     ghost use Rattle.debugnames_read.specs.Hits.{hits_left, IsLookUp};
 
-    ghost view = { λ h. hits_left h.names h.sought.name.now h.left };
+    ghost view = { λ h. hits_left h.names.now h.sought.name.now h.left };
 
-    ghost invariant = { λ h. IsLookUp h.names h.sought h.left };
+    ghost invariant = { λ h. IsLookUp h.names.now h.sought h.left };
 }
 
-impl<'a> NameHits<'a> {
+impl<'i, 'a> NameHits<'i, 'a> {
     /// The entries of a name of an index without a fault.
-    pub(crate) fn of(names: &Names<'a>, name: &[u8]) -> NameHits<'a>
+    pub(crate) fn of(names: &'i Names<'a>, name: &[u8]) -> NameHits<'i, 'a>
         requires { IsOpened names.now }
         ensures { result ≡ name_index_hits (index_seen names.now) name.now }
     {
@@ -71,19 +68,19 @@ impl<'a> NameHits<'a> {
             },
         };
         NameHits {
-            names: names.again(),
+            names,
             sought,
             left,
         }
     }
 
     // No entries.
-    fn none(names: &Names<'a>) -> NameHits<'a>
+    fn none(names: &'i Names<'a>) -> NameHits<'i, 'a>
         requires { IsOpened names.now }
         ensures { result ≡ [] }
     {
         NameHits {
-            names: names.again(),
+            names,
             sought: Sought {
                 name: &[],
                 hash: None,
@@ -96,7 +93,7 @@ impl<'a> NameHits<'a> {
     }
 }
 
-impl<'a> Iterator for NameHits<'a> {
+impl<'i, 'a> Iterator for NameHits<'i, 'a> {
     type Item = NameHit;
 
     ghost next_gives = { YieldsFirstBy hit_seen (λ hits. hits) };
@@ -118,7 +115,7 @@ impl<'a> Names<'a> {
         ensures left { IsLeft self.now left.new }
     {
         'names: loop {
-            if let Some(hit) = self.tables.next_entry(&mut left.entries) {
+            if let Some(hit) = self.next_entry(&mut left.entries) {
                 return Some(hit);
             }
             let first = self.first(sought, left.names)?;
@@ -126,15 +123,12 @@ impl<'a> Names<'a> {
             left.entries = self.tables.entries_of(first);
         }
     }
-}
 
-impl<'a> Tables<'a> {
     // The next entry of a list. Behind the last one the list is gone.
     fn next_entry(&self, entries: &mut Option<Cursor<'a>>) -> Option<NameHit>
-        requires known { IsOk (abbreviations (tables_seen self.now).abbreviations) }
-        requires list { IsList (tables_seen self.now) entries.old }
-        ensures value { MatchOption result ((entries_left (tables_seen self.now) entries.old ≡ []) × (entries_left (tables_seen self.now) entries.new ≡ [])) (λ h. entries_left (tables_seen self.now) entries.old ≡ hit_seen h ∷ entries_left (tables_seen self.now) entries.new) }
-        ensures list { IsList (tables_seen self.now) entries.new }
+        requires { IsList (tables_of self.now) entries.old }
+        ensures value { MatchOption result ((entries_left (tables_of self.now) entries.old ≡ []) × (entries_left (tables_of self.now) entries.new ≡ [])) (λ h. entries_left (tables_of self.now) entries.old ≡ hit_seen h ∷ entries_left (tables_of self.now) entries.new) }
+        ensures list { IsList (tables_of self.now) entries.new }
     {
         let mut cursor = entries.take()?;
         match self.read_entry(&mut cursor) {

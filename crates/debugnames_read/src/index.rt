@@ -7,13 +7,14 @@ ghost use Rattle.index_model.specs.Meaning.{each, wrong_in};
 ghost use Rattle.index_model.specs.NameIndexRead.{is_bucket, name_index, name_index_hits};
 ghost use Rattle.debugnames_read.specs.Tables.{tables_seen};
 
-use crate::abbreviation::Abbreviation;
 use crate::header::fault;
 use crate::hits::NameHits;
+use crate::known::Known;
 use crate::names::Names;
 use crate::tables::Tables;
 use index_model::index_code::NAMES_BUCKET;
 use ix_base::Fault;
+use std::alloc::Global;
 use std::marker::Model;
 
 /// A `.debug_names` without a fault, and the strings of its names. It borrows the bytes, and contracts see what they mean.
@@ -38,22 +39,30 @@ impl<'a> NameIndex<'a> {
     /// The index in these bytes, or its first fault, with its place in them. `strings` are the bytes of the string section
     /// from `base` on.
     ///
-    /// Each name is read and hashed once and compared with its bucket in constant time, and its entries are read once, each
-    /// with the abbreviations before its own. On an index that a writer made this is near linear in its length. At worst each
-    /// name costs as much as all strings and all of the pool, where the names are ends of one text or begin their entries
-    /// inside one list; names one after the other that share one list cost its reading once.
-    pub fn open(names: &'a [u8], strings: &'a [u8], base: u64) -> Result<NameIndex<'a>, Fault>
+    /// Each abbreviation and each entry of the pool is read once, however many names share a list or begin their own inside
+    /// one, and an entry finds its abbreviation in a tree of codes. Each name is read and hashed once and compared with its
+    /// bucket in constant time. On an index that a writer made this is near linear in its length. What another can cost is its
+    /// names times its strings, where the names are ends of one text, and its entries times the attributes of an abbreviation,
+    /// where those take no bytes. Where no memory is left for the codes or for a mark at each byte of the pool the answer is
+    /// the same, but an entry costs all abbreviations before its own, and a list its reading for each name that shares it.
+    pub fn open(
+        alloc: Global,
+        names: &'a [u8],
+        strings: &'a [u8],
+        base: u64,
+    ) -> Result<NameIndex<'a>, Fault>
         ensures { GivesAlways (λ i. i) result (name_index names.now strings.now base) }
     {
         let tables = Tables::open(names)?;
-        Abbreviation::check_all(&tables.abbreviations)?;
+        let known = Known::read(alloc, &tables.abbreviations)?;
         check_buckets(&tables)?;
         let names = Names {
             tables,
+            known,
             strings,
             base,
         };
-        names.check()?;
+        names.check(alloc)?;
         Ok(NameIndex { names })
     }
 
@@ -61,7 +70,7 @@ impl<'a> NameIndex<'a> {
     ///
     /// Where there are buckets and the name has no byte from 80 on, only the names of its bucket are looked at. Otherwise all
     /// names are, one by one.
-    pub fn find(&self, name: &[u8]) -> NameHits<'a>
+    pub fn find(&self, name: &[u8]) -> NameHits<'_, 'a>
         ensures { result ≡ name_index_hits self.now name.now }
     {
         NameHits::of(&self.names, name)

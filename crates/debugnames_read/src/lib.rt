@@ -7,18 +7,21 @@
 //! the entries of a name.
 //!
 //! Anyone may have made the bytes. `NameIndex::open` accepts exactly those without a fault, else it gives the first fault, its
-//! code (`index_model::index_code`, 50 to 57) and its place in the section. Nothing here takes memory.
+//! code (`index_model::index_code`, 50 to 57) and its place in the section. Memory is taken for the abbreviations by their codes
+//! and, while `open` reads, for what it has read of the pool; where there is none it does without, so no answer depends on it.
 #![tactic(auto)]
 
 mod abbreviation;
 mod attributes;
 mod buckets;
+mod checked;
 mod entry;
 mod form;
 mod hash;
 mod header;
 mod hits;
 mod index;
+mod known;
 mod names;
 mod numbers;
 mod tables;

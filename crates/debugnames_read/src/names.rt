@@ -1,41 +1,41 @@
 //! The name table: the string, the hash and the entries of each name (DWARF 5, sections 6.1.1.4.3 to 6.1.1.4.6).
 
-ghost use Rattle.std.specs.Prelude.{◌≡◌, IsOk, ◌<◌, ◌+◌, ◌-◌, length, option_map};
+ghost use Rattle.std.specs.Prelude.{◌≡◌, IsOk, OnOk, [], ◌<◌, ◌-◌, option_map};
 ghost use Rattle.index_model.specs.Gives.{GivesAlways};
 ghost use Rattle.index_model.specs.Layout.{below, nth};
 ghost use Rattle.index_model.specs.Meaning.{each, wrong_in};
 ghost use Rattle.index_model.specs.NameAbbreviations.{abbreviations};
-ghost use Rattle.index_model.specs.NameIndexRead.{entries_at, entries_of_name, has_hash, is_hashed, name_at};
+ghost use Rattle.index_model.specs.NameIndexRead.{entries_of_name, has_hash, is_hashed, name_at};
 ghost use Rattle.debugnames_read.specs.Abbreviations.{abbreviations_in};
-ghost use Rattle.debugnames_read.specs.Names.{list_at, names_seen, string_at, tables_of, text_in, HasAbbreviations, IsRight};
+ghost use Rattle.debugnames_read.specs.Known.{IsKnown};
+ghost use Rattle.debugnames_read.specs.Lists.{list_from, AreSound, IsIn};
 ghost use Rattle.debugnames_read.specs.Tables.{tables_seen};
+ghost use Rattle.debugnames_read.specs.Texts.{text_in};
 
+use crate::checked::Checked;
 use crate::hash::{is_beyond_ascii, name_hash};
 use crate::header::fault;
+use crate::known::Known;
 use crate::tables::Tables;
 use index_model::index_code::{NAMES_BUCKET, NAMES_ENTRY_POOL, NAMES_HASH, NAMES_STRING_OFFSET};
 use ix_base::{Cursor, Fault};
+use std::alloc::Global;
 
-/// The tables of an index, and the strings of its names.
+/// The tables of an index, and the strings of its names. The abbreviations have no fault.
 #[derive(Drop)]
 pub(crate) struct Names<'a> {
     pub tables: Tables<'a>,
+    /// The abbreviations of the tables.
+    pub known: Known<'a>,
     /// The string section from `base` on.
     pub strings: &'a [u8],
     pub base: u64,
+    ghost right: { IsOk (abbreviations (tables_seen tables).abbreviations) },
+    ghost known_all: { IsKnown [] (abbreviations_in (tables_seen tables).abbreviations) known },
 }
 
 impl<'a> Names<'a> {
-    /// The same names again.
-    pub fn again(&self) -> Names<'a>
-        ensures { names_seen result ≡ names_seen self.now }
-    {
-        Names {
-            tables: self.tables.again(),
-            strings: self.strings,
-            base: self.base,
-        }
-    }
+    ghost use Rattle.debugnames_read.specs.Names.{string_at, tables_of, IsRight};
 
     /// How many names there are.
     pub fn len(&self) -> usize
@@ -45,29 +45,30 @@ impl<'a> Names<'a> {
     }
 
     /// The first fault of the names, one after the other: of its string, its hash, its bucket or its entries.
-    pub fn check(&self) -> Result<(), Fault>
-        requires { HasAbbreviations self.now }
+    pub fn check(&self, alloc: Global) -> Result<(), Fault>
         ensures { wrong_in result ≡ wrong_in (each (name_at (tables_of self.now) (abbreviations_in (tables_of self.now).abbreviations) self.now.strings.now self.now.base) (below (tables_of self.now).counts.names)) }
     {
         let count = self.len();
+        let mut checked = Checked::none(alloc, self.tables.pool.rest().len());
         for number in 0..count {
-            self.check_name(number)?;
+            self.check_name(number, &mut checked)?;
         }
         Ok(())
     }
 
     // The first fault of a name.
-    fn check_name(&self, number: usize) -> Result<(), Fault>
-        requires known { HasAbbreviations self.now }
+    fn check_name(&self, number: usize, checked: &mut Checked) -> Result<(), Fault>
         requires within { number < (tables_of self.now).counts.names }
         requires before { 0 < number → IsRight self.now (number - 1) }
-        ensures { wrong_in result ≡ wrong_in (name_at (tables_of self.now) (abbreviations_in (tables_of self.now).abbreviations) self.now.strings.now self.now.base number) }
+        requires checked { AreSound (tables_of self.now) checked.old }
+        ensures value { wrong_in result ≡ wrong_in (name_at (tables_of self.now) (abbreviations_in (tables_of self.now).abbreviations) self.now.strings.now self.now.base number) }
+        ensures checked { OnOk result (AreSound (tables_of self.now) checked.new) }
     {
         let Some(name) = self.string(number) else {
             return Err(fault(NAMES_STRING_OFFSET, self.tables.strings.place(number)));
         };
         self.check_hash(number, name)?;
-        self.check_entries(number)
+        self.check_entries(number, checked)
     }
 
     /// The string of a name, None where its offset is no offset of the strings or no zero ends it.
@@ -101,21 +102,41 @@ impl<'a> Names<'a> {
         Ok(())
     }
 
-    // The first fault of the entries of a name. Those of the name before aren't read again.
-    fn check_entries(&self, number: usize) -> Result<(), Fault>
-        requires known { HasAbbreviations self.now }
+    // The first fault of the entries of a name.
+    fn check_entries(&self, number: usize, checked: &mut Checked) -> Result<(), Fault>
         requires within { number < (tables_of self.now).counts.names }
-        requires before { 0 < number → IsRight self.now (number - 1) }
-        ensures { wrong_in result ≡ wrong_in (entries_of_name (tables_of self.now) (abbreviations_in (tables_of self.now).abbreviations) number) }
+        requires checked { AreSound (tables_of self.now) checked.old }
+        ensures value { wrong_in result ≡ wrong_in (entries_of_name (tables_of self.now) (abbreviations_in (tables_of self.now).abbreviations) number) }
+        ensures checked { OnOk result (AreSound (tables_of self.now) checked.new) }
     {
-        let entries = &self.tables.entries;
-        if number > 0 && entries.get(number - 1) == entries.get(number) {
-            return Ok(());
-        }
         match self.tables.entries_of(number) {
-            None => Err(fault(NAMES_ENTRY_POOL, entries.place(number))),
-            Some(cursor) => self.tables.check_list(cursor),
+            None => Err(fault(NAMES_ENTRY_POOL, self.tables.entries.place(number))),
+            Some(cursor) => self.check_list(cursor, checked),
         }
+    }
+
+    // The first fault of the entries from a place of the pool on. None is read twice, however many lists it ends.
+    fn check_list(&self, mut cursor: Cursor<'a>, checked: &mut Checked) -> Result<(), Fault>
+        requires inside { IsIn (tables_of self.now).pool cursor }
+        requires checked { AreSound (tables_of self.now) checked.old }
+        ensures value { wrong_in result ≡ wrong_in (list_from (tables_of self.now) cursor.entry) }
+        ensures checked { OnOk result (AreSound (tables_of self.now) checked.new) }
+    {
+        let pool = &self.tables.pool;
+        // There are fewer entries than bytes.
+        'entries: for _ in 0..pool.rest().len() + 1 {
+            let place = cursor.at() - pool.at();
+            if checked.has(place) {
+                return Ok(());
+            }
+            // Should they have a fault, nothing that was checked is used again.
+            checked.add(place);
+            match self.read_entry(&mut cursor)? {
+                None => return Ok(()),
+                Some(_) => {}
+            }
+        }
+        Err(fault(NAMES_ENTRY_POOL, cursor.at()))
     }
 }
 
@@ -130,6 +151,8 @@ fn text_at(strings: &[u8], offset: u64) -> Option<&[u8]>
 }
 
 impl<'a> Tables<'a> {
+    ghost use Rattle.debugnames_read.specs.Names.{list_at};
+
     // Whether a name has its hash. One with a byte from 80 on may have any.
     fn has_hash(&self, number: usize, name: &[u8]) -> bool
         requires some { 0 < (tables_seen self.now).counts.buckets }
@@ -147,20 +170,5 @@ impl<'a> Tables<'a> {
         let mut cursor = self.pool.copied();
         cursor.skip(self.entries.get(number))?;
         Some(cursor)
-    }
-
-    // The first fault of the entries from a place of the pool on.
-    fn check_list(&self, mut cursor: Cursor<'a>) -> Result<(), Fault>
-        requires { IsOk (abbreviations (tables_seen self.now).abbreviations) }
-        ensures { wrong_in result ≡ wrong_in (entries_at (tables_seen self.now) (abbreviations_in (tables_seen self.now).abbreviations) (length (tables_seen self.now).pool.rest + 1) cursor.entry) }
-    {
-        // There are fewer entries than bytes.
-        'entries: for _ in 0..self.pool.rest().len() + 1 {
-            match self.read_entry(&mut cursor)? {
-                None => return Ok(()),
-                Some(_) => {}
-            }
-        }
-        Err(fault(NAMES_ENTRY_POOL, cursor.at()))
     }
 }

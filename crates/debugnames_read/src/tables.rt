@@ -139,20 +139,4 @@ impl<'a> Tables<'a> {
             pool: cursor,
         })
     }
-
-    /// The same tables again.
-    pub fn again(&self) -> Tables<'a>
-        ensures { tables_seen result ≡ tables_seen self.now }
-    {
-        Tables {
-            wide: self.wide,
-            counts: self.counts,
-            buckets: self.buckets,
-            hashes: self.hashes,
-            strings: self.strings,
-            entries: self.entries,
-            abbreviations: self.abbreviations.copied(),
-            pool: self.pool.copied(),
-        }
-    }
 }

@@ -27,7 +27,7 @@ const SOUND: (u8, u64) = (0, 0);
 #[test]
 fn first_faults(rt: HostRuntime) {
     for (row, index, strings, base, want) in FAULTS {
-        let got = match NameIndex::open(index, strings, base) {
+        let got = match NameIndex::open(rt.alloc(), index, strings, base) {
             Ok(_) => SOUND,
             Err(fault) => (fault.code, fault.at),
         };
@@ -52,7 +52,7 @@ fn facts(
     base: u64,
     name: &[u8],
 ) -> Result<Vec<(Sort, u32, u64, u64)>, Fail> {
-    let index = NameIndex::open(index, strings, base).map_err(|_| "refused")?;
+    let index = NameIndex::open(alloc, index, strings, base).map_err(|_| "refused")?;
     let mut facts = Vec::new(alloc);
     for hit in index.find(name) {
         facts.push((hit.sort, hit.unit, hit.offset, hit.tag))?;
@@ -90,7 +90,7 @@ fn accepted_changes(alloc: Global, plain: &[u8], strings: &[u8]) -> Result<usize
             if let Some(place) = changed.get_mut(at) {
                 *place = byte;
             }
-            let Ok(index) = NameIndex::open(&changed, strings, 0) else {
+            let Ok(index) = NameIndex::open(alloc, &changed, strings, 0) else {
                 continue;
             };
             accepted = accepted.wrapping_add(1);
@@ -119,6 +119,71 @@ fn changes_of_one_byte(rt: HostRuntime) -> Result<(), Fail> {
             assert_eq!(rt; base, 0);
             assert!(rt; accepted_changes(rt.alloc(), index, strings)? > 0);
         }
+    }
+    Ok(())
+}
+
+// An index without buckets: its front, and abbreviation 1 with the offset in a byte; between them stand where the strings and the
+// entries of the names a, b and c begin. The pool follows.
+const FRONT: &[u8] = b"\x05\0\0\0\x01\0\0\0\0\0\0\0\0\0\0\0\0\0\0\0\x03\0\0\0\x07\0\0\0\0\0\0\0\
+    \0\0\0\0\0\0\0\0\x02\0\0\0\x04\0\0\0";
+
+const ABBREVIATION: &[u8] = b"\x01\x2e\x03\x0b\0\0\0";
+
+const ABC: &[u8] = b"a\0b\0c\0";
+
+// The index whose names begin their entries at these places of the pool.
+fn index_of(alloc: Global, places: [u8; 3], pool: &[u8]) -> Result<Vec<u8>, AllocError> {
+    let mut index = Vec::new(alloc);
+    let length = FRONT.len() + 12 + ABBREVIATION.len() + pool.len();
+    index.extend_from_slice(&[u8::try_from(length).unwrap_or(u8::MAX), 0, 0, 0])?;
+    index.extend_from_slice(FRONT)?;
+    for place in places {
+        index.extend_from_slice(&[place, 0, 0, 0])?;
+    }
+    index.extend_from_slice(ABBREVIATION)?;
+    index.extend_from_slice(pool)?;
+    Ok(index)
+}
+
+#[test]
+fn names_that_share_entries(rt: HostRuntime) -> Result<(), Fail> {
+    let alloc = rt.alloc();
+    // The entries of b are the last of those of a, and c has those of a.
+    let index = index_of(alloc, [0, 2, 0], b"\x01\x10\x01\x20\0")?;
+    let first = (Sort::Compile, 0, 0x10, 0x2e);
+    let second = (Sort::Compile, 0, 0x20, 0x2e);
+    let names: [(&[u8], &[(Sort, u32, u64, u64)]); 3] = [
+        (b"a", &[first, second]),
+        (b"b", &[second]),
+        (b"c", &[first, second]),
+    ];
+    for (name, want) in names {
+        let found = facts(alloc, &index, ABC, 0, name)?;
+        assert_eq!(rt; found.as_slice(), want);
+    }
+    Ok(())
+}
+
+#[test]
+fn faults_of_shared_entries(rt: HostRuntime) -> Result<(), Fail> {
+    let alloc = rt.alloc();
+    let sound: &[u8] = b"\x01\x10\x01\x20\0";
+    // The pool begins at 71, and the places of entries stand from 52 on. Nothing ends the entries of a; those of b begin at a byte
+    // that is no code; those of c begin past the pool.
+    let cases: [([u8; 3], &[u8], (u8, u64)); 4] = [
+        ([0, 2, 0], b"\x01\x10\x01\x20", (57, 75)),
+        ([2, 0, 2], b"\x01\x10\x01\x20", (57, 75)),
+        ([0, 1, 0], sound, (57, 72)),
+        ([0, 2, 6], sound, (57, 60)),
+    ];
+    for (places, pool, want) in cases {
+        let index = index_of(alloc, places, pool)?;
+        let got = match NameIndex::open(alloc, &index, ABC, 0) {
+            Ok(_) => SOUND,
+            Err(fault) => (fault.code, fault.at),
+        };
+        assert_eq!(rt; got, want);
     }
     Ok(())
 }

@@ -49,7 +49,7 @@ pub(crate) fn look_names<F: Shelf, K: Sink>(
         return Status::Usage;
     };
     match read_both(alloc, shelf, look) {
-        Ok(files) => answer(&files.index, &files.strings, look.base, name, out),
+        Ok(files) => answer(alloc, &files.index, &files.strings, look.base, name, out),
         Err(ReadStop::Fault) => Status::ReadFault,
         Err(ReadStop::TooBig) => Status::FileTooBig,
         Err(ReadStop::Memory) => Status::NoMemory,
@@ -76,13 +76,20 @@ fn read_both<F: Shelf>(
 }
 
 // The entries of the name in these bytes, or their first fault.
-fn answer<K: Sink>(bytes: &[u8], strings: &[u8], base: u32, name: &[u8], out: &mut K) -> Status
+fn answer<K: Sink>(
+    alloc: Global,
+    bytes: &[u8],
+    strings: &[u8],
+    base: u32,
+    name: &[u8],
+    out: &mut K,
+) -> Status
     requires { length bytes.now ≤ MAX_FILE_BYTES }
     ensures wrote { Wrote (SaysNames bytes.now strings.now base name.now) result (K.written out.old) (K.written out.new) }
     ensures causes { CausesOfResult (Rose (K.write_faults out.old) (K.write_faults out.new)) result }
     ensures counts { K.write_faults out.old ≤ K.write_faults out.new }
 {
-    match NameIndex::open(bytes, strings, u64::from(base)) {
+    match NameIndex::open(alloc, bytes, strings, u64::from(base)) {
         Ok(index) => ended(write_hits(out, name, &index), Status::Answered),
         Err(fault) => ended(write_index_fault(out, fault), Status::IndexRefused),
     }

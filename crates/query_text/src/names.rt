@@ -53,7 +53,7 @@ fn send_each<K: Sink>(
     out: &mut K,
     waiting: &mut Waiting,
     name: &[u8],
-    hits: NameHits<'_>,
+    hits: NameHits<'_, '_>,
 ) -> Result<(), Failed>
     ensures ok { OnOk result (Sends (K.written out.old) waiting.old (K.written out.new) waiting.new (flat_map (text_of_hit name.now) hits.entry)) }
     ensures failed { OnErr result (Rose (K.write_faults out.old) (K.write_faults out.new)) }

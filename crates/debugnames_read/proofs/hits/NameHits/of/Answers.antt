@@ -1,13 +1,10 @@
-use Rattle.std.proofs.Common.{◌≡◌, ◌<◌, ◌≤◌, ◌+◌, ℕ, List, ◌++◌, ap, sym, subst, ◌∙◌, arith}
-use Rattle.std.specs.Prelude.{IsOk}
+use Rattle.std.proofs.Common.{◌≡◌, ◌<◌, ◌+◌, ℕ, List, ◌++◌, ap, sym, subst, ◌∙◌, arith}
 use Rattle.index_model.specs.NameIndexRead.{NameHit, name_index_hits}
-use Rattle.index_model.specs.NameTables.{Tables}
 use Rattle.debugnames_read.specs.declared.hits.Left.{Left}
-use Rattle.debugnames_read.specs.Hits.{hits_left, IsList}
-use Rattle.debugnames_read.specs.Names.{hits_between, index_of, index_seen, is_named, tables_of, Seen}
+use Rattle.debugnames_read.specs.Hits.{hits_left}
+use Rattle.debugnames_read.specs.Names.{hits_between, index_seen, is_named, tables_of, IsHashBy}
 use Rattle.debugnames_read.proofs.Counted.{few_names}
 use Rattle.debugnames_read.proofs.HitLaws.{all_hits, found, has_text, list_of, no_hits, one_hit, same_name}
-use Rattle.debugnames_read.proofs.SeenLaws.{left_in, IsHashBy}
 use Rattle.debugnames_read.proofs.hits.NameHits.of.Goals as goal
 
 pub returns-in_default : goal.returns-in_default
@@ -47,19 +44,14 @@ invariant_of-result c =
     let asked = c.sought-asked.result.name.now in
     let hash = c.sought-asked.result.hash in
     let first = c.in-Some.first in
-    let to = c.span-span.result.to in
-    let f = found (is_named n asked) c.span-span.result.from to first (sym c.in-Some.ensures) in
+    let f = found (is_named n asked) c.span-span.result.from c.span-span.result.to first (sym c.in-Some.ensures) in
     let lt : first < n.tables.counts.names = omega (arith, f.to, c.span-span.ensures.within.1) in
     let kept = same_name n c.requires asked first c.in-Some-string.name.now (sym c.in-Some-string.ensures) f.passes in
     let list = list_of n c.requires first lt c.entries_of.result c.entries_of.ensures in
-    let tables : tables_of n ≡ tables_of c.again.result = ap (λ (s : Seen). s.tables) (sym c.again.ensures) in
     record {
-      opened = subst (λ (s : Seen). IsOk (index_of s.tables s.strings s.base)) (sym c.again.ensures) c.requires;
-      hash = subst (λ (t : Tables). IsHashBy t c.in-Some-string.name.now hash) tables (subst (λ (x : List ℕ). IsHashBy (tables_of n) x hash) (sym kept) c.sought-asked.ensures.hash);
-      left = record {
-        list = subst (λ (t : Tables). IsList t c.entries_of.result) tables list.ok;
-        names = subst (λ (t : Tables). to ≤ t.counts.names) tables c.span-span.ensures.within.1;
-      };
+      opened = c.requires;
+      hash = subst (λ (x : List ℕ). IsHashBy (tables_of n) x hash) (sym kept) c.sought-asked.ensures.hash;
+      left = record { list = list.ok; names = c.span-span.ensures.within.1 };
     }
 
 pub returns : goal.returns
@@ -75,7 +67,6 @@ returns c =
     let list = list_of n c.requires first lt c.entries_of.result c.entries_of.ensures in
     let left : Left = record { entries = c.entries_of.result; names = record { from = first + 1; to = to } } in
     let all : name_index_hits (index_seen n) c.args.name.now ≡ hits_between n asked from to = ap (name_index_hits (index_seen n)) (sym c.sought-asked.ensures.name) ∙ all_hits n c.requires asked c.span-span.result c.span-span.ensures.within.0 c.span-span.ensures.within.1 c.span-span.ensures.covers in
-    ap (λ (s : Seen). left_in s c.in-Some-string.name.now left) c.again.ensures
-    ∙ ap (λ (x : List ℕ). hits_left n x left) kept
+    ap (λ (x : List ℕ). hits_left n x left) kept
     ∙ ap (λ (hs : List NameHit). hs ++ hits_between n asked (first + 1) to) list.hits
     ∙ sym (all ∙ one_hit n c.requires asked from to first (sym c.in-Some.ensures))

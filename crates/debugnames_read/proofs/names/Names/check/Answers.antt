@@ -10,7 +10,7 @@ use Rattle.debugnames_read.proofs.Readings.{ok_by_none}
 use Rattle.debugnames_read.proofs.names.Names.check.Goals as goal
 
 pub loop-number-init : goal.loop-number-init
-loop-number-init c = record { left = refl; before = λ lt. absurd (omega (arith, lt)) }
+loop-number-init c = record { left = refl; before = λ lt. absurd (omega (arith, lt)); checked = λ k e. absurd (c.none-checked.ensures k e) }
 
 pub returns-in_err-check_name : goal.returns-in_err-check_name
 returns-in_err-check_name c =
@@ -20,7 +20,7 @@ returns-in_err-check_name c =
     let count : ℕ = c.len-count.result in
     let d = c.in_err-check_name.field-0.0 in
     let p = err_from_is_err_and c.from_residual.result c.from_residual.ensures.1 in
-    let here = fault_from_here name c.loop-number.number count d c.loop-number-test.true (sym c.in_err-check_name.ensures) in
+    let here = fault_from_here name c.loop-number.number count d c.loop-number-test.true (sym c.in_err-check_name.ensures.value) in
     rw (p.1, p.2) (sym (ap (λ (m : ℕ). wrong_in (each name (below m))) (sym c.len-count.ensures) ∙ sym (fault_from_all name count) ∙ sym c.loop-number.invariant.left ∙ here))
 
 pub loop-number-preserved : goal.loop-number-preserved
@@ -32,8 +32,9 @@ loop-number-preserved c =
     let k = c.loop-number.number in
     let same : k ≡ k + 1 - 1 = omega arith in
     record {
-      left = sym (fault_from_more name k count c.loop-number-test.true (sym c.in_ok-check_name.ensures)) ∙ c.loop-number.invariant.left;
-      before = λ lt. subst (λ (m : ℕ). IsRight n m) same (ok_by_none (name k) (sym c.in_ok-check_name.ensures));
+      left = sym (fault_from_more name k count c.loop-number-test.true (sym c.in_ok-check_name.ensures.value)) ∙ c.loop-number.invariant.left;
+      checked = c.in_ok-check_name.ensures.checked;
+      before = λ lt. subst (λ (m : ℕ). IsRight n m) same (ok_by_none (name k) (sym c.in_ok-check_name.ensures.value));
     }
 
 pub returns : goal.returns

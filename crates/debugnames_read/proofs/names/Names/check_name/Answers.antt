@@ -12,16 +12,16 @@ use Rattle.debugnames_read.proofs.names.Names.check_name.Goals as goal
 pub place-requires : goal.place-requires
 place-requires c = omega (arith, string_total c.args.self.now.tables, c.requires.within)
 
-pub returns-in_default : goal.returns-in_default
-returns-in_default c =
+pub returns-in_default-clause-value : goal.returns-in_default-clause-value
+returns-in_default-clause-value c =
     let n = c.args.self.now in
     let t = tables_of n in
     let k = c.args.number in
     let is : c.fault.result ≡ string_wrong t n.strings.now n.base k = c.fault.ensures ∙ ap (fault NAMES_STRING_OFFSET) (c.place.ensures ∙ string_place n.tables k) in
     rw is (sym (ap wrong_in (no_text t (abbreviations_in t.abbreviations) n.strings.now n.base k (string_wrong t n.strings.now n.base k) (string_fault t n.strings.now n.base k (sym c.in_default.ensures)))))
 
-pub returns-in_err-check_hash : goal.returns-in_err-check_hash
-returns-in_err-check_hash c =
+pub returns-in_err-check_hash-clause-value : goal.returns-in_err-check_hash-clause-value
+returns-in_err-check_hash-clause-value c =
     let n = c.args.self.now in
     let t = tables_of n in
     let k = c.args.number in
@@ -29,10 +29,10 @@ returns-in_err-check_hash c =
     let text = string_found t n.strings.now n.base k c.in-Some.name.now (sym c.in-Some.ensures) in
     rw (p.1, p.2) (sym (ap wrong_in (no_hash t (abbreviations_in t.abbreviations) n.strings.now n.base k c.in-Some.name.now text c.in_err-check_hash.field-0.0 c.in_err-check_hash.ensures)))
 
-pub returns : goal.returns
-returns c =
+pub returns-clause-value : goal.returns-clause-value
+returns-clause-value c =
     let n = c.args.self.now in
     let t = tables_of n in
     let k = c.args.number in
     let text = string_found t n.strings.now n.base k c.in-Some.name.now (sym c.in-Some.ensures) in
-    c.check_entries.ensures ∙ sym (as_entries t (abbreviations_in t.abbreviations) n.strings.now n.base k c.in-Some.name.now text c.in_ok-check_hash.ensures)
+    c.check_entries.ensures.value ∙ sym (as_entries t (abbreviations_in t.abbreviations) n.strings.now n.base k c.in-Some.name.now text c.in_ok-check_hash.ensures)

@@ -1,18 +1,12 @@
 use Rattle.std.proofs.Common.{◌≡◌, ◌<◌, ◌+◌, List, [], ◌++◌, refl, ap, sym, ◌∙◌, arith}
 use Rattle.index_model.specs.NameIndexRead.{NameHit}
-use Rattle.debugnames_read.specs.Names.{hits_between, is_named, tables_of}
+use Rattle.debugnames_read.specs.Names.{hits_between, is_named}
 use Rattle.debugnames_read.proofs.Counted.{few_names}
 use Rattle.debugnames_read.proofs.HitLaws.{found, list_of, no_hits, one_hit}
-use Rattle.debugnames_read.proofs.Opened.{all_right}
 use Rattle.debugnames_read.proofs.names.Names.next_hit.Goals as goal
 
 both_empty : (xs ys : List NameHit) → xs ≡ [] → ys ≡ [] → xs ++ ys ≡ []
 both_empty xs ys e f = rw (e, f) refl
-
-pub next_entry-requires-clause-known : goal.next_entry-requires-clause-known
-next_entry-requires-clause-known c =
-    let n = c.args.self.now in
-    (all_right (tables_of n) n.strings.now n.base c.requires.opened).abbreviations_ok
 
 pub returns-in_err-first-clause-value : goal.returns-in_err-first-clause-value
 returns-in_err-first-clause-value c =

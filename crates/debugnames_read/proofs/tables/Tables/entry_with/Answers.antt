@@ -1,8 +1,0 @@
-use Rattle.debugnames_read.specs.Abbreviations.{abbreviation_seen, abbreviations_in}
-use Rattle.debugnames_read.specs.Tables.{tables_seen}
-use Rattle.debugnames_read.specs.Values.{kept_seen}
-use Rattle.debugnames_read.proofs.EntryLaws.{reads_hit}
-use Rattle.debugnames_read.proofs.tables.Tables.entry_with.Goals as goal
-
-pub returns-clause-value : goal.returns-clause-value
-returns-clause-value c = reads_hit (tables_seen c.args.self.now) (abbreviations_in (tables_seen c.args.self.now).abbreviations) c.args.code c.args.cursor.now c.read.new.cursor (abbreviation_seen c.in_ok-abbreviation.abbreviation) (kept_seen c.in_ok-attributes.attributes) c.in_ok-abbreviation.ensures c.in_ok-attributes.ensures.value c.hit.result c.hit.ensures
