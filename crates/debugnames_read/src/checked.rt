@@ -5,8 +5,8 @@ ghost use Rattle.debugnames_read.specs.Checked.{is_checked};
 
 use std::alloc::Global;
 
-/// For each byte of the pool whether the entries from there on were read to their end. Where no memory was left nothing is
-/// kept.
+/// For each byte of the pool whether a reading of the entries from there on has begun; the first fault that any meets ends
+/// all reading. Where no memory was left nothing is kept.
 #[derive(Drop)]
 pub(crate) struct Checked {
     places: Vec<bool>,

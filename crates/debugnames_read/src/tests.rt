@@ -123,8 +123,8 @@ fn changes_of_one_byte(rt: HostRuntime) -> Result<(), Fail> {
     Ok(())
 }
 
-// An index without buckets: its front, and abbreviation 1 with the offset in a byte; between them stand where the strings and the
-// entries of the names a, b and c begin. The pool follows.
+// An index without buckets, after its length: the header, its one unit and where the strings of the names a, b and c begin; where
+// their entries begin; abbreviation 1 with the offset in a byte. The pool follows.
 const FRONT: &[u8] = b"\x05\0\0\0\x01\0\0\0\0\0\0\0\0\0\0\0\0\0\0\0\x03\0\0\0\x07\0\0\0\0\0\0\0\
     \0\0\0\0\0\0\0\0\x02\0\0\0\x04\0\0\0";
 

@@ -1,5 +1,5 @@
 -- What a look-up writes, and the mark that it makes.
-use Rattle.std.proofs.Common.{◌≡◌, ℕ, ◌++◌, List, [], ◌∷◌, Option, Result, Ok, true, subst, sym, ap, ◌∙◌}
+use Rattle.std.proofs.Common.{◌≡◌, ℕ, ◌++◌, List, [], ◌∷◌, Option, Result, Ok, subst, sym, ap, ◌∙◌}
 use Rattle.ix_base.specs.declared.fault.NoMemory.{NoMemory}
 use Rattle.outside.specs.Written.{AppendsPrefix}
 use Rattle.outside.proofs.WrittenLaws.{appends_more_prefix}
