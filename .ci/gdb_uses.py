@@ -1,10 +1,10 @@
 #!/usr/bin/env python3
 """python3 gdb_uses.py PROGRAM
 
-Adds the `.gdb_index` that PROGRAM makes to compiled programs in C and C++ (DWARF 4 and 5, type units, -O2) with objcopy. gdb has
-to say that it uses the index, and to answer a breakpoint at main, a line, a type and a symbol as it does without it; readelf has
-to print the index without a complaint. Version 9 is asked of gdb and readelf only where they know it. llvm-dwarfdump, where it is
-there, has to read the `.debug_names`. A tool that is missing is said and passed over.
+Adds the `.gdb_index` that PROGRAM makes to compiled programs in C, C++, Ada and Rust (DWARF 4 and 5, type units, -O2) with objcopy.
+gdb has to say that it uses the index, and to answer a breakpoint, a line, a type or a symbol as it does without it; readelf has to
+print the index without a complaint. Version 9 is asked of gdb and readelf only where they know it. llvm-dwarfdump, where it is there,
+has to read the `.debug_names`. A tool that is missing is said and passed over.
 The last line is 'gdb: N passed, M failed'."""
 import os
 import shutil
@@ -12,27 +12,21 @@ import subprocess
 import sys
 import tempfile
 
-HERE = os.path.dirname(os.path.abspath(__file__))
-FLAGS = [("-gdwarf-4", "-O0"), ("-gdwarf-4", "-O2"), ("-gdwarf-5", "-O0"), ("-gdwarf-5", "-O2"),
-         ("-gdwarf-4", "-fdebug-types-section", "-O2"), ("-gdwarf-5", "-fdebug-types-section", "-O0")]
-# The compiler, its sources, and what is asked of a line, a type and a symbol.
+from real_program import DWARF, compiled
+
+C = [*DWARF, ("-gdwarf-4", "-fdebug-types-section", "-O2"), ("-gdwarf-5", "-fdebug-types-section", "-O0")]
+# The compiler, its sources, the flags of its programs, a function, and what is asked of it and of more.
 PROGRAMS = [
-    ("gcc", ("demo.c", "shapes.c"), ("info line main", "ptype struct point", "info symbol main")),
-    ("g++", ("demo.cc", "shapes.cc"), ("info line main", "ptype shapes::Square", "info symbol main")),
+    ("gcc", ("demo.c", "shapes.c"), C, "main", ("info symbol main", "ptype struct point")),
+    ("g++", ("demo.cc", "shapes.cc"), C, "main", ("info symbol main", "ptype shapes::Square")),
+    ("gnatmake", ("demo.adb",), DWARF, "main", ("break demo", "info line demo")),
+    ("rustc", ("demo.rs",), [("-O",), ("-C", "opt-level=0")], "total", ("info symbol total",)),
 ]
 
 
 def run(*words, folder=None):
     done = subprocess.run(words, cwd=folder, capture_output=True, text=True, errors="surrogateescape", stdin=subprocess.DEVNULL)
     return done.returncode, done.stdout, done.stderr
-
-
-def compiled(compiler, sources, flags, folder):
-    file = os.path.join(folder, "demo")
-    status, _, said = run(compiler, "-g", *flags, "-o", file, *[os.path.join(HERE, "programs", name) for name in sources])
-    if status:
-        sys.exit("gdb_uses: %s: %s" % (compiler, said))
-    return file
 
 
 def with_section(file, name, section, flags="readonly"):
@@ -49,7 +43,7 @@ def gdb(file, *commands):
     return (out + err).replace(file, "FILE")
 
 
-def wrong_index(program, file, version, questions, folder):
+def wrong_index(program, file, version, function, questions, folder):
     """What is wrong with the index of the file: a text, or None for each check that passes. What doesn't know version 9 isn't asked."""
     section = os.path.join(folder, "index%d" % version)
     status, said, _ = run(program, "index", "--as", "gdb%d" % version, file, section)
@@ -64,18 +58,18 @@ def wrong_index(program, file, version, questions, folder):
     uses = ".gdb_index: version %d" % version in objects
     if version == 8 or uses:
         yield None if uses else "gdb doesn't say that it uses the index: %s" % objects[:300]
-        yield from wrong_answers(file, indexed, questions)
+        yield from wrong_answers(file, indexed, ("break " + function, "info line " + function, *questions))
 
 
 def wrong_answers(file, indexed, questions):
     """What gdb answers otherwise with the index. Of a type in a type unit gdb may find nothing by itself."""
-    for question in ("break main", *questions):
+    for question in questions:
         plain, ours = gdb(file, question), gdb(indexed, question)
         same = plain == ours or plain.startswith("No symbol")
         yield None if same else "%s: %r, not %r" % (question, ours[:200], plain[:200])
 
 
-def wrong_names(program, file, folder):
+def wrong_names(program, file, function, folder):
     """What llvm-dwarfdump says of the `.debug_names` of the file."""
     section = os.path.join(folder, "names")
     status, said, _ = run(program, "index", "--as", "names", file, section)
@@ -93,7 +87,7 @@ def wrong_names(program, file, folder):
         yield "objcopy: " + said
         return
     status, out, err = run("llvm-dwarfdump", "--debug-names", done)
-    good = status == 0 and not err and "error" not in out.lower() and '"main"' in out
+    good = status == 0 and not err and "error:" not in out and '"%s"' % function in out
     yield None if good else "llvm-dwarfdump: %s" % (err or out)[:300]
 
 
@@ -104,16 +98,16 @@ def main():
         print("gdb: not asked, since %s is missing" % ", ".join(missing))
         return 0
     passed, failed = 0, 0
-    for compiler, sources, questions in PROGRAMS:
+    for compiler, sources, all_flags, function, questions in PROGRAMS:
         if not shutil.which(compiler):
             print("gdb: no program of %s, which is missing" % compiler)
             continue
-        for flags in FLAGS:
+        for flags in all_flags:
             with tempfile.TemporaryDirectory() as folder:
                 file = compiled(compiler, sources, flags, folder)
-                checks = [*wrong_index(program, file, 8, questions, folder), *wrong_index(program, file, 9, questions, folder)]
+                checks = [wrong for version in (8, 9) for wrong in wrong_index(program, file, version, function, questions, folder)]
                 if shutil.which("llvm-dwarfdump"):
-                    checks += wrong_names(program, file, folder)
+                    checks += wrong_names(program, file, function, folder)
             for wrong in checks:
                 passed, failed = passed + (wrong is None), failed + (wrong is not None)
                 if wrong:
