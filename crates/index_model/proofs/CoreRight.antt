@@ -1,7 +1,7 @@
 -- The core is right over every cut and every list of events.
-use Rattle.std.proofs.Common.{◌≡◌, ℕ, ◌≤◌, true, false, ltb, leb, List, [], ◌∷◌, ◌++◌, length, Option, Some, None, Result, Ok, Err, IsSome, refl, ap, sym, subst, ◌∙◌, arith}
+use Rattle.std.proofs.Common.{◌≡◌, ℕ, ◌≤◌, true, false, ltb, List, [], ◌∷◌, ◌++◌, length, Option, Some, None, Result, Ok, Err, IsSome, refl, ap, sym, subst, ◌∙◌, arith}
 use Rattle.std.specs.Prelude.{option_map, IsSomeAnd, IsOkAnd}
-use Rattle.std.proofs.lemmas.Bool.{ltb-false}
+use Rattle.std.proofs.lemmas.Bool.{ltb-false, le-ltb, le-leb}
 use Rattle.std.proofs.lemmas.Bool.Decides.{nat_tests}
 use Rattle.ix_base.specs.declared.fault.Fault.{Fault}
 use Rattle.index_model.specs.declared.answer.Main.{Main as MainOf}
@@ -32,11 +32,11 @@ use Rattle.index_model.proofs.LevelLaws.{closed_at_1, closed_at_2, closed_at_3, 
 -- ---- a file with or without a fault
 
 module _ {A : Type 0} where
-  no_fault : (r : Result A Fault) → wrong_in r ≡ None → (x : A) × (r ≡ Ok x)
+  pub no_fault : (r : Result A Fault) → wrong_in r ≡ None → (x : A) × (r ≡ Ok x)
   no_fault (Ok x) e = (x, refl)
   no_fault (Err f) e = absurd cc
 
-  fault_is : (r : Result A Fault) (f : Fault) → wrong_in r ≡ Some f → r ≡ Err f
+  pub fault_is : (r : Result A Fault) (f : Fault) → wrong_in r ≡ Some f → r ≡ Err f
   fault_is (Ok x) f e = absurd cc
   fault_is (Err g) f e = let same : g ≡ f = cc in ap (λ (f : Fault). Err f) same
 
@@ -90,7 +90,7 @@ module _ (s : Subject) where
 -- ---- answers
 
 module _ (s : Subject) (b : Built) (is : built_of s.file ≡ Ok b) where
-  at_built : (P : Built → Type 0) → IsOkAnd (built_of s.file) P → P b
+  pub at_built : (P : Built → Type 0) → IsOkAnd (built_of s.file) P → P b
   at_built P h = subst (λ (r : Result Built Fault). IsOkAnd r P) is h
 
   by_summary : (o : Option Summary) (f : Summary → Answer) (a : Answer) → IsSomeAnd o (λ m. IsSummary s m) → ((m : Summary) → m.main ≡ main_of b.program b.links → IsPieces b.ranges m.map → f m ≡ a) → option_map f o ≡ Some a
@@ -118,14 +118,14 @@ module _ (s : Subject) (b : Built) (is : built_of s.file ≡ Ok b) where
 
 -- ---- replies
 
-need_low : (q : Query) → 1 ≤ need_of q
+pub need_low : (q : Query) → 1 ≤ need_of q
 need_low (AskName name) = omega arith
 need_low (AskSimple name) = omega arith
 need_low (AskAddress a) = omega arith
 need_low AskMain = omega arith
 need_low AskCache = omega arith
 
-need_high : (q : Query) → need_of q ≤ 3
+pub need_high : (q : Query) → need_of q ≤ 3
 need_high (AskName name) = omega arith
 need_high (AskSimple name) = omega arith
 need_high (AskAddress a) = omega arith
@@ -136,17 +136,11 @@ need_high AskCache = omega arith
 abbrev Replies : Subject → Query → ℕ → Reply
 Replies s q n = reply_at (built_of s.file) (size_in s.cache (built_of s.file)) q n
 
-not_below : (n need : ℕ) → need ≤ n → ltb n need ≡ false
-not_below n need le = grind (arith, nat_tests)
-
-at_most : (n m : ℕ) → n ≤ m → leb n m ≡ true
-at_most n m le = grind (arith, nat_tests)
-
 module _ (s : Subject) (p : Parts) (q : Query) where
   answered : (b : Built) → built_of s.file ≡ Ok b → (n : ℕ) → n ≤ 3 → PartsAreRight s n p → need_of q ≤ n → reply_by p q n ≡ Some (Replies s q n)
   unfolding reply_by reply_at size_in
   answered b is n high h need =
-      rw (not_below n (need_of q) need, at_most n 3 high, at_most n 4 (omega (arith, high)))
+      rw (le-ltb n (need_of q) need, le-leb n 3 high, le-leb n 4 (omega (arith, high)))
       (ap (option_map Answered) (answers s b is n p q h need) ∙ ap (λ (r : Result Built Fault). Some (reply_of r (size_in s.cache r) q)) (sym is))
 
   pending : (n : ℕ) → ltb n (need_of q) ≡ true → reply_by p q n ≡ Some (Replies s q n)
@@ -166,12 +160,12 @@ module _ (s : Subject) (p : Parts) (q : Query) where
   replies_refused : (f : Fault) → p.fault ≡ Some f → first_fault s.file ≡ Some f → reply_by p q 4 ≡ Some (Replies s q 4)
   unfolding reply_by reply_at
   replies_refused f at first =
-      rw (not_below 4 (need_of q) (omega (arith, need_high q)))
+      rw (le-ltb 4 (need_of q) (omega (arith, need_high q)))
       (ap (option_map Refused) at ∙ ap (λ (r : Result Built Fault). Some (reply_of r (size_in s.cache r) q)) (sym (fault_is (built_of s.file) f first)))
 
   replies_stopped : reply_by p q 5 ≡ Some (Replies s q 5)
   unfolding reply_by reply_at
-  replies_stopped = rw (not_below 5 (need_of q) (omega (arith, need_high q))) refl
+  replies_stopped = rw (le-ltb 5 (need_of q) (omega (arith, need_high q))) refl
 
 -- ---- states
 
@@ -211,10 +205,10 @@ module _ (s : Subject) (closed : List (List Made)) (drawn : ℕ) (brought : List
 
 -- ---- a machine that begins refused
 
-idle : (f : Fault) (place : JobPlace) → is_running {Made = Made} (refused_start f) place ≡ false
+pub idle : (f : Fault) (place : JobPlace) → is_running {Made = Made} (refused_start f) place ≡ false
 idle f place = grind (arith, nat_tests)
 
-refused_stays : (s : Subject) (f : Fault) (es : List (Event Made Query)) → after_events (plan_of s) (refused_start f) es ≡ refused_start f
+pub refused_stays : (s : Subject) (f : Fault) (es : List (Event Made Query)) → after_events (plan_of s) (refused_start f) es ≡ refused_start f
 unfolding after_events
 refused_stays s f [] = refl
 refused_stays s f (Draw actor ∷ es) = refused_stays s f es

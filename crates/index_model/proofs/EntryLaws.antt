@@ -2,7 +2,9 @@
 use Rattle.std.proofs.Common.{◌≡◌, ℕ, zero, suc, ◌-◌, ◌<◌, true, false, not, ◌&&◌, List, [], ◌∷◌, ◌++◌, length, get_or, Option, Some, None, refl, sym, ap, subst, ◌∙◌, arith, inl, inr, ⊎_elim}
 use Rattle.std.specs.Prelude.{Contains, flat_map, option_to_list, bytes_eq}
 use Rattle.std.proofs.lemmas.Bool.{true≢false, false≢true}
+use Rattle.std.proofs.lemmas.Option.{cond_some}
 use mathlib.Core.Logic.{◌⊎◌}
+use Rattle.common_laws.proofs.Members.{contains_cases, of_flat_map}
 use Rattle.index_model.specs.declared.entry.Entry.{Entry}
 use Rattle.index_model.specs.Program.{Program}
 use Rattle.index_model.specs.Chains.{linkage_name_of}
@@ -11,10 +13,9 @@ use Rattle.index_model.specs.Entries.{entry_of, may_have_linkage, linkage_entry_
 use Rattle.index_model.specs.Faults.{Built, program_of, links_of, all_ranges, built_of}
 use Rattle.index_model.specs.Answers.{entries_in}
 use Rattle.index_model.specs.LawsEntries.{ComesBefore, IsLinkageEntryOf, AreApart, AreInOrder, EntriesAreInOrder}
-use Rattle.index_model.proofs.Meanings.{bind_ok, same_ok, contains_cases}
-use Rattle.index_model.proofs.UnitReads.{if_some}
+use Rattle.index_model.proofs.Meanings.{bind_ok, same_ok}
 use Rattle.index_model.proofs.Scans.{program_parts}
-use Rattle.index_model.proofs.Pairs.{Pairs, On, all_pairs, pairs_append, pairs_filter, pairs_weaker, of_flat_map}
+use Rattle.index_model.proofs.Pairs.{Pairs, On, all_pairs, pairs_append, pairs_filter, pairs_weaker}
 use Rattle.index_model.proofs.LinkLaws.{Earlier, links_rise}
 
 abbrev Rises : Entry → Entry → Type 0
@@ -29,7 +30,7 @@ linkage_is : (e : Entry) (name : Option (List ℕ)) (n : Entry) → e.linkage �
 unfolding linkage_entry_of
 linkage_is e None n own is = absurd cc
 linkage_is e (Some name) n own is =
-    let p = if_some (may_have_linkage e.tag && not (bytes_eq name e.name)) (with_name e name) n is in
+    let p = cond_some (may_have_linkage e.tag && not (bytes_eq name e.name)) (with_name e name) n is in
     subst (IsLinkageEntryOf e) p.1 (record { own = own; same = refl })
 
 -- an entry, or the linkage entry behind it

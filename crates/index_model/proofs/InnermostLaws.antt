@@ -2,8 +2,9 @@
 use Rattle.std.proofs.Common.{◌≡◌, ℕ, suc, ◌+◌, ◌<◌, ◌≤◌, Bool, true, false, cond, ltb, eqb, ◌&&◌, List, [], ◌∷◌, Some, None, refl, sym, ap, subst, ◌∙◌, arith, inl, inr, ⊎_elim}
 use Rattle.std.specs.Prelude.{Contains, filter_map, filter}
 use Rattle.std.specs.List.{cons_option}
-use Rattle.std.proofs.lemmas.Bool.{lt-ltb, eq-eqb, cases_order, cases_eq, cases_Bool, ne_eqb}
+use Rattle.std.proofs.lemmas.Bool.{lt-ltb, eq-eqb, cases_order, cases_eq, cases_Bool, ne_eqb, and_right, and_from}
 use mathlib.Core.Logic.{◌⊎◌}
+use Rattle.common_laws.proofs.Members.{contains_later, contains_cases, of_map, to_map, of_filter, to_filter}
 use Rattle.ix_base.specs.Reading.{Input}
 use Rattle.index_model.specs.declared.shard.Span.{Span}
 use Rattle.index_model.specs.Walk.{Item, Token, Null, Entry, Levels}
@@ -12,11 +13,9 @@ use Rattle.index_model.specs.Program.{Walked, items_of}
 use Rattle.index_model.specs.ShardParts.{ends_children, first_place, span_of, spans_of}
 use Rattle.index_model.specs.LawsOrder.{HasParent}
 use Rattle.index_model.specs.LawsSpans.{Holds, IsInnermost, ParentHasTheInnermostSpan, NoSpanHoldsARoot}
-use Rattle.index_model.proofs.Meanings.{contains_later, contains_cases}
 use Rattle.index_model.proofs.TokenReads.{Follow, start}
 use Rattle.index_model.proofs.ParentLaws.{Rise, rise_below}
 use Rattle.index_model.proofs.OrderLaws.{entries, goes, bounded, rises, deep, opened_before, walk_tokens, walks_in_order}
-use Rattle.index_model.proofs.Pairs.{of_map, to_map, of_filter, to_filter}
 use Rattle.index_model.proofs.SpanLaws.{Split, split, behind, of_rest, ends_in_rest, next_is}
 
 -- where the children of an entry end among these tokens, or at this place
@@ -61,13 +60,9 @@ module _ (e : Item) (end : ℕ) where
         let x = opened_before e.depth [] l f.1 ts f.3 (λ j lj jd. absurd (omega (arith, f.2.says.1, same))) (λ y yc. absurd (omega (arith, yc.1))) d c e.depth (omega arith) (omega (arith, one)) in
         absurd (none x.0 x.1 x.2 x.3))
         (λ (other : depth ≡ e.depth + 1 → ⊥).
-        let off : ends_here e depth after ≡ false = and_off (ltb e.at after) (eqb depth (e.depth + 1)) (ne_eqb depth (e.depth + 1) other) in
+        let off : ends_here e depth after ≡ false = and_right (ltb e.at after) (eqb depth (e.depth + 1)) (ne_eqb depth (e.depth + 1) other) in
         rw off (held l f.1 ts f.3 c one none (omega (arith, g.0, lt)) in_end))
         (cases_eq depth (e.depth + 1))
-      where
-        and_off : (a b : Bool) → b ≡ false → (a && b) ≡ false
-        and_off true b is = is
-        and_off false b is = refl
 
     -- what stands before the end of e's children is deeper than e
     deeper : (open_ : Levels) (i : Input) (ts : List Token) → Follow open_ i ts → Contains (entries ts) d → e.depth + 1 ≤ open_.depth → e.at < i.at → d.at < ends_at e ts end → e.depth + 1 ≤ d.depth
@@ -88,25 +83,17 @@ module _ (e : Item) (end : ℕ) where
         let later = bounded l f.1 ts f.3 d c in
         ⊎_elim
         (λ (same : depth ≡ e.depth + 1).
-        let on : ends_here e depth after ≡ true = and_on (ltb e.at after) (eqb depth (e.depth + 1)) (lt-ltb e.at after (omega (arith, f.2.says.2, g.0, lt))) (eq-eqb depth (e.depth + 1) same) in
+        let on : ends_here e depth after ≡ true = and_from (ltb e.at after) (eqb depth (e.depth + 1)) (lt-ltb e.at after (omega (arith, f.2.says.2, g.0, lt))) (eq-eqb depth (e.depth + 1) same) in
         let stop : d.at < after = rw on at inside in
         absurd (omega (arith, stop, f.2.says.2, later.0)))
         (λ (other : depth ≡ e.depth + 1 → ⊥).
-        let off : ends_here e depth after ≡ false = and_off (ltb e.at after) (eqb depth (e.depth + 1)) (ne_eqb depth (e.depth + 1) other) in
+        let off : ends_here e depth after ≡ false = and_right (ltb e.at after) (eqb depth (e.depth + 1)) (ne_eqb depth (e.depth + 1) other) in
         let on : d.at < ends_at e ts end = rw off at inside in
         deeper l f.1 ts f.3 c (omega (arith, f.2.says.1, low, other)) (omega (arith, g.0, lt)) on)
         (cases_eq depth (e.depth + 1))
-      where
-        and_off : (a b : Bool) → b ≡ false → (a && b) ≡ false
-        and_off true b is = is
-        and_off false b is = refl
-
-        and_on : (a b : Bool) → a ≡ true → b ≡ true → (a && b) ≡ true
-        and_on true b x y = y
-        and_on false b x y = absurd cc
 
 -- two entries at one place are one
-same_item : (n : ℕ) (ds : List Item) (x y : Item) → Rise n ds → Contains ds x → Contains ds y → x.at ≡ y.at → x ≡ y
+pub same_item : (n : ℕ) (ds : List Item) (x y : Item) → Rise n ds → Contains ds x → Contains ds y → x.at ≡ y.at → x ≡ y
 same_item n [] x y r xc yc same = absurd (omega (arith, xc.1))
 same_item n (d ∷ ds) x y r xc yc same = ⊎_elim
     (λ (dx : d ≡ x). ⊎_elim

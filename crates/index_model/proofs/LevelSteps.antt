@@ -1,12 +1,13 @@
 -- After each event the level is that which a step into the new stage gives.
 use Rattle.std.proofs.Common.{◌≡◌, ℕ, suc, ◌<◌, Bool, true, false, ◌&&◌, ◌||◌, cond, eqb, ltb, leb, List, [], ◌∷◌, ◌++◌, length, filter_map, Option, Some, None, refl, arith, ap}
+use Rattle.std.proofs.lemmas.Bool.{and_parts}
 use Rattle.std.specs.Prelude.{slice_get, slice_set, is_none}
 use Rattle.std.specs.List.{list_any}
 use Rattle.ix_base.specs.declared.fault.Fault.{Fault}
 use Rattle.index_model.specs.Stages.{level as level_behind}
 use Rattle.index_model.specs.Machine.{JobPlace, place_of_job, State, Output, End, Going, Refused, Stopped, jobs_at, plan_for, level, stage}
 use Rattle.index_model.specs.MachineEvents.{Event, Draw, Finish, Look, after_event, has_next, is_running, is_open, is_memory, settled, closing, least_fault, with_output, made_in}
-use Rattle.index_model.proofs.MachineOnce.{both, open_not_done}
+use Rattle.index_model.proofs.MachineOnce.{open_not_done}
 use Rattle.index_model.proofs.MachineHolds.{Kept, KeptAt, jobs_there}
 
 either : (b : Bool) (n : ℕ) → n ≡ cond b n n
@@ -71,7 +72,7 @@ module _ {Made : Type 0} (fault_at : JobPlace → Option Fault) (Makes : JobPlac
       let place = place_of_job job in
       elim (is_running t place) as (λ b. is_running t place ≡ b → Follows runs (level (plan_for runs) t) (cond b (settled (plan_for runs) (with_output t place.number output) (is_memory output || refused)) t)) [
         | true ↦ λ running.
-            let parts = both (eqb place.kind (length t.closed) && ltb place.number t.drawn) (is_open (slice_get t.brought place.number)) running in
+            let parts = and_parts (eqb place.kind (length t.closed) && ltb place.number t.drawn) (is_open (slice_get t.brought place.number)) running in
             let at = open_not_done (slice_get t.brought place.number) parts.1 in
             output_levels t.closed t.drawn t.brought (slice_set t.brought place.number (Some output)) t.end place.number (is_memory output || refused) k.open_ at.1
         | false ↦ λ _. still runs t.closed t.drawn t.brought t.end

@@ -12,6 +12,13 @@ pub mod OrderLaws
 pub mod TextLaws
 pub mod FirstSome
 pub mod Pairs
+pub mod Orders
+pub mod IndexOrders
+pub mod FirstFaults
+pub mod IndexSizes
+pub mod PassedOver
+pub mod Located
+pub mod Followed
 pub mod LinkLaws
 pub mod EntryLaws
 pub mod SpanLaws

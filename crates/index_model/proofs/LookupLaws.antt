@@ -3,7 +3,7 @@ use Rattle.std.proofs.Common.{◌≡◌, ℕ, zero, suc, ◌+◌, ◌*◌, ◌/�
 use Rattle.std.specs.Prelude.{slice_get, flat_map}
 use Rattle.std.specs.List.{list_any, list_all, enumerate_from}
 use Rattle.std.specs.Str.{bytes_eq}
-use Rattle.std.proofs.lemmas.Bool.{eqb-true}
+use Rattle.std.proofs.lemmas.Bool.{eqb-true, and_parts}
 use Rattle.std.proofs.lemmas.Bool.Decides.{nat_tests}
 use Rattle.std.proofs.lemmas.Option.{slice_get_within}
 use Rattle.std.proofs.lemmas.List.{append-nil}
@@ -22,10 +22,6 @@ use Rattle.index_model.specs.GdbIndexRead.{Slot, GdbIndex, gdb_index_hits, slot_
 use Rattle.index_model.specs.GdbPath.{path_end, hits_by_path, elements_at}
 use Rattle.index_model.proofs.PathLaws.{path_has_each_slot}
 
-both : (a b : Bool) → (a && b) ≡ true → (a ≡ true) × (b ≡ true)
-both true b e = (refl, e)
-both false b e = absurd cc
-
 flip : (b : Bool) → b ≡ true → not b ≡ false
 flip true e = refl
 flip false e = absurd cc
@@ -34,14 +30,14 @@ eqb_self : (n : ℕ) → eqb n n ≡ true
 eqb_self n = grind (arith, nat_tests)
 
 -- what stands on a list, behind nothing but what doesn't pass, is found
-found_at : (other : ℕ → Bool) (k : ℕ) (xs : List ℕ) → list_any (λ o. eqb o k) xs ≡ true → list_all other (places_before k xs) ≡ true → other k ≡ false → find (λ o. not (other o)) xs ≡ Some k
+pub found_at : (other : ℕ → Bool) (k : ℕ) (xs : List ℕ) → list_any (λ o. eqb o k) xs ≡ true → list_all other (places_before k xs) ≡ true → other k ≡ false → find (λ o. not (other o)) xs ≡ Some k
 unfolding places_before
 found_at other k [] there before is = absurd cc
 found_at other k (x ∷ xs) there before is =
     elim (eqb x k) as (λ b. eqb x k ≡ b → (b || list_any (λ o. eqb o k) xs) ≡ true → list_all other (cond b [] (x ∷ places_before k xs)) ≡ true → cond (not (other x)) (Some x) (find (λ o. not (other o)) xs) ≡ Some k) [
       | true ↦ λ same _ _. let e : x ≡ k = eqb-true _ _ same in let o : other x ≡ false = ap other e ∙ is in rw o (ap (λ (x : ℕ). Some x) e)
       | false ↦ λ _ more before.
-          let parts = both (other x) (list_all other (places_before k xs)) before in
+          let parts = and_parts (other x) (list_all other (places_before k xs)) before in
           rw parts.0 (found_at other k xs more parts.1 is)
     ] refl there before
 
@@ -170,7 +166,7 @@ is_read bytes index e =
     let c = bind_ok (whole_items a) (λ addresses. holds_or (is_whole_table a addresses) (fault GDB_TABLE_SIZE a.table.at) >> with_table a addresses) index b.2 in
     let addresses = c.0 in
     let d = then_ok (holds_or (is_whole_table a addresses) (fault GDB_TABLE_SIZE a.table.at)) (with_table a addresses) index c.2 in
-    let table = both (eqb (length a.table.rest % 8) 0) (is_table_size (length a.table.rest / 8)) (held (is_whole_table a addresses) (fault GDB_TABLE_SIZE a.table.at) d.0 d.1) in
+    let table = and_parts (eqb (length a.table.rest % 8) 0) (is_table_size (length a.table.rest / 8)) (held (is_whole_table a addresses) (fault GDB_TABLE_SIZE a.table.at) d.0 d.1) in
     let f = bind_ok (each (slot_at a) (items 8 a.table)) (λ slots. with_slots a addresses slots) index d.2 in
     let slots = f.0 in
     let g = bind_ok (shortcut_at a) (λ main. with_main a addresses slots main) index f.2 in

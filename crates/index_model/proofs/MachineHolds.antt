@@ -2,13 +2,13 @@
 use Rattle.std.proofs.Common.{◌≡◌, ℕ, zero, suc, ◌+◌, ◌<◌, ◌≤◌, Bool, true, false, ◌&&◌, ◌||◌, cond, eqb, ltb, List, [], ◌∷◌, ◌++◌, length, filter_map, replicate, Option, Some, None, IsSome, refl, ap, sym, subst, ◌∙◌, arith}
 use Rattle.std.specs.Prelude.{slice_get, slice_set, is_none}
 use Rattle.std.specs.List.{list_any}
-use Rattle.std.proofs.lemmas.Bool.{eqb-true}
+use Rattle.std.proofs.lemmas.Bool.{eqb-true, and_parts}
 use Rattle.ix_base.specs.declared.fault.Fault.{Fault}
 use Rattle.ix_base.specs.Reading.{◌>>=◌ as ◌>>=?◌}
 use Rattle.index_model.specs.Machine.{JobPlace, place_of_job, Row, State, Output, Memory, Faulty, Gave, End, Going, Refused, Stopped, jobs_at, plan_for, stage, machine_start}
 use Rattle.index_model.specs.MachineEvents.{Event, Draw, Finish, Look, after_events, after_draw, after_finish, has_next, is_running, is_open, is_memory, settled, closing, least_fault, with_output, made_in}
 use Rattle.index_model.proofs.MachineParts.{IsOutputAt, fault_of_kind, fault_from, AllMeetAt, Holds}
-use Rattle.index_model.proofs.MachineOnce.{both, open_not_done}
+use Rattle.index_model.proofs.MachineOnce.{open_not_done}
 
 abbrev pub job_at : ℕ → ℕ → JobPlace
 job_at place number = record { kind = place; number = number }
@@ -153,8 +153,8 @@ module _ {Made : Type 0} (fault_at : JobPlace → Option Fault) (Makes : JobPlac
     kept_finish : (s : State Made) (job : JobPlace) (output : Output Made) (refused : Bool) → Kept plan s → IsOutputAt fault_at Makes job output → Kept plan (after_finish plan s job output refused)
     kept_finish s job output refused k is = elim (is_running s job) as (λ t. is_running s job ≡ t → Kept plan (cond t (settled plan (with_output s job.number output) (is_memory output || refused)) s)) [
       | true ↦ λ running.
-          let parts = both (eqb job.kind (length s.closed) && ltb job.number s.drawn) (is_open (slice_get s.brought job.number)) running in
-          let kind = both (eqb job.kind (length s.closed)) (ltb job.number s.drawn) parts.0 in
+          let parts = and_parts (eqb job.kind (length s.closed) && ltb job.number s.drawn) (is_open (slice_get s.brought job.number)) running in
+          let kind = and_parts (eqb job.kind (length s.closed)) (ltb job.number s.drawn) parts.0 in
           let at = open_not_done (slice_get s.brought job.number) parts.1 in
           kept_output s.closed s.drawn s.brought s.end job output refused k.closed k.open_ (eqb-true _ _ kind.0) at.1 is
       | false ↦ λ _. k

@@ -1,7 +1,7 @@
 -- Each job is drawn once at most, and one output at most is taken of it.
 use Rattle.std.proofs.Common.{◌≡◌, ℕ, zero, suc, ◌+◌, ◌≤◌, Bool, true, false, ◌&&◌, ◌||◌, cond, eqb, ltb, List, [], ◌∷◌, ◌++◌, length, count_by, filter_map, replicate, Option, Some, None, refl, ap, sym, ◌∙◌, arith, length-append, add-one}
 use Rattle.std.proofs.lemmas.Bool.Decides.{nat_tests}
-use Rattle.std.proofs.lemmas.Bool.{eqb-true, eqb-false}
+use Rattle.std.proofs.lemmas.Bool.{eqb-true, eqb-false, and_parts}
 use Rattle.std.proofs.lemmas.List.Sums.{sum_by-append}
 use Rattle.std.specs.Prelude.{slice_get, slice_set, is_none, option_to_list}
 use Rattle.std.specs.List.{list_any}
@@ -82,10 +82,6 @@ open_not_done None e = absurd cc
 open_not_done (Some None) e = (refl, refl)
 open_not_done (Some (Some o)) e = absurd cc
 
-pub both : (a b : Bool) → (a && b) ≡ true → (a ≡ true) × (b ≡ true)
-both true b e = (refl, e)
-both false b e = absurd cc
-
 abbrev left_if : ℕ → ℕ → Bool → ℕ
 left_if kind closed done = cond (ltb kind closed) 0 (cond (eqb kind closed && done) 0 1)
 
@@ -129,8 +125,8 @@ module _ {Made : Type 0} (plan : List Row) (j : JobPlace) where
 
   output_finishes : (s : State Made) (job : JobPlace) (o : Output Made) → is_running s job ≡ true → cond (same_job j job) 1 0 + finishes_left (with_output s job.number o) ≤ finishes_left s
   output_finishes s job o running =
-      let parts = both (eqb job.kind (length s.closed) && ltb job.number s.drawn) (is_open (slice_get s.brought job.number)) running in
-      let kind = both (eqb job.kind (length s.closed)) (ltb job.number s.drawn) parts.0 in
+      let parts = and_parts (eqb job.kind (length s.closed) && ltb job.number s.drawn) (is_open (slice_get s.brought job.number)) running in
+      let kind = and_parts (eqb job.kind (length s.closed)) (ltb job.number s.drawn) parts.0 in
       let at = open_not_done (slice_get s.brought job.number) parts.1 in
       elim (eqb j.number job.number) as (λ b. eqb j.number job.number ≡ b → cond (eqb j.kind job.kind && b) 1 0 + finishes_left (with_output s job.number o) ≤ finishes_left s) [
         | true ↦ λ same.

@@ -2,13 +2,13 @@
 use Rattle.std.proofs.Common.{◌≡◌, ℕ, suc, ◌<◌, ◌≤◌, Bool, true, false, ◌&&◌, ◌||◌, cond, eqb, ltb, List, [], ◌∷◌, ◌++◌, length, filter_map, Option, Some, None, refl, ap, subst, arith}
 use Rattle.std.specs.Prelude.{slice_get, slice_set, is_none}
 use Rattle.std.specs.List.{list_any}
-use Rattle.std.proofs.lemmas.Bool.{eqb-true}
+use Rattle.std.proofs.lemmas.Bool.{eqb-true, and_parts}
 use Rattle.ix_base.specs.declared.fault.Fault.{Fault}
 use Rattle.index_model.specs.LawsStages.{Leads}
 use Rattle.index_model.specs.Machine.{JobPlace, place_of_job, Row, State, Output, Memory, Faulty, Gave, End, Going, Refused, Stopped, jobs_at, plan_for, level, stage}
 use Rattle.index_model.specs.MachineEvents.{Event, Draw, Finish, Look, after_event, has_next, is_running, is_open, is_memory, settled, closing, least_fault, with_output, made_in}
 use Rattle.index_model.proofs.MachineParts.{IsOutputAt, fault_of_kind, AllMeetAt}
-use Rattle.index_model.proofs.MachineOnce.{both, open_not_done}
+use Rattle.index_model.proofs.MachineOnce.{open_not_done}
 use Rattle.index_model.proofs.MachineHolds.{job_at, Kept, KeptAt, Brought, late, least_is_first, one_more, jobs_there}
 
 stays : (n : ℕ) → Leads n n
@@ -88,8 +88,8 @@ module _ {Made : Type 0} (fault_at : JobPlace → Option Fault) (Makes : JobPlac
     event_leads s (Finish actor job output refused) k meet = elim (is_running s (place_of_job job)) as (λ t. is_running s (place_of_job job) ≡ t → Leads (stage plan s) (stage plan (cond t (settled plan (with_output s (place_of_job job).number output) (is_memory output || refused)) s))) [
       | true ↦ λ running.
           let place = place_of_job job in
-          let parts = both (eqb place.kind (length s.closed) && ltb place.number s.drawn) (is_open (slice_get s.brought place.number)) running in
-          let kind = both (eqb place.kind (length s.closed)) (ltb place.number s.drawn) parts.0 in
+          let parts = and_parts (eqb place.kind (length s.closed) && ltb place.number s.drawn) (is_open (slice_get s.brought place.number)) running in
+          let kind = and_parts (eqb place.kind (length s.closed)) (ltb place.number s.drawn) parts.0 in
           let at = open_not_done (slice_get s.brought place.number) parts.1 in
           output_leads s.closed s.drawn s.brought s.end place output refused k.open_ (eqb-true _ _ kind.0) at.1 meet.0
       | false ↦ λ _. stays (stage plan s)

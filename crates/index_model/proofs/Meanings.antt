@@ -1,9 +1,7 @@
 -- What a meaning without a fault was made of.
-use Rattle.std.proofs.Common.{◌≡◌, zero, suc, Bool, true, false, List, ◌∷◌, Option, Some, None, Result, Ok, Err, refl, arith, inl, inr}
-use Rattle.std.specs.Prelude.{Contains}
-use mathlib.Core.Logic.{◌⊎◌}
+use Rattle.std.proofs.Common.{◌≡◌, ℕ, Bool, true, false, Option, Some, None, Result, Ok, Err, refl, ap}
 use Rattle.ix_base.specs.Reading.{◌>>=◌ as ◌>>=?◌}
-use Rattle.index_model.specs.Meaning.{◌>>=◌, ◌>>◌, holds_or, some_or}
+use Rattle.index_model.specs.Meaning.{◌>>=◌, ◌>>◌, holds_or, some_or, at_place}
 
 pub bind_ok : {A B E : Type 0} (r : Result A E) (f : A → Result B E) (y : B) → (r >>= f) ≡ Ok y → (x : A) × (r ≡ Ok x) × (f x ≡ Ok y)
 bind_ok (Ok x) f y is = (x, refl, is)
@@ -31,20 +29,7 @@ given x = Ok x
 pub same_ok : {A E : Type 0} (x y : A) → given {E = E} x ≡ given y → x ≡ y
 same_ok x y e = cc
 
-abbrev found : {A : Type 0} → A → Option A
-found x = Some x
-
-pub same_some : {A : Type 0} (x y : A) → found x ≡ found y → x ≡ y
-same_some x y e = cc
-
--- ---- members of a list
-
-pub contains_here : {A : Type 0} (x : A) (xs : List A) → Contains (x ∷ xs) x
-contains_here x xs = (0, omega arith, refl)
-
-pub contains_later : {A : Type 0} (x : A) (xs : List A) (y : A) → Contains xs y → Contains (x ∷ xs) y
-contains_later x xs y h = (suc h.0, omega (arith, h.1), h.2)
-
-pub contains_cases : {A : Type 0} (x : A) (xs : List A) (y : A) → Contains (x ∷ xs) y → (x ≡ y) ⊎ Contains xs y
-contains_cases x xs y (zero, l, e) = inl e
-contains_cases x xs y (suc k, l, e) = inr (k, omega (arith, l), e)
+-- a value has no place of what is wrong
+pub at_place_ok : {A : Type 0} (at : ℕ) (r : Result A ℕ) (x : A) → at_place at r ≡ Ok x → r ≡ Ok x
+at_place_ok {A = A} at (Ok y) x is = ap {B = Result A ℕ} (λ (z : A). Ok z) (same_ok y x is)
+at_place_ok at (Err code) x is = absurd cc

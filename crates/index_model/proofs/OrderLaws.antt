@@ -3,6 +3,7 @@ use Rattle.std.proofs.Common.{◌≡◌, ℕ, suc, ◌+◌, ◌-◌, ◌<◌, �
 use Rattle.std.specs.Prelude.{Contains, filter_map, find}
 use Rattle.std.proofs.lemmas.Bool.{false≢true, or_parts, eqb-false, eq-eqb, cases_lt}
 use Rattle.std.proofs.lemmas.List.Elements.{Contains-append_left, Contains-push, Contains-push_cases}
+use Rattle.common_laws.proofs.Members.{contains_cases}
 use Rattle.ix_base.specs.Reading.{Input}
 use Rattle.index_model.specs.declared.unit.Unit.{Unit as UnitHeader}
 use Rattle.index_model.specs.Sections.{Section}
@@ -11,7 +12,6 @@ use Rattle.index_model.specs.WalkLeft.{levels_after}
 use Rattle.index_model.specs.Program.{Walked, walked, items_of, joint, body}
 use Rattle.index_model.specs.Abbreviations.{Abbrev}
 use Rattle.index_model.specs.LawsOrder.{IsInside, HasParent, IsInOrder, WalksAreInOrder}
-use Rattle.index_model.proofs.Meanings.{contains_cases}
 use Rattle.index_model.proofs.TokenReads.{IsToken, Follow, start, walk_follows}
 use Rattle.index_model.proofs.ParentLaws.{Rise, increasing, has_parent, no_parent}
 use Rattle.index_model.proofs.Scans.{read, walked_read}

@@ -1,40 +1,8 @@
 -- What holds of each two members of a list, the earlier first.
-use Rattle.std.proofs.Common.{◌≡◌, zero, suc, Bool, true, false, cond, List, [], ◌∷◌, ◌++◌, get_or, refl, sym, ap, subst, ◌∙◌, arith, ⊎_elim}
-use Rattle.std.specs.Prelude.{Contains, AllPairs, map, filter, flat_map}
+use Rattle.std.proofs.Common.{zero, suc, Bool, true, false, cond, List, [], ◌∷◌, ◌++◌, get_or, subst, arith, ⊎_elim}
+use Rattle.std.specs.Prelude.{Contains, AllPairs, map, filter}
 use Rattle.std.proofs.lemmas.List.Elements.{Contains-get_or, Contains-append_cases}
-use Rattle.std.proofs.lemmas.Bool.{true≢false}
-use Rattle.index_model.proofs.Meanings.{contains_here, contains_later, contains_cases}
-
--- a member of a map is that of a member
-pub of_map : {A B : Type 0} (f : A → B) (xs : List A) (y : B) → Contains (map f xs) y → (x : A) × Contains xs x × (f x ≡ y)
-of_map f [] y c = absurd (omega (arith, c.1))
-of_map f (x ∷ xs) y c = ⊎_elim (λ (e : f x ≡ y). (x, contains_here x xs, e)) (λ (l : Contains (map f xs) y). let r = of_map f xs y l in (r.0, contains_later x xs r.0 r.1, r.2)) (contains_cases (f x) (map f xs) y c)
-
-pub to_map : {A B : Type 0} (f : A → B) (xs : List A) (x : A) → Contains xs x → Contains (map f xs) (f x)
-to_map f [] x c = absurd (omega (arith, c.1))
-to_map f (y ∷ xs) x c = ⊎_elim (λ (e : y ≡ x). subst (λ z. Contains (f y ∷ map f xs) (f z)) e (contains_here (f y) (map f xs))) (λ (l : Contains xs x). contains_later (f y) (map f xs) (f x) (to_map f xs x l)) (contains_cases y xs x c)
-
--- a member of a filter is a member that passes
-pub of_filter : {A : Type 0} (p : A → Bool) (xs : List A) (y : A) → Contains (filter p xs) y → Contains xs y × (p y ≡ true)
-of_filter p [] y c = absurd (omega (arith, c.1))
-of_filter {A = A} p (x ∷ xs) y c =
-    elim (p x) as (λ b. p x ≡ b → Contains (cond b (x ∷ filter p xs) (filter p xs)) y → Contains (x ∷ xs) y × (p y ≡ true)) [
-      | true ↦ λ is d. ⊎_elim (λ (e : x ≡ y). (subst (Contains (x ∷ xs)) e (contains_here x xs), subst (λ (z : A). p z ≡ true) e is)) (λ (l : Contains (filter p xs) y). let r = of_filter p xs y l in (contains_later x xs y r.0, r.1)) (contains_cases x (filter p xs) y d)
-      | false ↦ λ is d. let r = of_filter p xs y d in (contains_later x xs y r.0, r.1)
-    ] refl c
-
--- and a member that passes is one of the filter
-pub to_filter : {A : Type 0} (p : A → Bool) (xs : List A) (y : A) → Contains xs y → p y ≡ true → Contains (filter p xs) y
-to_filter p [] y c t = absurd (omega (arith, c.1))
-to_filter {A = A} p (x ∷ xs) y c t =
-    elim (p x) as (λ b. p x ≡ b → Contains (cond b (x ∷ filter p xs) (filter p xs)) y) [
-      | true ↦ λ is. ⊎_elim (λ (e : x ≡ y). subst (Contains (x ∷ filter p xs)) e (contains_here x (filter p xs))) (λ (l : Contains xs y). contains_later x (filter p xs) y (to_filter p xs y l t)) (contains_cases x xs y c)
-      | false ↦ λ is. ⊎_elim (λ (e : x ≡ y). absurd (true≢false (sym t ∙ ap p (sym e) ∙ is))) (λ (l : Contains xs y). to_filter p xs y l t) (contains_cases x xs y c)
-    ] refl
-
-pub of_flat_map : {A B : Type 0} (f : A → List B) (xs : List A) (y : B) → Contains (flat_map f xs) y → (x : A) × Contains xs x × Contains (f x) y
-of_flat_map f [] y c = absurd (omega (arith, c.1))
-of_flat_map f (x ∷ xs) y c = ⊎_elim (λ (l : Contains (f x) y). (x, contains_here x xs, l)) (λ (l : Contains (flat_map f xs) y). let r = of_flat_map f xs y l in (r.0, contains_later x xs r.0 r.1, r.2)) (Contains-append_cases (f x) (flat_map f xs) y c)
+use Rattle.common_laws.proofs.Members.{contains_here, contains_later, of_map, to_map, of_filter}
 
 module _ {A : Type 0} (R : A → A → Type 0) where
   abbrev pub Pairs : List A → Type 0

@@ -5,9 +5,9 @@ use Rattle.std.specs.List.{last_or}
 use Rattle.std.specs.List.Sorted.{IsStrictlyIncreasing}
 use Rattle.std.proofs.lemmas.Bool.{true≢false, and_parts, and_from, ltb-true, lt-ltb, eqb-true, eq-eqb}
 use mathlib.Core.Logic.{◌⊎◌}
+use Rattle.common_laws.proofs.Members.{contains_here, contains_later, contains_cases}
 use Rattle.index_model.specs.Walk.{Item, parent_of}
 use Rattle.index_model.specs.LawsOrder.{HasParent}
-use Rattle.index_model.proofs.Meanings.{contains_here, contains_later, contains_cases}
 
 -- the offsets rise, from n on
 abbrev pub Rise : ℕ → List Item → Type 0

@@ -16,7 +16,7 @@ abbrev pub First : ℕ → List UnitRange → Type 0
 First from [] = Unit {0}
 First from (p ∷ ps) = from ≤ p.range.low
 
-not_here : (low end a : ℕ) → a < low → (leb low a && ltb a end) ≡ false
+pub not_here : (low end a : ℕ) → a < low → (leb low a && ltb a end) ≡ false
 not_here low end a lt = grind (arith, nat_tests)
 
 pub behind_first : (p : UnitRange) (ps : List UnitRange) → AreApart (p ∷ ps) → (p.range.low < p.range.end) × First p.range.end ps × AreApart ps

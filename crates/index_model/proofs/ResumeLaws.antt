@@ -3,6 +3,7 @@ use Rattle.std.proofs.Common.{◌≡◌, ℕ, zero, suc, ◌+◌, ◌-◌, ◌<�
 use Rattle.std.specs.Prelude.{Contains, filter}
 use Rattle.std.proofs.lemmas.Bool.{eq-eqb, le-leb, lt-leb, cond-true}
 use Rattle.std.proofs.lemmas.List.Elements.{filter_map-append, filter-append}
+use Rattle.common_laws.proofs.Members.{contains_here, contains_later, contains_cases, of_map, of_filter}
 use Rattle.ix_base.specs.declared.fault.Fault.{Fault}
 use Rattle.ix_base.specs.Reading.{Input}
 use Rattle.index_model.specs.declared.unit.Unit.{Unit as UnitHeader}
@@ -13,11 +14,9 @@ use Rattle.index_model.specs.WalkLeft.{levels_after, left_from, left}
 use Rattle.index_model.specs.Program.{Walked, items_of, body}
 use Rattle.index_model.specs.ShardParts.{span_of}
 use Rattle.index_model.specs.LawsSpans.{ResumedGivesTheSame}
-use Rattle.index_model.proofs.Meanings.{contains_here, contains_later, contains_cases}
 use Rattle.index_model.proofs.UnitReads.{Passes, passes_on}
 use Rattle.index_model.proofs.TokenReads.{IsToken, start, read_is, left_follow, walk_left}
 use Rattle.index_model.proofs.OrderLaws.{entries, goes, bounded}
-use Rattle.index_model.proofs.Pairs.{of_map, of_filter}
 use Rattle.index_model.proofs.Scans.{read, walked_by}
 
 -- the levels behind an entry

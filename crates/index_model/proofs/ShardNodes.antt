@@ -7,6 +7,7 @@ use Rattle.std.proofs.lemmas.Bool.{le-leb, lt-leb, eq-eqb, cases_lt}
 use Rattle.std.proofs.lemmas.List.Concat.{flat_map-append}
 use Rattle.std.proofs.lemmas.List.Elements.{filter-append}
 use Rattle.std.proofs.lemmas.List.Folds.{find-append}
+use Rattle.common_laws.proofs.Members.{contains_here, contains_later, contains_cases, of_map, of_filter, of_flat_map}
 use Rattle.index_model.specs.declared.shard.Node.{Node}
 use Rattle.index_model.specs.declared.shard.Shard.{Shard}
 use Rattle.index_model.specs.Sections.{Section}
@@ -16,8 +17,7 @@ use Rattle.index_model.specs.Program.{Walked, Located, items_of, located}
 use Rattle.index_model.specs.ShardParts.{IsNodeOf, node_facts, is_kept, kept_in, may_be_ada}
 use Rattle.index_model.specs.Shards.{StandsFor}
 use Rattle.index_model.specs.ShardLanguages.{first_some, first_node, node_in, NodesRise}
-use Rattle.index_model.proofs.Meanings.{contains_here, contains_later, contains_cases}
-use Rattle.index_model.proofs.Pairs.{Pairs, all_pairs, pairs_append, pairs_filter, of_map, of_filter, of_flat_map}
+use Rattle.index_model.proofs.Pairs.{Pairs, all_pairs, pairs_append, pairs_filter}
 use Rattle.index_model.proofs.ShardRoots.{Numbered, numbered_front, numbered_back, numbered_low, joined, map_or}
 
 node_parts : (d : Located) (n : Node) → n ≡ node_facts d n → (n.unit ≡ d.home.number) × (n.offset ≡ d.item.at)

@@ -6,6 +6,7 @@ use Rattle.std.specs.List.{AllZip, list_any}
 use Rattle.std.proofs.lemmas.Bool.{le-leb, lt-leb, eq-eqb, ne_eqb, cases_order}
 use Rattle.std.proofs.lemmas.List.Folds.{find-append}
 use mathlib.Core.Logic.{◌⊎◌}
+use Rattle.common_laws.proofs.Members.{contains_here, contains_later, contains_cases}
 use Rattle.index_model.specs.declared.unit.Unit.{Unit as UnitHeader}
 use Rattle.index_model.specs.declared.shard.Root.{Root}
 use Rattle.index_model.specs.declared.shard.Import.{Import}
@@ -17,7 +18,6 @@ use Rattle.index_model.specs.Languages.{own_language, imports_of}
 use Rattle.index_model.specs.ShardParts.{root_facts, imports_in}
 use Rattle.index_model.specs.Shards.{StandsFor}
 use Rattle.index_model.specs.ShardLanguages.{first_some, root_in, imported_from, importing_in}
-use Rattle.index_model.proofs.Meanings.{contains_here, contains_later, contains_cases}
 use Rattle.index_model.proofs.FirstSome.{first_map}
 use Rattle.index_model.proofs.Scans.{AreScans, scanned_walked, program_parts}
 use Rattle.index_model.proofs.UnitsApart.{walk_parts}

@@ -2,11 +2,11 @@
 use Rattle.std.proofs.Common.{◌≡◌, List, [], ◌∷◌, ◌++◌, refl, sym, ap, subst, ◌∙◌, arith, append_assoc, ⊎_elim}
 use Rattle.std.specs.Prelude.{Contains}
 use Rattle.std.specs.List.{AllZip}
+use Rattle.common_laws.proofs.Members.{contains_cases}
 use Rattle.index_model.specs.declared.shard.Shard.{Shard}
 use Rattle.index_model.specs.Sections.{Section}
 use Rattle.index_model.specs.Program.{Walked, Program}
 use Rattle.index_model.specs.Shards.{StandsFor, AreShardsOf, IsRunOf}
-use Rattle.index_model.proofs.Meanings.{contains_cases}
 use Rattle.index_model.proofs.ShardRoots.{joined}
 
 -- a run of these walks for which the shard stands

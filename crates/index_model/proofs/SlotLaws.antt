@@ -1,7 +1,7 @@
 -- Every name has a slot of its own.
 use Rattle.std.proofs.Common.{◌≡◌, ℕ, zero, suc, ◌+◌, ◌*◌, ◌^◌, ◌<◌, Bool, true, false, not, cond, eqb, leb, List, [], ◌∷◌, length, map, find, Some, unwrap_or, IsSome, refl, arith, ap, sym, subst, ◌∙◌}
 use Rattle.std.specs.List.{list_any, range_with_len}
-use Rattle.std.proofs.lemmas.Bool.{leb-true}
+use Rattle.std.proofs.lemmas.Bool.{leb-true, not-true}
 use Rattle.std.proofs.lemmas.Bool.Decides.{nat_tests}
 use Rattle.std.proofs.lemmas.List.Folds.{list_any_at}
 use Rattle.std.proofs.lemmas.List.FromFn.{length-map-range_with_len, get_or-map-range_with_len}
@@ -24,10 +24,6 @@ found_below p f a (suc n) m x low e = elim (p (f a)) as (λ b. cond b (Some (f a
   | false ↦ λ more. found_below p f (a + 1) n m x low more
 ] e
 
-flipped : (b : Bool) → not b ≡ true → b ≡ false
-flipped true e = absurd cc
-flipped false e = refl
-
 own_slots : (slots : ℕ) (taken : List ℕ) (names : List (List ℕ)) (ss : List ℕ) → 0 < slots → ArePlaced slots taken names ss → AreOwn slots taken ss
 unfolding path
 own_slots slots taken [] [] pos p = tt
@@ -35,7 +31,7 @@ own_slots slots taken [] (s ∷ ss) pos p = absurd p
 own_slots slots taken (n ∷ ns) [] pos p = absurd p
 own_slots slots taken (n ∷ ns) (s ∷ ss) pos p =
     let free : not (list_any (eqb s) taken) ≡ true = found_passes (λ s. not (list_any (eqb s) taken)) (path slots n) s p.0 in
-    (found_below (λ s. not (list_any (eqb s) taken)) (slot_on_path slots (gdb_hash n)) 0 slots slots s (λ k. mod_below _ slots pos) p.0, flipped _ free, own_slots slots (s ∷ taken) ns ss pos p.1)
+    (found_below (λ s. not (list_any (eqb s) taken)) (slot_on_path slots (gdb_hash n)) 0 slots slots s (λ k. mod_below _ slots pos) p.0, not-true _ free, own_slots slots (s ∷ taken) ns ss pos p.1)
 
 record Power (p : ℕ → Bool) (x : ℕ) : Type 0 where
   pub k : ℕ

@@ -3,11 +3,11 @@ use Rattle.std.proofs.Common.{◌≡◌, ℕ, ◌<◌, ◌≤◌, List, [], ◌�
 use Rattle.std.specs.Prelude.{Contains, filter_map}
 use Rattle.std.proofs.lemmas.Bool.{le-ltb}
 use Rattle.std.proofs.lemmas.List.Elements.{filter_map-append, Contains-append_cases, Contains-append_right}
+use Rattle.common_laws.proofs.Members.{contains_later, contains_cases}
 use Rattle.ix_base.specs.Reading.{Input}
 use Rattle.index_model.specs.Walk.{Item, Token, Null, Entry, Levels, item_in}
 use Rattle.index_model.specs.WalkLeft.{levels_after}
 use Rattle.index_model.specs.ShardParts.{ends_children}
-use Rattle.index_model.proofs.Meanings.{contains_later, contains_cases}
 use Rattle.index_model.proofs.TokenReads.{IsToken, Follow}
 use Rattle.index_model.proofs.OrderLaws.{entries, goes}
 

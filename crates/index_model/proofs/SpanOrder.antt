@@ -8,8 +8,8 @@ use Rattle.std.proofs.lemmas.List.Sorted.{IsPartitionedBy-leb}
 use Rattle.std.specs.List.Sorted.{IsPartitionedBy, IsPartitionPoint}
 use Rattle.std.proofs.Math.Seq.{take-suc}
 use Rattle.std.proofs.lemmas.List.{take-append-drop}
-use Rattle.std.proofs.lemmas.List.Elements.{Contains-append_left, Contains-append_right}
 use mathlib.Core.Logic.{◌⊎◌}
+use Rattle.common_laws.proofs.Members.{contains_here, contains_later, contains_cases, of_map, of_filter, of_flat_map, to_flat_map}
 use Rattle.ix_base.specs.Reading.{Input}
 use Rattle.index_model.specs.declared.shard.Shard.{Shard}
 use Rattle.index_model.specs.declared.shard.Span.{Span}
@@ -21,8 +21,7 @@ use Rattle.index_model.specs.Program.{Walked, Located, walked, items_of, located
 use Rattle.index_model.specs.ShardParts.{ends_children, first_place, span_of, spans_of}
 use Rattle.index_model.specs.Parents.{IsParentAt, parent_offset}
 use Rattle.index_model.specs.LawsSpans.{Holds, IsInnermost}
-use Rattle.index_model.proofs.Meanings.{contains_here, contains_later, contains_cases}
-use Rattle.index_model.proofs.Pairs.{Pairs, On, pairs_append, pairs_filter, pairs_map, pairs_weaker, all_pairs, of_map, of_filter, of_flat_map}
+use Rattle.index_model.proofs.Pairs.{Pairs, On, pairs_append, pairs_filter, pairs_map, pairs_weaker, all_pairs}
 use Rattle.index_model.proofs.TokenReads.{Follow, start, walk_follows}
 use Rattle.index_model.proofs.OrderLaws.{entries, bounded, goes, walk_tokens, walks_in_order}
 use Rattle.index_model.proofs.Scans.{walked_read}
@@ -143,13 +142,6 @@ run_rises ss (w ∷ ws) a =
     let z = a.apart.0 v.0 v.1 in
     omega (arith, x.from, y.begins, z.1))
 
-to_flat_map : {A B : Type 0} (f : A → List B) (xs : List A) (x : A) (y : B) → Contains xs x → Contains (f x) y → Contains (flat_map f xs) y
-to_flat_map f [] x y c l = absurd (omega (arith, c.1))
-to_flat_map f (z ∷ zs) x y c l = ⊎_elim
-    (λ (same : z ≡ x). Contains-append_left (f z) (flat_map f zs) y (subst (λ w. Contains (f w) y) (sym same) l))
-    (λ (later : Contains zs x). Contains-append_right (f z) (flat_map f zs) y (to_flat_map f zs x y later l))
-    (contains_cases z zs x c)
-
 module _ (ss : List Section) (run : List Walked) (a : AreApart ss run) (w : Walked) (wc : Contains run w) (d : Item) (dc : Contains (items_of w) d) where
   -- a span that holds an entry is one of its unit
   same_unit : (s : Span) → Contains (flat_map spans_of run) s → Holds s d.at → Contains (spans_of w) s
@@ -226,7 +218,7 @@ module _ (place : ℕ) (spans : List Span) (rise : Pairs Later spans) (n : ℕ) 
 abbrev pub entry : Span → ℕ
 entry s = s.entry
 
-entry_is : (w : Walked) (e : Item) → (span_of w e).entry ≡ e.at
+pub entry_is : (w : Walked) (e : Item) → (span_of w e).entry ≡ e.at
 unfolding span_of
 entry_is w e = refl
 

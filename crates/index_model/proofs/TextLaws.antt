@@ -1,8 +1,9 @@
 -- The texts of entries stand in the unit.
-use Rattle.std.proofs.Common.{◌≡◌, ℕ, ◌+◌, ◌-◌, ◌<◌, ◌≤◌, Bool, true, false, cond, eqb, List, [], ◌∷◌, length, take, drop, Option, Some, None, refl, sym, ap, subst, ◌∙◌, arith, length-take, length-drop, ⊎_elim}
+use Rattle.std.proofs.Common.{◌≡◌, ℕ, ◌+◌, ◌-◌, ◌<◌, ◌≤◌, eqb, List, [], ◌∷◌, length, take, drop, sym, ap, subst, ◌∙◌, arith, length-take, length-drop, ⊎_elim}
 use Rattle.std.specs.Prelude.{Contains, find}
-use Rattle.std.specs.Option.{option_map}
 use Rattle.std.proofs.lemmas.List.{drop-drop, drop-take, take-append-drop, take-append-le}
+use Rattle.common_laws.proofs.Members.{contains_cases, of_find}
+use Rattle.common_laws.proofs.Options.{of_option_map}
 use Rattle.ix_base.specs.Reading.{Input}
 use Rattle.index_model.specs.declared.unit.Unit.{Unit as UnitHeader}
 use Rattle.index_model.specs.Sections.{Section}
@@ -11,7 +12,6 @@ use Rattle.index_model.specs.Walk.{Item, Token, Null, Entry, Levels, walk_of}
 use Rattle.index_model.specs.WalkLeft.{levels_after}
 use Rattle.index_model.specs.Program.{Walked, items_of, joint, body}
 use Rattle.index_model.specs.LawsTexts.{StandsIn, StandsInEntry, InlineTextsStandInTheirEntries, AttributeTextsStandInTheirEntries}
-use Rattle.index_model.proofs.Meanings.{contains_here, contains_later, contains_cases, same_some}
 use Rattle.index_model.proofs.TokenReads.{Follow, start, walk_follows}
 use Rattle.index_model.proofs.OrderLaws.{entries, bounded}
 use Rattle.index_model.proofs.Scans.{walked_read}
@@ -82,23 +82,10 @@ texts_in ss u w is d c n text v =
     let b = bounded start (body ss u.1) tokens f d own in
     stands ss u.1 d text b.0 b.1 b.2 (within start (body ss u.1) tokens f d own n text v)
 
--- what is found is a member that passes
-found : {A : Type 0} (p : A → Bool) (xs : List A) (y : A) → find p xs ≡ Some y → Contains xs y × (p y ≡ true)
-found p [] y is = absurd cc
-found {A = A} p (x ∷ xs) y is =
-    elim (p x) as (λ b. p x ≡ b → cond b (Some x) (find p xs) ≡ Some y → Contains (x ∷ xs) y × (p y ≡ true)) [
-      | true ↦ λ on e. let s = same_some x y e in (subst (Contains (x ∷ xs)) s (contains_here x xs), ap p (sym s) ∙ on)
-      | false ↦ λ off e. let r = found p xs y e in (contains_later x xs y r.0, r.1)
-    ] refl is
-
-mapped : {A B : Type 0} (f : A → B) (o : Option A) (y : B) → option_map f o ≡ Some y → (x : A) × (o ≡ Some x) × (f x ≡ y)
-mapped f (Some x) y is = (x, refl, same_some (f x) y is)
-mapped f None y is = absurd cc
-
 pub attribute_texts_in : AttributeTextsStandInTheirEntries
 attribute_texts_in ss u w is d c n text v =
-    let f = mapped (λ (x : ℕ × Value). x.1) (find (λ x. eqb x.0 n) d.values) (Inline text) v in
-    let m = found (λ x. eqb x.0 n) d.values f.0 f.1 in
+    let f = of_option_map (λ (x : ℕ × Value). x.1) (find (λ x. eqb x.0 n) d.values) (Inline text) v in
+    let m = of_find (λ x. eqb x.0 n) d.values f.0 f.1 in
     let same : f.0 ≡ (f.0.0, Inline text) = ap (λ (y : Value). let x : ℕ × Value = (f.0.0, y) in x) f.2 in
     texts_in ss u w is d c f.0.0 text (subst (Contains d.values) same m.0)
 

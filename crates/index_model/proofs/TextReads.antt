@@ -4,6 +4,8 @@ use Rattle.std.specs.Prelude.{position, Contains}
 use Rattle.std.proofs.lemmas.Bool.{false≢true}
 use Rattle.std.proofs.lemmas.List.{drop-drop}
 use Rattle.std.proofs.lemmas.List.Quantifiers.{position-Some}
+use Rattle.std.proofs.lemmas.Option.{same_Some}
+use Rattle.common_laws.proofs.Members.{contains_cases}
 use Rattle.ix_base.specs.declared.code.TheConstants.{TRUNCATED, UNKNOWN_FORM, SUPPLEMENTARY}
 use Rattle.ix_base.specs.Reading.{Input, number, skip, offset, past, uleb, sleb, zstr, before_zero}
 use Rattle.index_model.specs.declared.unit.Unit.{Unit as UnitHeader}
@@ -11,7 +13,7 @@ use Rattle.index_model.specs.Meaning.{◌>>=◌}
 use Rattle.index_model.specs.Forms.{Value, Addr, Unsigned, Str, LineStr, StrIndex, AddrIndex, Near, Far, Signature, Offset, RangeIndex, ListIndex, Signed, Flag, Wide, Inline, Block, Reader, by, refused, plain_forms, reader_of, is_set, counted, section_reference, indirect, value_at}
 use Rattle.index_model.specs.Abbreviations.{Abbrev, Spec}
 use Rattle.index_model.specs.Walk.{Token, Null, Entry, values}
-use Rattle.index_model.proofs.Meanings.{bind_ok, some_ok, bind_some, same_some, same_ok, contains_cases}
+use Rattle.index_model.proofs.Meanings.{bind_ok, some_ok, bind_some, same_ok}
 use Rattle.index_model.proofs.ValueReads.{Goes, uleb_passes, value_moves, values_move}
 
 -- the text stands in what was passed
@@ -53,7 +55,7 @@ is_text other = false
 text_is : (v : Value) (text : List ℕ) → v ≡ Inline text → is_text v ≡ true
 text_is v text e = ap is_text e
 
-same_text : (s text : List ℕ) → Inline s ≡ Inline text → s ≡ text
+pub same_text : (s text : List ℕ) → Inline s ≡ Inline text → s ≡ text
 same_text s text e = cc
 
 -- a reader of other values
@@ -75,10 +77,10 @@ zstr_keeps i x is text e =
     let b = bind_some (before_zero i.rest) (λ s. Some (s, past (length s + 1) i)) v.0 v.1 in
     let k = bind_some (position (λ b. eqb b 0) i.rest) (λ k. Some (take k i.rest)) b.0 b.1 in
     let inside = position-Some (λ b. eqb b 0) i.rest k.0 0 k.1 in
-    let taken : take k.0 i.rest ≡ text = same_some (take k.0 i.rest) b.0 k.2 ∙ ap (λ (q : List ℕ × Input). q.0) (same_some (b.0, past (length b.0 + 1) i) v.0 b.2) ∙ t in
+    let taken : take k.0 i.rest ≡ text = same_Some (take k.0 i.rest) b.0 k.2 ∙ ap (λ (q : List ℕ × Input). q.0) (same_Some (b.0, past (length b.0 + 1) i) v.0 b.2) ∙ t in
     let n : length text ≡ k.0 = omega (arith, ap (λ (s : List ℕ). length s) taken, length-take k.0 i.rest, inside.0) in
-    let m : length b.0 ≡ length text = ap (λ (s : List ℕ). length s) (ap (λ (q : List ℕ × Input). q.0) (same_some (b.0, past (length b.0 + 1) i) v.0 b.2) ∙ t) in
-    let at : i.at + (length b.0 + 1) ≡ x.1.at = ap (λ (q : List ℕ × Input). q.1.at) (same_some (b.0, past (length b.0 + 1) i) v.0 b.2) ∙ ap (λ (q : Value × Input). q.1.at) pair in
+    let m : length b.0 ≡ length text = ap (λ (s : List ℕ). length s) (ap (λ (q : List ℕ × Input). q.0) (same_Some (b.0, past (length b.0 + 1) i) v.0 b.2) ∙ t) in
+    let at : i.at + (length b.0 + 1) ≡ x.1.at = ap (λ (q : List ℕ × Input). q.1.at) (same_Some (b.0, past (length b.0 + 1) i) v.0 b.2) ∙ ap (λ (q : Value × Input). q.1.at) pair in
     record { place = 0; ends = omega (arith, at, m); is = ap (λ (k : ℕ). take k i.rest) n ∙ taken }
 
 abbrev AllKeep : List (ℕ × Reader) → Type 0

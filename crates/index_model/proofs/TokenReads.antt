@@ -1,18 +1,18 @@
 -- What the tokens of a walk take of their unit.
-use Rattle.std.proofs.Common.{◌≡◌, ℕ, zero, suc, ◌+◌, ◌<◌, Bool, true, false, cond, leb, eqb, ◌&&◌, ◌||◌, List, [], ◌∷◌, length, Result, Ok, Err, refl, sym, ap, subst, arith}
+use Rattle.std.proofs.Common.{◌≡◌, ℕ, zero, suc, ◌+◌, ◌<◌, Bool, true, false, cond, leb, eqb, ◌&&◌, ◌||◌, List, [], ◌∷◌, length, Result, Ok, Err, refl, sym, subst, arith}
 use Rattle.std.proofs.lemmas.Bool.{and_parts}
 use Rattle.ix_base.specs.declared.fault.Fault.{Fault}
 use Rattle.ix_base.specs.declared.code.TheConstants.{TRUNCATED, BAD_CODE, BAD_ROOT, DEPTH}
 use Rattle.ix_base.specs.declared.limits.TheConstants.{MAX_DEPTH}
 use Rattle.ix_base.specs.Reading.{Input, uleb}
 use Rattle.index_model.specs.declared.unit.Unit.{Unit as UnitHeader}
-use Rattle.index_model.specs.Meaning.{◌>>=◌, ◌>>◌, holds_or, some_or, at_place}
+use Rattle.index_model.specs.Meaning.{◌>>=◌, ◌>>◌, holds_or, some_or}
 use Rattle.index_model.specs.Tags.{is_root_tag}
 use Rattle.index_model.specs.Forms.{Value}
 use Rattle.index_model.specs.Abbreviations.{Abbrev, abbrev_of}
 use Rattle.index_model.specs.Walk.{Token, Null, Entry, Levels, Walk, is_null, is_over, values, entry_at, token_at, token_or_fault, behind, tail_of, walk_of}
 use Rattle.index_model.specs.WalkLeft.{levels_after, left_from, left}
-use Rattle.index_model.proofs.Meanings.{bind_ok, holds_ok, some_ok, same_ok}
+use Rattle.index_model.proofs.Meanings.{bind_ok, holds_ok, some_ok, same_ok, at_place_ok}
 use Rattle.index_model.proofs.UnitReads.{Passes, passes_on}
 use Rattle.index_model.proofs.ValueReads.{uleb_passes, values_move}
 use Rattle.index_model.proofs.TextReads.{KeepsTexts, values_keep, passed_later}
@@ -62,12 +62,8 @@ module _ (u : UnitHeader) (table : List Abbrev) (open_ : Levels) (i : Input) whe
       let p = uleb_passes i c.0 c.1 in
       null_or_entry (eqb c.0.0 0 && open_.root) c.0 p.0 x (λ null. (and_parts (eqb c.0.0 0) open_.root null).1) p.1 p.2 c.2
 
-  placed_ok : (r : Result (Token × Input) ℕ) (x : Token × Input) → at_place i.at r ≡ Ok x → r ≡ Ok x
-  placed_ok (Ok y) x is = ap {B = Result (Token × Input) ℕ} (λ (z : Token × Input). Ok z) (same_ok y x is)
-  placed_ok (Err code) x is = absurd cc
-
   pub read_is : (x : Token × Input) → token_or_fault u table open_ i ≡ Ok x → IsToken open_ i x.1 x.0
-  read_is x is = token_is x (placed_ok (token_at u table open_ i) x is)
+  read_is x is = token_is x (at_place_ok i.at (token_at u table open_ i) x is)
 
 -- ---- the tokens of a walk, one after the other
 

@@ -2,6 +2,7 @@
 use Rattle.std.proofs.Common.{◌≡◌, ℕ, ◌+◌, ◌≤◌, true, false, cond, List, [], ◌∷◌, ◌++◌, Option, Some, None, Ok, refl, sym, ap, subst, arith, ⊎_elim, ◌∙◌}
 use Rattle.std.specs.Prelude.{Contains, map, flat_map, find, option_map}
 use Rattle.std.proofs.lemmas.Bool.{false≢true}
+use Rattle.common_laws.proofs.Members.{contains_here, contains_later, contains_cases}
 use Rattle.index_model.specs.declared.range.Range.{Range}
 use Rattle.index_model.specs.declared.range.UnitRange.{UnitRange}
 use Rattle.index_model.specs.declared.unit.Unit.{Unit as UnitHeader}
@@ -13,7 +14,7 @@ use Rattle.index_model.specs.Ranges.{contains, unit_at, ranges_of, unit_ranges, 
 use Rattle.index_model.specs.Faults.{Built, scanned, program_of, links_of, all_ranges, built_of}
 use Rattle.index_model.specs.LawsRanges.{IsLeastUnit, UnitAtIsLeast}
 use Rattle.index_model.proofs.Scans.{AreScans, scanned_walked, walked_read, program_parts}
-use Rattle.index_model.proofs.Meanings.{bind_ok, same_ok, contains_here, contains_later, contains_cases}
+use Rattle.index_model.proofs.Meanings.{bind_ok, same_ok}
 
 -- the units rise, from n on
 abbrev Rises : ℕ → List UnitRange → Type 0

@@ -3,6 +3,7 @@ use Rattle.std.proofs.Common.{◌≡◌, ℕ, Bool, true, cond, eqb, List, [], �
 use Rattle.std.specs.Prelude.{All, Contains, find, option_and_then}
 use Rattle.std.specs.Option.{option_map, option_or}
 use Rattle.std.proofs.lemmas.Bool.{false≢true, eq-eqb}
+use Rattle.std.proofs.lemmas.Option.{same_Some}
 use Rattle.ix_base.specs.Reading.{Input}
 use Rattle.index_model.specs.declared.shard.Root.{Root}
 use Rattle.index_model.specs.declared.shard.Shard.{Shard}
@@ -14,7 +15,6 @@ use Rattle.index_model.specs.Languages.{own_language, importing_language, langua
 use Rattle.index_model.specs.ShardParts.{is_partial, root_facts}
 use Rattle.index_model.specs.Shards.{AreShardsOf}
 use Rattle.index_model.specs.ShardLanguages.{first_some, root_in, node_in, importing_in, language_by_root, IsLanguageAt, NodesRise}
-use Rattle.index_model.proofs.Meanings.{same_some}
 use Rattle.index_model.proofs.TokenReads.{Follow, start}
 use Rattle.index_model.proofs.OrderLaws.{entries, walk_tokens}
 use Rattle.index_model.proofs.UnitsApart.{program_apart}
@@ -35,7 +35,7 @@ leads i (Null depth after ∷ ts) f r is = absurd (false≢true f.2.says.0)
 leads i (Entry e ∷ ts) f r is =
     let top : e.depth ≡ 0 = f.2.says.1 in
     let hit : cond true (Some e) (find (λ d. eqb d.depth 0) (entries ts)) ≡ Some r = subst (λ (b : Bool). cond b (Some e) (find (λ d. eqb d.depth 0) (entries ts)) ≡ Some r) (eq-eqb e.depth 0 top) is in
-    let same : e ≡ r = same_some e r hit in
+    let same : e ≡ r = same_Some e r hit in
     record { rest = entries ts; is = ap (λ (x : Item). x ∷ entries ts) same; top = ap (λ (x : Item). x.depth) (sym same) ∙ top }
 
 -- ---- a unit of a file
@@ -84,7 +84,7 @@ module _ (f : List ℕ) (p : Program) (file : program_of f ≡ Ok p) (shards : L
 
 pub some_right : (shards : List Shard) (unit : ℕ) (root : Root) (found : Option ℕ) → first_some (root_in unit) shards ≡ Some root → (All NodesRise shards → found ≡ language_by_root shards unit root) → IsLanguageAt shards unit (unwrap_or found 0)
 some_right shards unit root found at gives f p file h w c number =
-    let own : root ≡ root_facts w = same_some root (root_facts w) (sym at ∙ ap (λ (k : ℕ). first_some (root_in k) shards) (sym number) ∙ root_is f p file shards h w c) in
+    let own : root ≡ root_facts w = same_Some root (root_facts w) (sym at ∙ ap (λ (k : ℕ). first_some (root_in k) shards) (sym number) ∙ root_is f p file shards h w c) in
     ap (λ (o : Option ℕ). unwrap_or o 0) (gives (nodes_in_order f p file shards h)) ∙
     ap (λ (r : Root). unwrap_or (language_by_root shards unit r) 0) own ∙
     ap (λ (k : ℕ). unwrap_or (language_by_root shards k (root_facts w)) 0) (sym number) ∙

@@ -3,6 +3,7 @@ use Rattle.std.proofs.Common.{◌≡◌, ℕ, ◌+◌, ◌-◌, ◌<◌, ◌≤�
 use Rattle.byteorder.specs.Endian.{little_number}
 use Rattle.std.proofs.lemmas.Bool.{leb-true}
 use Rattle.std.proofs.lemmas.List.{drop-drop}
+use Rattle.std.proofs.lemmas.Option.{cond_some, same_Some}
 use Rattle.ix_base.specs.declared.code.TheConstants.{UNIT_LENGTH, TOO_MANY_UNITS}
 use Rattle.ix_base.specs.declared.limits.TheConstants.{MAX_UNITS}
 use Rattle.ix_base.specs.Reading.{Input, Length, number, part, past, initial_length, ◌>>=◌ as ◌>>=?◌}
@@ -11,25 +12,21 @@ use Rattle.index_model.specs.declared.unit.Unit.{Unit as UnitHeader}
 use Rattle.index_model.specs.Meaning.{fault}
 use Rattle.index_model.specs.Units.{Head, head, next_unit}
 use Rattle.index_model.proofs.TilingLaws.{Advances}
-use Rattle.index_model.proofs.Meanings.{bind_ok, holds_ok, some_ok, bind_some, same_some, same_ok}
+use Rattle.index_model.proofs.Meanings.{bind_ok, holds_ok, some_ok, bind_some, same_ok}
 
 -- so many bytes were there, and were passed
 pub record Passes (n : ℕ) (i next : Input) : Type 0 where
   pub there : n ≤ length i.rest
   pub on : past n i ≡ next
 
-pub if_some : {A : Type 0} (b : Bool) (x y : A) → cond b (Some x) None ≡ Some y → (b ≡ true) × (x ≡ y)
-if_some true x y is = (refl, same_some x y is)
-if_some false x y is = absurd cc
-
 pub number_passes : (n : ℕ) (i : Input) (x : ℕ × Input) → number n i ≡ Some x → Passes n i x.1
 number_passes n i x is =
-    let p = if_some (leb n (length i.rest)) (little_number n i.rest, past n i) x is in
+    let p = cond_some (leb n (length i.rest)) (little_number n i.rest, past n i) x is in
     record { there = leb-true _ _ p.0; on = ap (λ (p : ℕ × Input). p.1) p.1 }
 
 part_passes : (n : ℕ) (i : Input) (x : Input × Input) → part n i ≡ Some x → Passes n i x.1
 part_passes n i x is =
-    let p = if_some (leb n (length i.rest)) (record { at = i.at; rest = take n i.rest }, past n i) x is in
+    let p = cond_some (leb n (length i.rest)) (record { at = i.at; rest = take n i.rest }, past n i) x is in
     record { there = leb-true _ _ p.0; on = ap (λ (p : Input × Input). p.1) p.1 }
 
 abbrev made : ℕ → List ℕ → Input
@@ -61,11 +58,11 @@ wide_passes : (i : Input) (short : ℕ × Input) (x : Length × Input) → Passe
 unfolding wide
 wide_passes i short x h is =
     let l = bind_some (number 8 short.1) (λ long. Some (record { length = long.0; wide = true }, long.1)) x is in
-    let r : l.0.1 ≡ x.1 = ap (λ (p : Length × Input). p.1) (same_some (record { length = l.0.0; wide = true }, l.0.1) x l.2) in
+    let r : l.0.1 ≡ x.1 = ap (λ (p : Length × Input). p.1) (same_Some (record { length = l.0.0; wide = true }, l.0.1) x l.2) in
     (12, omega arith, subst (Passes 12 i) r (passes_on 4 8 i short.1 l.0.1 h (number_passes 8 short.1 l.0 l.1)))
 
 either : (b c : Bool) (i : Input) (short : ℕ × Input) (x : Length × Input) → Passes 4 i short.1 → cond b (Some (record { length = short.0; wide = false }, short.1)) (cond c (wide short.1) None) ≡ Some x → PassesSome i x.1
-either true c i short x h is = (4, omega arith, subst (Passes 4 i) (ap (λ (p : Length × Input). p.1) (same_some (record { length = short.0; wide = false }, short.1) x is)) h)
+either true c i short x h is = (4, omega arith, subst (Passes 4 i) (ap (λ (p : Length × Input). p.1) (same_Some (record { length = short.0; wide = false }, short.1) x is)) h)
 either false true i short x h is = wide_passes i short x h is
 either false false i short x h is = absurd cc
 

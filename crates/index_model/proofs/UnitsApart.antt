@@ -3,6 +3,7 @@ use Rattle.std.proofs.Common.{◌≡◌, ℕ, ◌+◌, ◌<◌, ◌≤◌, List,
 use Rattle.std.specs.Prelude.{Contains, codes}
 use Rattle.std.proofs.lemmas.List.Elements.{Contains-append_left, Contains-append_right}
 use mathlib.Core.Logic.{◌⊎◌}
+use Rattle.common_laws.proofs.Members.{contains_here, contains_later, contains_cases}
 use Rattle.ix_base.specs.Reading.{Input, input}
 use Rattle.index_model.specs.declared.unit.Part.{Part}
 use Rattle.index_model.specs.declared.unit.Part.TheVariants.{Info, Types}
@@ -13,7 +14,6 @@ use Rattle.index_model.specs.Units.{next_unit, units_of}
 use Rattle.index_model.specs.Program.{Walked, Program, walked}
 use Rattle.index_model.specs.Faults.{program_of}
 use Rattle.index_model.specs.Shards.{IsRunOf}
-use Rattle.index_model.proofs.Meanings.{contains_here, contains_later, contains_cases}
 use Rattle.index_model.proofs.Pairs.{Pairs, pairs_append}
 use Rattle.index_model.proofs.UnitReads.{unit_takes}
 use Rattle.index_model.proofs.UnitTilingLaws.{units_tile}

@@ -3,6 +3,7 @@ use Rattle.std.proofs.Common.{◌≡◌, ℕ, ◌+◌, ◌*◌, ◌-◌, ◌^◌
 use Rattle.std.specs.Prelude.{position}
 use Rattle.std.proofs.lemmas.Bool.{leb-true}
 use Rattle.std.proofs.lemmas.List.Quantifiers.{position-Some}
+use Rattle.std.proofs.lemmas.Option.{cond_some, same_Some}
 use Rattle.ix_base.specs.declared.code.TheConstants.{TRUNCATED, UNKNOWN_FORM, SUPPLEMENTARY}
 use Rattle.ix_base.specs.Reading.{Input, bytes, skip, number, unsigned_leb, leb64, uleb, signed_leb, is_in_64, signed_leb64, sleb, before_zero, zstr, offset, past, ◌>>=◌ as ◌>>=?◌}
 use Rattle.index_model.specs.declared.unit.Unit.{Unit as UnitHeader}
@@ -10,8 +11,8 @@ use Rattle.index_model.specs.Meaning.{◌>>=◌}
 use Rattle.index_model.specs.Forms.{Value, Reader, by, refused, plain_forms, reader_of, indirect, value_at, Signed, Flag}
 use Rattle.index_model.specs.Abbreviations.{Abbrev, Spec}
 use Rattle.index_model.specs.Walk.{values}
-use Rattle.index_model.proofs.Meanings.{bind_ok, some_ok, bind_some, same_some, same_ok}
-use Rattle.index_model.proofs.UnitReads.{Passes, passes_on, number_passes, if_some, past_none}
+use Rattle.index_model.proofs.Meanings.{bind_ok, some_ok, bind_some, same_ok}
+use Rattle.index_model.proofs.UnitReads.{Passes, passes_on, number_passes, past_none}
 
 -- some bytes were passed, or none
 abbrev pub Goes : Input → Input → Type 0
@@ -32,12 +33,12 @@ number_moves n i x is = (n, number_passes n i x is)
 
 bytes_moves : (n : ℕ) → Moves (bytes n)
 bytes_moves n i x is =
-    let p = if_some (leb n (length i.rest)) (take n i.rest, past n i) x is in
+    let p = cond_some (leb n (length i.rest)) (take n i.rest, past n i) x is in
     (n, record { there = leb-true _ _ p.0; on = ap (λ (p : List ℕ × Input). p.1) p.1 })
 
 skip_moves : (n : ℕ) → Moves (skip n)
 skip_moves n i x is =
-    let p = if_some (leb n (length i.rest)) (record {}, past n i) x is in
+    let p = cond_some (leb n (length i.rest)) (record {}, past n i) x is in
     (n, record { there = leb-true _ _ p.0; on = ap (λ (p : record {} × Input). p.1) p.1 })
 
 offset_moves : (wide : Bool) → Moves (offset wide)
@@ -54,10 +55,10 @@ module _ (b : ℕ) (bs : List ℕ) where
   longer = unsigned_leb bs >>=? λ high. Some (b - 128 + 128 * high.0, high.1 + 1)
 
   one_or_more : (c : Bool) (x : ℕ × ℕ) → ((y : ℕ × ℕ) → unsigned_leb bs ≡ Some y → IsCount bs y.1) → cond c (Some (b, 1)) longer ≡ Some x → IsCount (b ∷ bs) x.1
-  one_or_more true x more e = let n = ap (λ (p : ℕ × ℕ). p.1) (same_some (b, 1) x e) in (omega (arith, n), omega (arith, n))
+  one_or_more true x more e = let n = ap (λ (p : ℕ × ℕ). p.1) (same_Some (b, 1) x e) in (omega (arith, n), omega (arith, n))
   one_or_more false x more e =
       let h = bind_some (unsigned_leb bs) (λ high. Some (b - 128 + 128 * high.0, high.1 + 1)) x e in
-      let n = ap (λ (p : ℕ × ℕ). p.1) (same_some (b - 128 + 128 * h.0.0, h.0.1 + 1) x h.2) in
+      let n = ap (λ (p : ℕ × ℕ). p.1) (same_Some (b - 128 + 128 * h.0.0, h.0.1 + 1) x h.2) in
       let r = more h.0 h.1 in
       (omega (arith, n, r.0), omega (arith, n, r.1))
 
@@ -70,10 +71,10 @@ pub uleb_passes : (i : Input) (x : ℕ × Input) → uleb i ≡ Some x → (n : 
 uleb_passes i x is =
     let n = bind_some (leb64 i.rest) (λ n. Some (n.0, past n.1 i)) x is in
     let m = bind_some (unsigned_leb i.rest) (λ n. cond (ltb n.0 (2 ^ 64)) (Some n) None) n.0 n.1 in
-    let p = if_some (ltb m.0.0 (2 ^ 64)) m.0 n.0 m.2 in
+    let p = cond_some (ltb m.0.0 (2 ^ 64)) m.0 n.0 m.2 in
     let c = leb_count i.rest m.0 m.1 in
     let k : m.0.1 ≡ n.0.1 = ap (λ (q : ℕ × ℕ). q.1) p.1 in
-    (n.0.1, omega (arith, c.0), record { there = omega (arith, c.1); on = ap (λ (q : ℕ × Input). q.1) (same_some (n.0.0, past n.0.1 i) x n.2) })
+    (n.0.1, omega (arith, c.0), record { there = omega (arith, c.1); on = ap (λ (q : ℕ × Input). q.1) (same_Some (n.0.0, past n.0.1 i) x n.2) })
 
 uleb_moves : Moves uleb
 uleb_moves i x is = let h = uleb_passes i x is in (h.0, h.2)
@@ -83,10 +84,10 @@ module _ (b : ℕ) (bs : List ℕ) where
   signed_longer = signed_leb bs >>=? λ high. Some (pos (b - 128) +ℤ (pos 128 *ℤ high.0), high.1 + 1)
 
   signed_one_or_more : (c : Bool) (last : ℤ) (x : ℤ × ℕ) → ((y : ℤ × ℕ) → signed_leb bs ≡ Some y → IsCount bs y.1) → cond c (Some (last, 1)) signed_longer ≡ Some x → IsCount (b ∷ bs) x.1
-  signed_one_or_more true last x more e = let n = ap (λ (p : ℤ × ℕ). p.1) (same_some (last, 1) x e) in (omega (arith, n), omega (arith, n))
+  signed_one_or_more true last x more e = let n = ap (λ (p : ℤ × ℕ). p.1) (same_Some (last, 1) x e) in (omega (arith, n), omega (arith, n))
   signed_one_or_more false last x more e =
       let h = bind_some (signed_leb bs) (λ high. Some (pos (b - 128) +ℤ (pos 128 *ℤ high.0), high.1 + 1)) x e in
-      let n = ap (λ (p : ℤ × ℕ). p.1) (same_some (pos (b - 128) +ℤ (pos 128 *ℤ h.0.0), h.0.1 + 1) x h.2) in
+      let n = ap (λ (p : ℤ × ℕ). p.1) (same_Some (pos (b - 128) +ℤ (pos 128 *ℤ h.0.0), h.0.1 + 1) x h.2) in
       let r = more h.0 h.1 in
       (omega (arith, n, r.0), omega (arith, n, r.1))
 
@@ -99,10 +100,10 @@ sleb_moves : Moves sleb
 sleb_moves i x is =
     let n = bind_some (signed_leb64 i.rest) (λ n. Some (n.0, past n.1 i)) x is in
     let m = bind_some (signed_leb i.rest) (λ n. cond (is_in_64 n.0) (Some n) None) n.0 n.1 in
-    let p = if_some (is_in_64 m.0.0) m.0 n.0 m.2 in
+    let p = cond_some (is_in_64 m.0.0) m.0 n.0 m.2 in
     let c = signed_leb_count i.rest m.0 m.1 in
     let k : m.0.1 ≡ n.0.1 = ap (λ (q : ℤ × ℕ). q.1) p.1 in
-    (n.0.1, record { there = omega (arith, c.1); on = ap (λ (q : ℤ × Input). q.1) (same_some (n.0.0, past n.0.1 i) x n.2) })
+    (n.0.1, record { there = omega (arith, c.1); on = ap (λ (q : ℤ × Input). q.1) (same_Some (n.0.0, past n.0.1 i) x n.2) })
 
 -- ---- strings and blocks
 
@@ -111,8 +112,8 @@ zstr_moves i x is =
     let t = bind_some (before_zero i.rest) (λ text. Some (text, past (length text + 1) i)) x is in
     let k = bind_some (position (λ b. eqb b 0) i.rest) (λ k. Some (take k i.rest)) t.0 t.1 in
     let inside = position-Some (λ b. eqb b 0) i.rest k.0 0 k.1 in
-    let n : length t.0 ≡ k.0 = ap (λ (bs : List ℕ). length bs) (sym (same_some (take k.0 i.rest) t.0 k.2)) ∙ (let e : length (take k.0 i.rest) ≡ k.0 = omega (arith, length-take k.0 i.rest, inside.0) in e) in
-    (length t.0 + 1, record { there = omega (arith, n, inside.0); on = ap (λ (q : List ℕ × Input). q.1) (same_some (t.0, past (length t.0 + 1) i) x t.2) })
+    let n : length t.0 ≡ k.0 = ap (λ (bs : List ℕ). length bs) (sym (same_Some (take k.0 i.rest) t.0 k.2)) ∙ (let e : length (take k.0 i.rest) ≡ k.0 = omega (arith, length-take k.0 i.rest, inside.0) in e) in
+    (length t.0 + 1, record { there = omega (arith, n, inside.0); on = ap (λ (q : List ℕ × Input). q.1) (same_Some (t.0, past (length t.0 + 1) i) x t.2) })
 
 counted_moves : (count : Input → Option (ℕ × Input)) → Moves count → (i : Input) (x : List ℕ × Input) → (count i >>=? λ n. bytes n.0 n.1) ≡ Some x → Goes i x.1
 counted_moves count moves i x is =
@@ -120,7 +121,7 @@ counted_moves count moves i x is =
     goes_on i n.0.1 x.1 (moves i n.0 n.1) (bytes_moves n.0.0 n.0.1 x n.2)
 
 nothing_moves : (i : Input) (x : record {} × Input) → Some (record {}, i) ≡ Some x → Goes i x.1
-nothing_moves i x is = subst (Goes i) (ap (λ (q : record {} × Input). q.1) (same_some (record {}, i) x is)) (stays i)
+nothing_moves i x is = subst (Goes i) (ap (λ (q : record {} × Input). q.1) (same_Some (record {}, i) x is)) (stays i)
 
 section_reference_moves : (version : Bool) (wide : Bool) (i : Input) (x : ℕ × Input) → cond version (number 8 i) (offset wide i) ≡ Some x → Goes i x.1
 section_reference_moves true wide = number_moves 8

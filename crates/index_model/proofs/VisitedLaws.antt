@@ -3,19 +3,19 @@ use Rattle.std.proofs.Common.{◌≡◌, ℕ, zero, suc, ◌+◌, ◌<◌, Bool,
 use Rattle.std.specs.Prelude.{filter}
 use Rattle.std.specs.List.{last_or}
 use Rattle.std.proofs.lemmas.Bool.{and_parts, eqb-true}
+use Rattle.std.proofs.lemmas.Option.{same_Some}
 use mathlib.Core.Logic.{◌⊎◌}
 use Rattle.index_model.specs.declared.rules.Parent.TheVariants.{Root, Other, Seen}
 use Rattle.index_model.specs.Walk.{Item, parent_of}
 use Rattle.index_model.specs.Rules.{is_visited, is_visited_at, is_visited_under, parent_as}
 use Rattle.index_model.specs.LawsRules.{VisitedIsByParent}
-use Rattle.index_model.proofs.Meanings.{same_some}
 
 -- the last that passes passes
 last_passes : (p : Item → Bool) (ds : List Item) (before : Option Item) (e : Item) → last_or before (filter p ds) ≡ Some e → (before ≡ Some e) ⊎ (p e ≡ true)
 last_passes p [] before e is = inl is
 last_passes p (d ∷ ds) before e is =
     elim (p d) as (λ b. p d ≡ b → last_or before (cond b (d ∷ filter p ds) (filter p ds)) ≡ Some e → (before ≡ Some e) ⊎ (p e ≡ true)) [
-      | true ↦ λ on h. ⊎_elim (λ (same : Some d ≡ Some e). inr (ap p (sym (same_some d e same)) ∙ on)) (λ (t : p e ≡ true). inr t) (last_passes p ds (Some d) e h)
+      | true ↦ λ on h. ⊎_elim (λ (same : Some d ≡ Some e). inr (ap p (sym (same_Some d e same)) ∙ on)) (λ (t : p e ≡ true). inr t) (last_passes p ds (Some d) e h)
       | false ↦ λ _ h. last_passes p ds before e h
     ] refl is
 

@@ -5,6 +5,7 @@ pub mod Sections
 pub mod Units
 pub mod Abbreviations
 pub mod Forms
+pub mod FormSeen
 pub mod Tags
 pub mod Walk
 pub mod WalkLeft
@@ -44,6 +45,7 @@ pub mod LawsTiling
 pub mod LawsRanges
 pub mod Layout
 pub mod Ordered
+pub mod Order
 pub mod Hashes
 pub mod Pieces
 pub mod GdbSlots

@@ -25,6 +25,7 @@ mod staged;
 mod steps;
 mod text;
 mod unit;
+mod value;
 
 pub use answer::{Answer, CacheSize, Hits, Look, Main, MainName, Reply};
 pub use entry::{Entry, Kind, Run};
@@ -48,3 +49,4 @@ pub use staged::Staged;
 pub use steps::Steps;
 pub use text::Text;
 pub use unit::{Part, Unit, UnitSort};
+pub use value::Value;

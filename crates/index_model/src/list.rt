@@ -40,17 +40,3 @@ impl<T> List<T> {
         self.vector
     }
 }
-
-#[cfg(test)]
-mod tests {
-    use super::*;
-    use std::alloc::AllocError;
-
-    #[test]
-    fn keeps_the_elements(rt: HostRuntime) -> Result<(), AllocError> {
-        let list = List::of(Vec::from_slice(rt.alloc(), &[4u8, 2, 7])?);
-        assert_eq!(rt; list.as_slice(), [4u8, 2, 7].as_slice());
-        assert_eq!(rt; list.into_vec().pop(), Some(7));
-        Ok(())
-    }
-}

@@ -55,17 +55,3 @@ impl<'f> Text<'f> {
         }
     }
 }
-
-#[cfg(test)]
-mod tests {
-    use super::*;
-    use std::alloc::AllocError;
-
-    #[test]
-    fn keeps_the_bytes(rt: HostRuntime) -> Result<(), AllocError> {
-        assert_eq!(rt; Text::lent(b"main").bytes(), b"main".as_slice());
-        let owned = Text::owned(Vec::from_slice(rt.alloc(), b"n::t")?);
-        assert_eq!(rt; owned.bytes(), b"n::t".as_slice());
-        Ok(())
-    }
-}

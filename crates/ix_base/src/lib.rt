@@ -16,6 +16,3 @@ pub use limits::{
     MAX_CHAIN_HOPS, MAX_DEPTH, MAX_FILE_BYTES, MAX_PATH_STEPS, MAX_QUALIFIED_NAME, MAX_STRING,
     MAX_UNITS,
 };
-
-#[cfg(test)]
-mod tests;

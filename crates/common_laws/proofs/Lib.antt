@@ -1,0 +1,7 @@
+pub mod Booleans
+pub mod Options
+pub mod Members
+pub mod Filters
+pub mod Lists
+pub mod Ranges
+pub mod Numbers
