@@ -22,6 +22,9 @@ CRATE = os.path.join(CRATES, 'index_vectors')
 ROWS = os.path.join(TOOLS, 'rows')
 LIST = os.path.join(TOOLS, 'rows.txt')
 WRITTEN = 'Written by tools/gen_vectors.py; not to be changed by hand.'
+# so many rows of bytes that stand twice become a part of their own, and a row has so many bytes
+SHARED_ROWS = 4
+ROW = 24
 # the crates whose definitions a computation opens, as far as the statements use them
 OPENED = ('ix_base', 'index_model', 'index_vectors')
 # modules of the crate that are written by hand, and the functions of those in src
@@ -65,10 +68,92 @@ def chain(numbers):
     return '(' + ' ∷ '.join(map(str, numbers)) + ' ∷ [])' if numbers else '[]'
 
 
-def long_chain(numbers):
-    """The bytes as a list, 24 a line."""
-    lines = [' ∷ '.join(map(str, numbers[k:k + 24])) for k in range(0, len(numbers), 24)]
-    return ' ∷\n    '.join(lines + ['[]'])
+def rows_of(data):
+    """The bytes in rows."""
+    return [tuple(data[k:k + ROW]) for k in range(0, len(data), ROW)]
+
+
+def joined(items):
+    """Rows and names of parts, as one list: what stands between two parts is a list of its own."""
+    pieces, rows = [], []
+
+    def close(last):
+        if rows:
+            body = ' ∷\n    '.join(' ∷ '.join(map(str, row)) for row in rows) + ' ∷\n    []'
+            pieces.append(body if last and not pieces else '(' + body + ')')
+            rows.clear()
+
+    for item in items:
+        if isinstance(item, str):
+            close(False)
+            pieces.append(item)
+        else:
+            rows.append(item)
+    close(True)
+    return ' ++\n    '.join(pieces) or '[]'
+
+
+def twice(lists):
+    """The longest run of rows and parts that stands in two places of these lists, or None where none is long enough."""
+    places, best = {}, None
+    for at, items in enumerate(lists):
+        for k in range(len(items) - SHARED_ROWS + 1):
+            places.setdefault(tuple(items[k:k + SHARED_ROWS]), []).append((at, k))
+    for found in places.values():
+        for (a, i), (b, j) in zip(found, found[1:]):
+            most = j - i if a == b else len(lists[a])
+            size = 0
+            while size < most and i + size < len(lists[a]) and j + size < len(lists[b]) and lists[a][i + size] == lists[b][j + size]:
+                size += 1
+            if size >= SHARED_ROWS and (best is None or size > len(best)):
+                best = lists[a][i:i + size]
+    return best
+
+
+def with_part(items, run, part):
+    """The list with the number of a part in place of each such run."""
+    made, k = [], 0
+    while k < len(items):
+        if items[k:k + len(run)] == run:
+            made.append(part)
+            k += len(run)
+        else:
+            made.append(items[k])
+            k += 1
+    return made
+
+
+def in_order(parts):
+    """The numbers of the parts, each behind those that it is made of."""
+    order = []
+
+    def follow(k):
+        if k not in order:
+            for item in parts[k]:
+                if isinstance(item, int):
+                    follow(item)
+            order.append(k)
+
+    for k in range(len(parts)):
+        follow(k)
+    return order
+
+
+def share(files):
+    """The files by their keys, and the parts that they share by their names: lists of rows and of names of parts."""
+    lists, parts = [rows_of(data) for data in files.values()], []
+    while True:
+        run = twice(lists + parts)
+        if run is None:
+            break
+        lists = [with_part(items, run, len(parts)) for items in lists]
+        parts = [with_part(items, run, len(parts)) for items in parts] + [run]
+    names = {k: 'part_%d' % place for place, k in enumerate(in_order(parts))}
+
+    def named(items):
+        return [names[item] if isinstance(item, int) else item for item in items]
+
+    return dict(zip(files, map(named, lists))), {name: named(parts[k]) for k, name in names.items()}
 
 
 def text(data):
@@ -165,7 +250,7 @@ def looked(group, folder, args, status, stdout):
 SPECS = '''-- {written}
 -- {doc}
 use Rattle.std.specs.Prelude.{{{plain}}}
-use Rattle.index_vectors.specs.Says.{{{words}}}
+{parts}use Rattle.index_vectors.specs.Says.{{{words}}}
 
 {files}
 -- what each row says
@@ -175,6 +260,17 @@ abbrev pub {type} : Type 0
 '''
 
 FILE = '''unfoldable pub {name} : List ℕ
+{name} =
+    {bytes}
+'''
+
+PARTS = '''-- {written}
+-- Runs of bytes that stand in several places of the files.
+use Rattle.std.specs.Prelude.{{{plain}}}
+
+{parts}'''
+
+PART = '''abbrev pub {name} : List ℕ
 {name} =
     {bytes}
 '''
@@ -231,29 +327,42 @@ def listed(names):
 
 def plain_words(body, words):
     """Those of the words of std that a body uses."""
-    signs = {'[]': '[]', '◌∷◌': '∷', 'codes': 'codes "'}
+    signs = {'[]': '[]', '◌∷◌': '∷', '◌++◌': '++', 'codes': 'codes "'}
     return [word for word in words if signs.get(word, '') in body]
 
 
-def group_modules(name, doc, rows):
+def stated(found):
+    """(name, doc, group, statements) of each group, the group with all files that its rows read."""
+    for name, doc, rows in found:
+        group = Group()
+        yield name, doc, group, {row: statement(group, row) for row in rows}
+
+
+def group_modules(name, doc, group, said, items):
     """What the script writes for a group: its files and its statement, a theorem for each row, and the answer to the goal of its function."""
-    group, own = Group(), camel(name)
-    said = {row: statement(group, row) for row in rows}
-    files = ''.join(FILE.format(name=file, bytes=long_chain(data)) + '\n' for data, file in group.files.items())
+    own = camel(name)
+    files = ''.join(FILE.format(name=file, bytes=joined(items[own, file])) + '\n' for file in group.files.values())
     facts = ''.join('  %s : %s;\n' % fact for fact in said.items())
     words = listed(sorted(group.words))
+    parts = sorted(set(re.findall(r'\bpart_\d+\b', files)), key=lambda part: int(part[5:]))
     theorems = '\n'.join(FACT.format(row=row, said=fact, files=' '.join(dict.fromkeys(re.findall(r'\bfile_\d+\b', fact)))) for row, fact in said.items())
     return {
         'specs/%s.antt' % own: SPECS.format(
-            written=WRITTEN, doc=doc, plain=listed(plain_words(files + facts, ['ℕ', 'List', '[]', '◌∷◌', 'codes'])), words=words,
-            files=files.rstrip('\n') + '\n', type=own, facts=facts),
+            written=WRITTEN, doc=doc, plain=listed(plain_words(files + facts, ['ℕ', 'List', '[]', '◌∷◌', '◌++◌', 'codes'])), words=words,
+            parts='use Rattle.index_vectors.specs.Parts.{%s}\n' % listed(parts) if parts else '', files=files.rstrip('\n') + '\n', type=own, facts=facts),
         'proofs/%sHold.antt' % own: HOLD.format(
             written=WRITTEN, type=own, plain=listed(plain_words(facts, ['[]', '◌∷◌']) + ['refl']), words=words, files=listed(group.files.values()),
             codes='use Rattle.std.specs.Prelude.{codes}\n' if 'codes "' in facts else '', facts=theorems),
         'proofs/%s/Answers.antt' % name: ANSWERS.format(
-            written=WRITTEN, type=own, name=name, rows=listed('%s as %s_holds' % (row, row) for row in rows),
-            facts=''.join('  %s = %s_holds;\n' % (row, row) for row in rows)),
+            written=WRITTEN, type=own, name=name, rows=listed('%s as %s_holds' % (row, row) for row in said),
+            facts=''.join('  %s = %s_holds;\n' % (row, row) for row in said)),
     }
+
+
+def part_module(parts):
+    """The parts that files share."""
+    body = '\n'.join(PART.format(name=name, bytes=joined(items)) for name, items in parts.items())
+    return PARTS.format(written=WRITTEN, plain=listed(plain_words(body, ['ℕ', 'List', '[]', '◌∷◌', '◌++◌'])), parts=body)
 
 
 def lib(found):
@@ -309,10 +418,13 @@ def modules():
     absent, unlisted = missing(found)
     if absent or unlisted:
         sys.exit('rows without a folder: %s; folders that rows.txt does not list: %s' % (absent, unlisted))
-    for name, doc, rows in found:
-        files.update(group_modules(name, doc, rows))
+    all_stated = list(stated(found))
+    items, parts = share({(camel(name), file): data for name, _, group, _ in all_stated for data, file in group.files.items()})
+    for name, doc, group, said in all_stated:
+        files.update(group_modules(name, doc, group, said, items))
+    files['specs/Parts.antt'] = part_module(parts)
     for kind in ('specs', 'proofs'):
-        own = BY_HAND[kind] + (['Opened'] if kind == 'proofs' else []) + [camel(name) + ('Hold' if kind == 'proofs' else '') for name, _, _ in found]
+        own = BY_HAND[kind] + ['Opened' if kind == 'proofs' else 'Parts'] + [camel(name) + ('Hold' if kind == 'proofs' else '') for name, _, _ in found]
         files['%s/Lib.antt' % kind] = '-- %s\n' % WRITTEN + ''.join('pub mod %s\n' % module for module in own)
     files['proofs/Opened.antt'] = opened()
     files['src/lib.rt'] = lib(found)

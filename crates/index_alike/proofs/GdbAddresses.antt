@@ -14,7 +14,8 @@ use Rattle.index_model.specs.Ranges.{contains, unit_at}
 use Rattle.index_model.specs.GdbIndex.{index_number, cu_list, types_list, address_area}
 use Rattle.index_model.specs.GdbAreas.{Areas, items, unit_count}
 use Rattle.index_model.specs.GdbIndexRead.{Address, address, whole_items}
-use Rattle.index_alike.proofs.GdbPlaces.{Stands, stands_in, field_is, stands_first, stands_last, stands_at, length_is, items_are, each_below, by_places, size_4, size_8}
+use Rattle.index_model.proofs.IndexSizes.{size_4, size_8}
+use Rattle.index_alike.proofs.GdbPlaces.{Stands, stands_in, field_is, stands_first, stands_last, stands_at, length_is, items_are, each_below, by_places}
 use Rattle.index_alike.proofs.GdbUnits.{cus_size, types_size, count_is, number_below}
 use Rattle.index_alike.proofs.GdbSteps.{then_is, is_lt}
 

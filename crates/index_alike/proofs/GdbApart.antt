@@ -8,14 +8,15 @@ use Rattle.std.proofs.lemmas.List.Elements.{Contains-append_left, Contains-appen
 use Rattle.std.proofs.lemmas.List.Folds.{list_any_at}
 use Rattle.std.proofs.lemmas.List.FromFn.{length-enumerate_from, get_or-enumerate_from}
 use Rattle.std.proofs.lemmas.List.Sums.{passes_at_first}
+use Rattle.common_laws.proofs.Members.{to_filter}
+use Rattle.common_laws.proofs.Lists.{position_within}
 use Rattle.index_model.specs.declared.entry.Kind.{Kind}
 use Rattle.index_model.specs.declared.entry.Kind.TheVariants.{Named, Variable, Function, Other}
 use Rattle.index_model.specs.declared.unit.Unit.{Unit as UnitHeader}
 use Rattle.index_model.specs.GdbIndex.{is_type_unit, index_order, index_number, kind_number}
-use Rattle.index_model.proofs.Pairs.{to_filter}
 use Rattle.index_alike.specs.GdbAlike.{NumbersAreApart, ElementsAreApart}
 use Rattle.index_alike.proofs.GdbElements.{kind_low}
-use Rattle.index_alike.proofs.GdbPositions.{any_below, position_is}
+use Rattle.index_alike.proofs.GdbPositions.{position_is}
 use Rattle.index_alike.proofs.GdbUnits.{number_below}
 
 module _ (units : List UnitHeader) (first : UnitHeader) where
@@ -45,7 +46,7 @@ module _ (units : List UnitHeader) (first : UnitHeader) where
       let order : List (ℕ × UnitHeader) = index_order units in
       let c = in_order i lt in
       let some : list_any (has_number i) order ≡ true = list_any_at (has_number i) order c.0 (i, get_or units i first) c.1 (ap (has_number i) c.2 ∙ eq-eqb i i refl) in
-      let within = any_below (has_number i) order some in
+      let within = position_within (has_number i) order some in
       let number : index_number units i ≡ position_or_len (has_number i) order = ap (λ (o : Option ℕ). unwrap_or o 0) (position_is (has_number i) order within) in
       ap (λ (k : ℕ). (get_or order k (0, first)).0) number ∙ eqb-true (get_or order (position_or_len (has_number i) order) (0, first)).0 i (passes_at_first (has_number i) order (0, first) within)
 

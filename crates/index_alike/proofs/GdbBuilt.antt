@@ -1,9 +1,11 @@
 -- An accepted file's index reads alike.
 use Rattle.std.proofs.Common.{◌≡◌, ℕ, zero, suc, ◌-◌, ◌<◌, ◌≤◌, ◌^◌, Bool, true, false, not, ◌&&◌, cond, leb, ltb, eqb, List, [], ◌∷◌, length, get_or, map, find, Option, Some, None, Result, Ok, Err, refl, sym, ap, ◌∙◌, subst, arith}
 use Rattle.std.specs.Prelude.{Contains, filter, flat_map, option_map}
-use Rattle.std.proofs.lemmas.Bool.{and_parts, leb-true, ltb-true}
+use Rattle.std.proofs.lemmas.Bool.{and_parts, leb-true, ltb-true, not-true}
 use Rattle.std.proofs.lemmas.List.{length-map, nil_from_length}
 use Rattle.std.proofs.lemmas.List.Elements.{Contains-get_or}
+use Rattle.std.proofs.lemmas.Option.{same_Some}
+use Rattle.common_laws.proofs.Members.{of_map, of_filter, of_flat_map}
 use Rattle.ix_base.specs.declared.fault.Fault.{Fault}
 use Rattle.ix_base.specs.Reading.{◌>>=◌ as ◌>>=?◌}
 use Rattle.index_model.specs.declared.answer.Main.{Main}
@@ -28,17 +30,16 @@ use Rattle.index_model.specs.GdbSlots.{slot_count, slots_of, slots_behind}
 use Rattle.index_model.specs.GdbIndex.{pool_of, index_names, index_number, vector, symbol_table, gdb_index_bytes}
 use Rattle.index_model.specs.GdbAreas.{areas, areas_at, offsets_from, version_of}
 use Rattle.index_model.specs.GdbIndexRead.{gdb_index, whole_items, is_table_size, shortcut_at}
-use Rattle.index_model.proofs.Meanings.{bind_ok, same_ok, same_some}
-use Rattle.index_model.proofs.Pairs.{of_map, of_filter, of_flat_map}
+use Rattle.index_model.proofs.Meanings.{bind_ok, same_ok}
 use Rattle.index_model.proofs.Scans.{AreScans, program_parts}
 use Rattle.index_model.proofs.PieceLaws.{pieces_are}
 use Rattle.index_model.proofs.MaximalLaws.{pieces_are_maximal}
+use Rattle.index_model.proofs.Orders.{bytes_order, ascending_only}
 use Rattle.index_alike.specs.GdbAlike.{units_in, ReadsAlike, GdbIndex8ReadsAlike, GdbIndex9ReadsAlike}
 use Rattle.index_alike.proofs.GdbAddresses.{IsWide}
-use Rattle.index_alike.proofs.GdbAscends.{of_ascending}
 use Rattle.index_alike.proofs.GdbChains.{find_member}
 use Rattle.index_alike.proofs.GdbEntries.{of_each, entry_clean, main_is_of}
-use Rattle.index_alike.proofs.GdbLists.{Reads, Fit, flipped, is_named, reads_8, reads_9, main_reads}
+use Rattle.index_alike.proofs.GdbLists.{Reads, Fit, is_named, reads_8, reads_9, main_reads}
 use Rattle.index_alike.proofs.GdbPool.{names_of_pool}
 use Rattle.index_alike.proofs.GdbPositions.{HasNoZero}
 use Rattle.index_alike.proofs.GdbWhole.{AreMain}
@@ -81,7 +82,7 @@ kept_end r is =
 find_passes : {A : Type 0} (p : A → Bool) (xs : List A) (x : A) → find p xs ≡ Some x → p x ≡ true
 find_passes p [] x e = absurd cc
 find_passes {A = A} p (y ∷ ys) x e = elim (p y) as (λ b. p y ≡ b → cond b (Some y) (find p ys) ≡ Some x → p x ≡ true) [
-  | true ↦ λ is here. subst (λ (z : A). p z ≡ true) (same_some y x here) is
+  | true ↦ λ is here. subst (λ (z : A). p z ≡ true) (same_Some y x here) is
   | false ↦ λ _ more. find_passes p ys x more
 ] refl e
 
@@ -138,9 +139,9 @@ module _ (b : Built) (made : IsMade b) where
   names_clean : (name : List ℕ) → Contains (index_names own_entries) name → HasNoZero name
   unfolding index_names
   names_clean name c =
-      let m = of_map (λ (e : Entry). e.name) (filter (λ e. not e.linkage) own_entries) name (of_ascending bytes_lt (map (λ e. e.name) (filter (λ e. not e.linkage) own_entries)) name c) in
+      let m = of_map (λ (e : Entry). e.name) (filter (λ e. not e.linkage) own_entries) name (ascending_only bytes_lt bytes_order (map (λ e. e.name) (filter (λ e. not e.linkage) own_entries)) name c) in
       let f = of_filter (λ (e : Entry). not e.linkage) own_entries m.0 m.1 in
-      subst HasNoZero m.2 (entry_clean b.program made.units made.scans b.links made.links m.0 f.0 (flipped m.0.linkage f.1))
+      subst HasNoZero m.2 (entry_clean b.program made.units made.scans b.links made.links m.0 f.0 (not-true m.0.linkage f.1))
 
   main_there : (o : Option Main) → own_main ≡ o → AreMain (pool_of own_units own_entries) o
   main_there None e = tt

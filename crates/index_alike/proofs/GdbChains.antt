@@ -3,7 +3,8 @@ use Rattle.std.proofs.Common.{◌≡◌, ℕ, zero, suc, ◌+◌, Bool, true, fa
 use mathlib.Core.Logic.{◌⊎◌}
 use Rattle.std.specs.Prelude.{Contains, filter, filter_map, flat_map, codes, option_map, option_and_then, nat_le, nat_lt, ⊤, ◌==◌}
 use Rattle.std.specs.List.{cons_option, last_or}
-use Rattle.std.proofs.lemmas.Option.{option_and_then_some}
+use Rattle.std.proofs.lemmas.Option.{option_and_then_some, same_Some}
+use Rattle.common_laws.proofs.Members.{contains_here, contains_later, of_map, of_filter, of_flat_map}
 use Rattle.ix_base.specs.declared.code.TheConstants.{BAD_STRING, NAME_TOO_LONG, BAD_REFERENCE, REFERENCE_CHAIN}
 use Rattle.ix_base.specs.declared.limits.TheConstants.{MAX_STRING, MAX_CHAIN_HOPS}
 use Rattle.ix_base.specs.Reading.{before_zero}
@@ -18,8 +19,7 @@ use Rattle.index_model.specs.References.{target_of, entry_named}
 use Rattle.index_model.specs.Chains.{first, next_of, hop, hops_from, chain_of, chain_end, is_type_unit, name_signed, name_by_signature, spelled_name, name_with, name_of}
 use Rattle.index_model.specs.Tags.{namespace}
 use Rattle.index_model.specs.Names.{Member, scope_of, step, step_to, path_from}
-use Rattle.index_model.proofs.Meanings.{bind_ok, holds_ok, some_ok, same_ok, same_some, contains_here, contains_later}
-use Rattle.index_model.proofs.Pairs.{of_map, of_filter, of_flat_map}
+use Rattle.index_model.proofs.Meanings.{bind_ok, holds_ok, some_ok, same_ok}
 use Rattle.index_alike.proofs.GdbPositions.{HasNoZero}
 use Rattle.index_alike.proofs.GdbTexts.{IsClean, AreMembers, before_clean}
 use Rattle.index_alike.proofs.GdbItems.{IsCleanValue, AreCleanValues}
@@ -100,13 +100,13 @@ AreOf p (d ∷ ds) = IsOf p d × AreOf p ds
 pub find_member : {A : Type 0} (p : A → Bool) (xs : List A) (x : A) → find p xs ≡ Some x → Contains xs x
 find_member p [] x e = absurd cc
 find_member {A = A} p (y ∷ ys) x e = elim (p y) as (λ b. cond b (Some y) (find p ys) ≡ Some x → Contains (y ∷ ys) x) [
-  | true ↦ λ here. subst (Contains (y ∷ ys)) (same_some y x here) (contains_here y ys)
+  | true ↦ λ here. subst (Contains (y ∷ ys)) (same_Some y x here) (contains_here y ys)
   | false ↦ λ more. contains_later y ys x (find_member p ys x more)
 ] e
 
 last_member : {A : Type 0} (o : Option A) (xs : List A) (x : A) → last_or o xs ≡ Some x → (o ≡ Some x) ⊎ Contains xs x
 last_member o [] x e = inl e
-last_member o (y ∷ ys) x e = ⊎_elim (λ (own : Some y ≡ Some x). inr (subst (Contains (y ∷ ys)) (same_some y x own) (contains_here y ys))) (λ (l : Contains ys x). inr (contains_later y ys x l)) (last_member (Some y) ys x e)
+last_member o (y ∷ ys) x e = ⊎_elim (λ (own : Some y ≡ Some x). inr (subst (Contains (y ∷ ys)) (same_Some y x own) (contains_here y ys))) (λ (l : Contains ys x). inr (contains_later y ys x l)) (last_member (Some y) ys x e)
 
 -- an item of a walk of the program
 module _ (p : Program) where
@@ -139,7 +139,7 @@ module _ (p : Program) where
       by (Some d) f g =
           let above : Item → Bool = λ x. nat_lt x.at e.item.at && x.depth + 1 == e.item.depth in
           let member = last_member None (filter above (items_of e.home)) d f in
-          subst (IsOf p) (same_some (record { home = e.home; item = d }) m g) (record { home = is.home; item = ⊎_elim (λ (none : None ≡ Some d). absurd (nothing d none)) (λ (c : Contains (filter above (items_of e.home)) d). (of_filter above (items_of e.home) d c).0) member })
+          subst (IsOf p) (same_Some (record { home = e.home; item = d }) m g) (record { home = is.home; item = ⊎_elim (λ (none : None ≡ Some d). absurd (nothing d none)) (λ (c : Contains (filter above (items_of e.home)) d). (of_filter above (items_of e.home) d c).0) member })
         where
           nothing : (x : Item) → None ≡ Some x → ⊥
           nothing x is = cc
@@ -157,7 +157,7 @@ module _ (p : Program) where
           nothing is = cc
       by (Some r) is =
           let b = bind_ok (entry_named p d.home r) (λ target. Ok (Some target)) o is in
-          subst (IsOf p) (same_some b.0 e (same_ok {E = ℕ} (Some b.0) o b.2 ∙ there)) (named_is_of d.home r b.0 b.1)
+          subst (IsOf p) (same_Some b.0 e (same_ok {E = ℕ} (Some b.0) o b.2 ∙ there)) (named_is_of d.home r b.0 b.1)
 
   hop_is_of : (o : Option Located) (others : Located → Result (List Located) ℕ) (ds : List Located) → ((e : Located) → o ≡ Some e → others e ≡ Ok ds → AreOf p ds) → hop o others ≡ Ok ds → AreOf p ds
   hop_is_of None others ds each is = subst (AreOf p) (same_ok {E = ℕ} [] ds is) tt

@@ -3,14 +3,14 @@ use Rattle.std.proofs.Common.{◌≡◌, ℕ, ◌+◌, ◌*◌, ◌^◌, ◌<◌
 use Rattle.std.specs.Prelude.{All, Contains, filter, bytes_eq, nat_lt}
 use Rattle.std.specs.List.{list_all}
 use Rattle.std.proofs.lemmas.List.Elements.{Contains-get_or, All-head, All-tail}
+use Rattle.common_laws.proofs.Members.{of_map}
 use Rattle.index_model.specs.declared.entry.Entry.{Entry}
 use Rattle.index_model.specs.declared.entry.Kind.{Kind}
 use Rattle.index_model.specs.declared.entry.Kind.TheVariants.{Named, Variable, Function, Other}
 use Rattle.index_model.specs.declared.unit.Unit.{Unit as UnitHeader}
 use Rattle.index_model.specs.GdbIndex.{kind_number, element, vector, index_number}
 use Rattle.index_model.specs.GdbIndexRead.{unit_in}
-use Rattle.index_model.proofs.Pairs.{of_map}
-use Rattle.index_alike.proofs.GdbAscends.{of_ascending}
+use Rattle.index_model.proofs.Orders.{nat_order, ascending_only}
 use Rattle.index_alike.proofs.GdbUnits.{number_below}
 use Rattle.index_alike.proofs.GdbSteps.{is_lt}
 
@@ -48,7 +48,7 @@ module _ (units : List UnitHeader) (few : length units < 2 ^ 28) (some : 0 < len
   pub in_vector : (entries : List Entry) (name : List ℕ) (n : ℕ) → Contains (vector units entries name) n → IsElement units n
   unfolding vector
   in_vector entries name n c =
-      let m = of_map (element units) (filter (λ e. not e.linkage && bytes_eq e.name name) entries) n (of_ascending nat_lt (map (element units) (filter (λ e. not e.linkage && bytes_eq e.name name) entries)) n c) in
+      let m = of_map (element units) (filter (λ e. not e.linkage && bytes_eq e.name name) entries) n (ascending_only nat_lt nat_order (map (element units) (filter (λ e. not e.linkage && bytes_eq e.name name) entries)) n c) in
       subst (IsElement units) m.2 (element_is m.0)
 
   pub vector_low : (entries : List Entry) (name : List ℕ) → All (λ e. e < 2 ^ 32) (vector units entries name)

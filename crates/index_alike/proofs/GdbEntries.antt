@@ -4,7 +4,8 @@ use mathlib.Core.Bool.{true≢false}
 use Rattle.std.specs.Prelude.{Contains, filter, flat_map, option_map, option_and_then, option_to_list, nat_le, ⊤, ◌==◌}
 use Rattle.std.specs.Option.{option_or}
 use Rattle.std.proofs.lemmas.Bool.{leb-true}
-use Rattle.std.proofs.lemmas.List.Elements.{Contains-append_left, Contains-append_right}
+use Rattle.std.proofs.lemmas.Option.{same_Some}
+use Rattle.common_laws.proofs.Members.{contains_here, contains_later, contains_cases, of_filter, of_flat_map, to_flat_map}
 use Rattle.ix_base.specs.declared.code.TheConstants.{NAME_TOO_LONG}
 use Rattle.ix_base.specs.declared.limits.TheConstants.{MAX_PATH_STEPS}
 use Rattle.index_model.specs.declared.answer.Main.{Main}
@@ -22,8 +23,7 @@ use Rattle.index_model.specs.Names.{Member, scope_path, qualified_name}
 use Rattle.index_model.specs.Links.{Link, name_in, link_of, is_link_indexed, is_within_limit, qualified_of, followed, links_in, indexed_in}
 use Rattle.index_model.specs.Entries.{entry_of, linkage_entry_of, entries_of_link, entries_of}
 use Rattle.index_model.specs.MainProgram.{full_name, is_named_main, main_in, main_of}
-use Rattle.index_model.proofs.Meanings.{bind_ok, holds_ok, same_ok, same_some, contains_here, contains_later, contains_cases}
-use Rattle.index_model.proofs.Pairs.{of_filter, of_flat_map}
+use Rattle.index_model.proofs.Meanings.{bind_ok, holds_ok, same_ok}
 use Rattle.index_model.proofs.Scans.{AreScans, scanned_walked}
 use Rattle.index_alike.proofs.GdbPositions.{HasNoZero}
 use Rattle.index_alike.proofs.GdbTexts.{IsClean, AreMembers, qualified_clean}
@@ -41,13 +41,6 @@ of_each g (x ∷ xs) ys is y c =
     (λ (e : a.0 ≡ y). (x, contains_here x xs, a.1 ∙ ap (λ z. Ok z) e))
     (λ (l : Contains b.0 y). let r = of_each g xs b.0 b.1 y l in (r.0, contains_later x xs r.0 r.1, r.2))
     (contains_cases a.0 b.0 y d)
-
-pub to_flat_map : {A B : Type 0} (f : A → List B) (xs : List A) (x : A) (y : B) → Contains xs x → Contains (f x) y → Contains (flat_map f xs) y
-to_flat_map f [] x y c d = absurd (omega (arith, c.1))
-to_flat_map f (z ∷ zs) x y c d = ⊎_elim
-    (λ (e : z ≡ x). Contains-append_left (f z) (flat_map f zs) y (subst (λ w. Contains (f w) y) (sym e) d))
-    (λ (l : Contains zs x). Contains-append_right (f z) (flat_map f zs) y (to_flat_map f zs x y l d))
-    (contains_cases z zs x c)
 
 -- ---- walks
 
@@ -128,7 +121,7 @@ module _ (p : Program) (us : List UnitHeader) (scans : AreScans p.sections 0 us 
   linkage_true e (Some name) n is = by _ is
     where
       by : (b : Bool) → cond b (Some (record e { linkage = true; name = name; tail = 0 })) None ≡ Some n → n.linkage ≡ true
-      by true is = ap (λ (x : Entry). x.linkage) (sym (same_some (record e { linkage = true; name = name; tail = 0 }) n is))
+      by true is = ap (λ (x : Entry). x.linkage) (sym (same_Some (record e { linkage = true; name = name; tail = 0 }) n is))
       by false is = absurd cc
 
   -- the entry of an indexed link, unless it is a linkage entry
@@ -248,7 +241,7 @@ main_is_of p us scans ks m is = by (main_in (filter has_language (indexed_in ks)
     by None e is = absurd cc
     by (Some k) e is =
         let c = of_filter has_language (indexed_in ks) k (main_member (filter has_language (indexed_in ks)) k e) in
-        subst (IsMainOf (entries_of p ks)) (same_some (main k) m is) (record {
+        subst (IsMainOf (entries_of p ks)) (same_Some (main k) m is) (record {
           some = not_zero (language_of p k.entry.home) c.1;
           low = language_low p k.entry.home;
           entry = entry_of k;

@@ -1,6 +1,5 @@
 -- Each slot that is read is found on the path of its name, and no other slot has the name.
 use Rattle.std.proofs.Common.{◌≡◌, ◌≢◌, ℕ, zero, suc, ◌+◌, ◌*◌, ◌^◌, ◌<◌, Bool, true, false, not, cond, List, [], ◌∷◌, ◌++◌, length, get_or, map, Option, Some, None, Result, Ok, refl, sym, ap, ◌∙◌, subst, arith, zero-add, ⊎_elim}
-use mathlib.Core.Bool.{true≢false}
 use mathlib.Core.Logic.{◌⊎◌}
 use Rattle.std.specs.Prelude.{flat_map, filter, bytes_eq, All}
 use Rattle.std.specs.List.{list_all, enumerate_from, range_with_len}
@@ -22,7 +21,8 @@ use Rattle.index_model.specs.Ordered.{bytes_lt}
 use Rattle.index_model.specs.GdbSlots.{slot_count, slots_of}
 use Rattle.index_model.specs.GdbIndex.{pool_of, index_names, vector, name_in_slot}
 use Rattle.index_model.specs.GdbIndexRead.{Slot, slot_or_none, is_other, is_found, places_before, reached, elements_of}
-use Rattle.index_alike.proofs.GdbAscends.{Ascend, ascends, ascend_at, bytes_lt-trans, bytes_lt-itself}
+use Rattle.index_model.specs.Order.{Rises}
+use Rattle.index_model.proofs.Orders.{bytes_order, ascending_rises, pairs_from_rises}
 use Rattle.index_alike.proofs.GdbPlaced.{slot_below, name_there, in_slot, path_leads}
 use Rattle.index_alike.proofs.GdbPool.{names_of_pool}
 use Rattle.index_alike.proofs.GdbTable.{slot_of, slot_read}
@@ -83,13 +83,13 @@ module _ (units : List UnitHeader) (entries : List Entry) (short : length (pool_
   own_read : (k : ℕ) → k < length names → read (get_or slots k 0) ≡ Some (slot_of units entries (area + 8 * get_or slots k 0) (get_or names k []))
   own_read k lt = ap (slot_read units entries (area + 8 * get_or slots k 0)) (name_there names short k lt)
 
-  names_ascend : Ascend bytes_lt names
+  names_ascend : Rises bytes_lt names
   unfolding index_names
-  names_ascend = subst (Ascend bytes_lt) (sym (names_of_pool units entries)) (ascends bytes_lt bytes_lt-trans (map (λ e. e.name) (filter (λ e. not e.linkage) entries)))
+  names_ascend = subst (Rises bytes_lt) (sym (names_of_pool units entries)) (ascending_rises bytes_lt bytes_order (map (λ e. e.name) (filter (λ e. not e.linkage) entries)))
 
   apart : (i j : ℕ) → i < j → j < length names → get_or names i [] ≡ get_or names j [] → ⊥
   apart i j lt within same =
-      true≢false (sym (ascend_at bytes_lt names i j [] names_ascend lt within) ∙ ap (λ (w : List ℕ). bytes_lt w (get_or names j [])) same ∙ bytes_lt-itself (get_or names j []))
+      bytes_order.itself (get_or names j []) (sym (ap (λ (w : List ℕ). bytes_lt w (get_or names j [])) same) ∙ pairs_from_rises bytes_lt names names_ascend i j [] lt within)
 
   same_number : (i j : ℕ) → i < length names → j < length names → get_or names i [] ≡ get_or names j [] → i ≡ j
   same_number i j li lj same = ⊎_elim (λ (e : i ≡ j). e) (λ (o : (i < j) ⊎ (j < i)). ⊎_elim (λ (l : i < j). absurd (apart i j l lj same)) (λ (l : j < i). absurd (apart j i l li (sym same))) o) (cases_order i j)

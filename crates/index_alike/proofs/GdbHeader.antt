@@ -2,7 +2,7 @@
 use Rattle.std.proofs.Common.{◌≡◌, ℕ, zero, suc, ◌+◌, ◌-◌, ◌*◌, ◌/◌, ◌^◌, ◌<◌, ◌≤◌, true, ◌&&◌, ◌||◌, leb, List, [], ◌∷◌, ◌++◌, length, get_or, take, drop, map, Result, Ok, refl, ap, ◌∙◌, subst, arith}
 use Rattle.std.specs.Prelude.{flat_map, slice_range, sum_by, ◌==◌, if◌then◌else◌}
 use Rattle.std.specs.List.{range_with_len}
-use Rattle.std.proofs.lemmas.Bool.{and_from}
+use Rattle.std.proofs.lemmas.Bool.{and_from, le-leb}
 use Rattle.std.proofs.lemmas.List.{length-append, take_all}
 use Rattle.std.proofs.lemmas.List.Concat.{length-flat_map}
 use Rattle.std.proofs.lemmas.List.FromFn.{length-range_with_len, get_or-range_with_len}
@@ -13,8 +13,9 @@ use Rattle.index_model.specs.Layout.{below, field, u32_bytes, start_of}
 use Rattle.index_model.specs.Meaning.{◌>>=◌, ◌>>◌, fault, holds_or}
 use Rattle.index_model.specs.GdbIndex.{with_header}
 use Rattle.index_model.specs.GdbAreas.{Areas, areas, areas_at, offsets_from, version_of}
-use Rattle.index_alike.proofs.GdbPlaces.{size_4, Stands, range_is, stands_in, field_is, stands_first, stands_last, stands_at, stands_item, stands_item_of, length_is, map_below}
-use Rattle.index_alike.proofs.GdbSteps.{bind_is, then_is, is_le}
+use Rattle.index_model.proofs.IndexSizes.{size_4}
+use Rattle.index_alike.proofs.GdbPlaces.{Stands, range_is, stands_in, field_is, stands_first, stands_last, stands_at, stands_item, stands_item_of, length_is, map_below}
+use Rattle.index_alike.proofs.GdbSteps.{bind_is, then_is}
 
 -- an index that reads as these areas
 pub record Laid (bytes cus types addresses table shortcut pool : List ℕ) : Type 0 where
@@ -94,7 +95,7 @@ module _ (version : ℕ) (all : List (List ℕ)) (small : length (with_header ve
   unfolding offsets_from
   offsets_on least at a zero le low = refl
   offsets_on least at a (suc n) le low =
-      let tests : (leb least (offset a) && leb (offset a) (length whole)) ≡ true = and_from (leb least (offset a)) (leb (offset a) (length whole)) (is_le least (offset a) low) (is_le (offset a) (length whole) (offset_within a)) in
+      let tests : (leb least (offset a) && leb (offset a) (length whole)) ≡ true = and_from (leb least (offset a)) (leb (offset a) (length whole)) (le-leb least (offset a) low) (le-leb (offset a) (length whole) (offset_within a)) in
       let rest = offsets_on (offset a) (at + 4) (a + 1) n (omega arith) (omega (arith, next_offset a (omega arith))) in
       then_is (leb least (offset a) && leb (offset a) (length whole)) (fault GDB_OFFSETS at) (offsets_from whole (at + 4) (offset a) (map offset (range_with_len (a + 1) n)) >>= λ more. Ok (offset a ∷ more)) (Ok (map offset (range_with_len a (suc n)))) tests
       (bind_is (offsets_from whole (at + 4) (offset a) (map offset (range_with_len (a + 1) n))) (λ more. Ok (offset a ∷ more)) (map offset (range_with_len (a + 1) n)) (Ok (map offset (range_with_len a (suc n)))) rest refl)
@@ -113,7 +114,7 @@ behind_version bytes version =
 version_is : (bytes : List ℕ) (version : ℕ) → 4 ≤ length bytes → field 4 0 bytes ≡ version → (version == 8 || version == 9) ≡ true → version_of bytes ≡ Ok version
 unfolding version_of
 version_is bytes version le is known =
-    then_is (leb 4 (length bytes)) (fault GDB_VERSION 0) (holds_or (field 4 0 bytes == 8 || field 4 0 bytes == 9) (fault GDB_VERSION 0) >> Ok (field 4 0 bytes)) (Ok version) (is_le 4 (length bytes) le)
+    then_is (leb 4 (length bytes)) (fault GDB_VERSION 0) (holds_or (field 4 0 bytes == 8 || field 4 0 bytes == 9) (fault GDB_VERSION 0) >> Ok (field 4 0 bytes)) (Ok version) (le-leb 4 (length bytes) le)
     (ap (λ (v : ℕ). holds_or (v == 8 || v == 9) (fault GDB_VERSION 0) >> Ok v) is ∙ then_is (version == 8 || version == 9) (fault GDB_VERSION 0) (Ok version) (Ok version) known refl)
 
 no_bytes : (bytes : List ℕ) (n : ℕ) → slice_range bytes n n ≡ []
@@ -136,7 +137,7 @@ module _ (a b c d e : List ℕ) (small : length (with_header 8 (a ∷ b ∷ c �
   areas_8 =
       let size = whole_size 8 five small in
       bind_is (version_of bytes_8) (behind_version bytes_8) 8 (Ok found_8) (version_is bytes_8 8 (omega (arith, size)) (version_reads 8 five small (omega arith)) refl)
-      (then_is (leb 24 (length bytes_8)) (fault GDB_OFFSETS 4) (offsets_from bytes_8 4 24 (map (λ k. field 4 (4 * k + 4) bytes_8) (below 5)) >>= behind_offsets bytes_8 8) (Ok found_8) (is_le 24 (length bytes_8) (omega (arith, size)))
+      (then_is (leb 24 (length bytes_8)) (fault GDB_OFFSETS 4) (offsets_from bytes_8 4 24 (map (λ k. field 4 (4 * k + 4) bytes_8) (below 5)) >>= behind_offsets bytes_8 8) (Ok found_8) (le-leb 24 (length bytes_8) (omega (arith, size)))
       (bind_is (offsets_from bytes_8 4 24 (map (λ k. field 4 (4 * k + 4) bytes_8) (below 5))) (behind_offsets bytes_8 8) (map (offset 8 five small) (below 5)) (Ok found_8) (offsets_are 8 five small) refl))
 
   pub laid_8 : Laid bytes_8 a b c d [] e
@@ -172,9 +173,9 @@ module _ (a b c d e f : List ℕ) (short : 8 ≤ length e) (small : length (with
       let size = whole_size 9 six small in
       let enough : 8 ≤ length found_9.shortcut.rest = omega (arith, short, ap length shortcut_9) in
       bind_is (version_of bytes_9) (behind_version bytes_9) 9 (Ok found_9) (version_is bytes_9 9 (omega (arith, size)) (version_reads 9 six small (omega arith)) refl)
-      (then_is (leb 28 (length bytes_9)) (fault GDB_OFFSETS 4) (offsets_from bytes_9 4 28 (map (λ k. field 4 (4 * k + 4) bytes_9) (below 6)) >>= behind_offsets bytes_9 9) (Ok found_9) (is_le 28 (length bytes_9) (omega (arith, size)))
+      (then_is (leb 28 (length bytes_9)) (fault GDB_OFFSETS 4) (offsets_from bytes_9 4 28 (map (λ k. field 4 (4 * k + 4) bytes_9) (below 6)) >>= behind_offsets bytes_9 9) (Ok found_9) (le-leb 28 (length bytes_9) (omega (arith, size)))
       (bind_is (offsets_from bytes_9 4 28 (map (λ k. field 4 (4 * k + 4) bytes_9) (below 6))) (behind_offsets bytes_9 9) (map (offset 9 six small) (below 6)) (Ok found_9) (offsets_are 9 six small)
-      (then_is (leb 8 (length found_9.shortcut.rest)) (fault GDB_OFFSETS 20) (Ok found_9) (Ok found_9) (is_le 8 (length found_9.shortcut.rest) enough) refl)))
+      (then_is (leb 8 (length found_9.shortcut.rest)) (fault GDB_OFFSETS 20) (Ok found_9) (Ok found_9) (le-leb 8 (length found_9.shortcut.rest) enough) refl)))
 
   pub laid_9 : Laid bytes_9 a b c d e f
   unfolding areas_at

@@ -1,18 +1,20 @@
 -- The texts among the values of entries have no zero.
 use Rattle.std.proofs.Common.{◌≡◌, ℕ, zero, suc, ◌+◌, ℤ, Bool, true, false, ◌&&◌, ◌||◌, cond, leb, eqb, List, [], ◌∷◌, ◌++◌, length, Option, Some, Result, Ok, Err, refl, ap, ◌∙◌, subst, arith, ⊎_elim}
+use Rattle.std.proofs.lemmas.Option.{same_Some}
 use Rattle.std.specs.Prelude.{Contains, filter_map, ⊤}
+use Rattle.common_laws.proofs.Members.{contains_cases}
 use Rattle.ix_base.specs.declared.code.TheConstants.{TRUNCATED, UNKNOWN_FORM, SUPPLEMENTARY, BAD_CODE, BAD_ROOT, DEPTH}
 use Rattle.ix_base.specs.declared.limits.TheConstants.{MAX_DEPTH}
 use Rattle.ix_base.specs.Reading.{Input, number, skip, offset, past, uleb, sleb, zstr, before_zero}
 use Rattle.index_model.specs.declared.unit.Unit.{Unit as UnitHeader}
-use Rattle.index_model.specs.Meaning.{◌>>=◌, ◌>>◌, holds_or, some_or, at_place}
+use Rattle.index_model.specs.Meaning.{◌>>=◌, ◌>>◌, holds_or, some_or}
 use Rattle.index_model.specs.Sections.{Section}
 use Rattle.index_model.specs.Tags.{is_root_tag}
 use Rattle.index_model.specs.Forms.{Value, Addr, Unsigned, Str, LineStr, StrIndex, AddrIndex, Near, Far, Signature, Offset, RangeIndex, ListIndex, Signed, Flag, Wide, Inline, Block, Reader, by, refused, plain_forms, reader_of, is_set, counted, section_reference, indirect, value_at}
 use Rattle.index_model.specs.Abbreviations.{Abbrev, Spec, abbrev_of}
 use Rattle.index_model.specs.Walk.{Item, Token, Null, Entry, Levels, levels, is_over, values, entry_at, token_at, token_or_fault, behind, walk_from, walk_of, tail_of, item_in}
 use Rattle.index_model.specs.Program.{Walked, walked, items_of, body}
-use Rattle.index_model.proofs.Meanings.{bind_ok, holds_ok, some_ok, bind_some, same_some, same_ok, contains_cases}
+use Rattle.index_model.proofs.Meanings.{bind_ok, holds_ok, some_ok, bind_some, same_ok, at_place_ok}
 use Rattle.index_model.proofs.Scans.{read, walked_read}
 use Rattle.index_alike.proofs.GdbPositions.{HasNoZero}
 use Rattle.index_alike.proofs.GdbTexts.{before_clean}
@@ -39,7 +41,7 @@ zstr_cleans : Cleans (by zstr Inline)
 zstr_cleans i x is =
     let v = some_ok (zstr i) TRUNCATED (λ y. Ok (Inline y.0, y.1)) x is in
     let b = bind_some (before_zero i.rest) (λ s. Some (s, past (length s + 1) i)) v.0 v.1 in
-    let text : b.0 ≡ v.0.0 = ap (λ (q : List ℕ × Input). q.0) (same_some (b.0, past (length b.0 + 1) i) v.0 b.2) in
+    let text : b.0 ≡ v.0.0 = ap (λ (q : List ℕ × Input). q.0) (same_Some (b.0, past (length b.0 + 1) i) v.0 b.2) in
     subst IsCleanValue (ap Inline text ∙ ap (λ (q : Value × Input). q.0) (same_ok (Inline v.0.0, v.0.1) x v.2)) (before_clean i.rest b.0 b.1)
 
 abbrev AllClean : List (ℕ × Reader) → Type 0
@@ -115,10 +117,6 @@ module _ (u : UnitHeader) (table : List Abbrev) (open_ : Levels) (i : Input) whe
       let c = some_ok (uleb i) TRUNCATED (λ code. null_or (eqb code.0 0 && open_.root) code) x is in
       null_or_cleans (eqb c.0.0 0 && open_.root) c.0 x c.2
 
-placed_ok : {A : Type 0} (at : ℕ) (r : Result A ℕ) (x : A) → at_place at r ≡ Ok x → r ≡ Ok x
-placed_ok at (Ok y) x is = ap (λ z. Ok z) (same_ok y x is)
-placed_ok at (Err code) x is = absurd cc
-
 abbrev AreCleanTokens : List Token → Type 0
 AreCleanTokens [] = Unit {0}
 AreCleanTokens (t ∷ ts) = IsCleanToken t × AreCleanTokens ts
@@ -131,7 +129,7 @@ module _ (u : UnitHeader) (table : List Abbrev) where
     | true ↦ tt
     | false ↦ elim (token_or_fault u table (levels earlier) i) as (λ r. token_or_fault u table (levels earlier) i ≡ r → AreCleanTokens (behind r (λ t. walk_from (token_or_fault u table) n (earlier ++ t.0 ∷ []) t.1)).tokens) [
       | Err f ↦ λ e. tt
-      | Ok t ↦ λ e. (token_cleans u table (levels earlier) i t (placed_ok i.at (token_at u table (levels earlier) i) t e), from_clean n (earlier ++ t.0 ∷ []) t.1)
+      | Ok t ↦ λ e. (token_cleans u table (levels earlier) i t (at_place_ok i.at (token_at u table (levels earlier) i) t e), from_clean n (earlier ++ t.0 ∷ []) t.1)
     ] refl
   ]
 

@@ -6,9 +6,11 @@ use Rattle.std.specs.Prelude.{flat_map, filter, bytes_eq, nat_lt, All, Contains,
 use Rattle.std.specs.List.{list_any, position_or_len}
 use Rattle.std.proofs.lemmas.List.{get_or_default}
 use Rattle.std.proofs.lemmas.List.Sums.{passes_at_first}
-use Rattle.std.proofs.lemmas.Bool.{and_parts, cases_Bool}
+use Rattle.std.proofs.lemmas.Bool.{and_parts, cases_Bool, not-true, le-leb}
 use Rattle.std.proofs.lemmas.List.Folds.{list_any_at}
 use Rattle.std.proofs.lemmas.Slice.Eq.{bytes_eq-Decides}
+use Rattle.common_laws.proofs.Members.{contains_here, contains_later, to_map, to_filter}
+use Rattle.common_laws.proofs.Lists.{position_within}
 use Rattle.ix_base.specs.Reading.{◌>>=◌ as ◌>>=?◌}
 use Rattle.index_model.specs.declared.answer.Main.{Main}
 use Rattle.index_model.specs.declared.entry.Entry.{Entry}
@@ -18,23 +20,21 @@ use Rattle.index_model.specs.Ranges.{unit_at}
 use Rattle.index_model.specs.Ordered.{ascending, bytes_lt}
 use Rattle.index_model.specs.GdbIndex.{Pool, pool_of, pool_bytes, cu_list, types_list, address_area, symbol_table, shortcut, index_names, index_number, vector, element, gdb_index_bytes}
 use Rattle.index_model.specs.GdbIndexRead.{GdbIndex, gdb_index, shortcut_at, gdb_index_hits, number_at, elements_of}
-use Rattle.index_model.proofs.Meanings.{contains_here, contains_later}
-use Rattle.index_model.proofs.Pairs.{to_map, to_filter}
-use Rattle.index_alike.proofs.GdbAscends.{to_ascending, bytes_lt-total}
+use Rattle.index_model.proofs.Orders.{bytes_order, ascending_has}
+use Rattle.index_model.proofs.IndexSizes.{shortcut_size}
 use Rattle.index_alike.proofs.GdbHeader.{Laid, laid_8, laid_9, whole_size}
 use Rattle.index_alike.proofs.GdbAddresses.{IsWide, numbers_are}
 use Rattle.index_alike.proofs.GdbPool.{names_of_pool}
 use Rattle.index_alike.proofs.GdbFound.{all_read, name_hits, other_hits}
 use Rattle.index_alike.proofs.GdbWhole.{AreMain, index_of, index_is, few_names, shortcut_is, no_shortcut}
-use Rattle.index_alike.proofs.GdbPositions.{HasNoZero, any_below}
-use Rattle.index_alike.proofs.GdbSteps.{is_le}
+use Rattle.index_alike.proofs.GdbPositions.{HasNoZero}
 
 -- ---- names
 
 -- the name of an entry that isn't a linkage entry is a name of the index
 pub is_named : (entries : List Entry) (e : Entry) → Contains entries e → e.linkage ≡ false → Contains (index_names entries) e.name
 unfolding index_names
-is_named entries e c plain = to_ascending bytes_lt bytes_lt-total (map (λ e. e.name) (filter (λ e. not e.linkage) entries)) e.name (to_map (λ (e : Entry). e.name) (filter (λ e. not e.linkage) entries) e (to_filter (λ (e : Entry). not e.linkage) entries e c (ap not plain)))
+is_named entries e c plain = ascending_has bytes_lt bytes_order (map (λ e. e.name) (filter (λ e. not e.linkage) entries)) e.name (to_map (λ (e : Entry). e.name) (filter (λ e. not e.linkage) entries) e (to_filter (λ (e : Entry). not e.linkage) entries e c (ap not plain)))
 
 filter_none : {A : Type 0} (p : A → Bool) (xs : List A) → ((x : A) → Contains xs x → p x ≡ true → ⊥) → filter p xs ≡ []
 filter_none p [] none = refl
@@ -43,16 +43,12 @@ filter_none {A = A} p (x ∷ xs) none = elim (p x) as (λ b. p x ≡ b → cond 
   | false ↦ λ _. filter_none p xs (λ y c is. none y (contains_later x xs y c) is)
 ] refl
 
-pub flipped : (b : Bool) → not b ≡ true → b ≡ false
-flipped true e = absurd (true≢false (sym e))
-flipped false e = refl
-
 -- a name that isn't one of the index has no elements
 no_elements : (units : List UnitHeader) (entries : List Entry) (name : List ℕ) → (Contains (index_names entries) name → ⊥) → vector units entries name ≡ []
 unfolding vector ascending
 no_elements units entries name none = ap (λ (es : List Entry). ascending nat_lt (map (element units) es)) (filter_none (λ e. not e.linkage && bytes_eq e.name name) entries (λ e c is.
     let p = and_parts (not e.linkage) (bytes_eq e.name name) is in
-    none (subst (Contains (index_names entries)) ((bytes_eq-Decides e.name name).0 p.1) (is_named entries e c (flipped e.linkage p.0)))))
+    none (subst (Contains (index_names entries)) ((bytes_eq-Decides e.name name).0 p.1) (is_named entries e c (not-true e.linkage p.0)))))
 
 -- ---- answers
 
@@ -99,7 +95,7 @@ module _ (units : List UnitHeader) (pieces : List UnitRange) (entries : List Ent
             subst (λ (n : List ℕ). flat_map (elements_of n) (all_read units entries short_names laid.found.table.at) ≡ vector units entries n) k.2 (name_hits units entries short_names laid.found.table.at k.0 k.1)
           where
             some_place : (ns : List (List ℕ)) → list_any (bytes_eq name) ns ≡ true → (k : ℕ) × (k < length ns) × (get_or ns k [] ≡ name)
-            some_place ns there = (position_or_len (bytes_eq name) ns, any_below (bytes_eq name) ns there, sym ((bytes_eq-Decides name (get_or ns (position_or_len (bytes_eq name) ns) [])).0 (passes_at_first (bytes_eq name) ns [] (any_below (bytes_eq name) ns there))))
+            some_place ns there = (position_or_len (bytes_eq name) ns, position_within (bytes_eq name) ns there, sym ((bytes_eq-Decides name (get_or ns (position_or_len (bytes_eq name) ns) [])).0 (passes_at_first (bytes_eq name) ns [] (position_within (bytes_eq name) ns there))))
         by (inr missing) =
             let not_there : (k : ℕ) → k < length pool.names → get_or pool.names k [] ≢ name = λ k lt same. true≢false (sym (list_any_at (bytes_eq name) pool.names k [] lt ((bytes_eq-Decides name (get_or pool.names k [])).1 (sym same))) ∙ missing) in
             other_hits units entries short_names laid.found.table.at name not_there
@@ -121,19 +117,15 @@ module _ (units : List UnitHeader) (pieces : List UnitRange) (entries : List Ent
       let laid = laid_8 (cu_list units) (types_list units) (address_area units pieces) (symbol_table units entries pool) (pool_bytes pool) small in
       reads (gdb_index_bytes units pieces main entries 8) [] laid (omega (arith, size, small)) None (no_shortcut laid.found laid.shortcut_is)
 
-  short_size : (m : Option Main) → length (shortcut pool m) ≡ 8
-  short_size None = refl
-  short_size (Some m) = refl
-
   pub reads_9 : length (gdb_index_bytes units pieces main entries 9) < 2 ^ 32 → Reads units pieces entries main (gdb_index_bytes units pieces main entries 9)
   unfolding gdb_index_bytes
   reads_9 small =
       let size = whole_size 9 (cu_list units ∷ types_list units ∷ address_area units pieces ∷ symbol_table units entries pool ∷ shortcut pool main ∷ pool_bytes pool ∷ []) small in
-      let laid = laid_9 (cu_list units) (types_list units) (address_area units pieces) (symbol_table units entries pool) (shortcut pool main) (pool_bytes pool) (omega (arith, short_size main)) small in
+      let laid = laid_9 (cu_list units) (types_list units) (address_area units pieces) (symbol_table units entries pool) (shortcut pool main) (pool_bytes pool) (omega (arith, shortcut_size pool main)) small in
       let low : length (cu_list units) + length (types_list units) + length (symbol_table units entries pool) + length (pool_bytes pool) < 2 ^ 32 = omega (arith, size, small) in
       reads (gdb_index_bytes units pieces main entries 9) (shortcut pool main) laid low main (shortcut_is units entries pieces fit.some fit.wide clean_pool (gdb_index_bytes units pieces main entries 9) (shortcut pool main) laid low main fit.main_is refl)
 
 -- main as it is looked up
 pub main_reads : (units : List UnitHeader) (entries : List Entry) (main : Option Main) → AreMain (pool_of units entries) main → (main >>=? λ m. cond (leb m.language 65535) (Some m) None) ≡ main
 main_reads units entries None are = refl
-main_reads units entries (Some m) are = ap (λ (b : Bool). cond b (Some m) None) (is_le m.language 65535 (omega (arith, are.low)))
+main_reads units entries (Some m) are = ap (λ (b : Bool). cond b (Some m) None) (le-leb m.language 65535 (omega (arith, are.low)))

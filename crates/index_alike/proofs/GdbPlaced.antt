@@ -1,5 +1,5 @@
 -- Which name a slot has, and that its path leads there.
-use Rattle.std.proofs.Common.{◌≡◌, ℕ, zero, suc, ◌^◌, ◌<◌, Bool, true, false, not, cond, eqb, List, [], ◌∷◌, length, get_or, find, position, Option, Some, refl, sym, ap, ◌∙◌, arith, ⊎_elim, inl, inr}
+use Rattle.std.proofs.Common.{◌≡◌, ℕ, zero, suc, ◌^◌, ◌<◌, Bool, true, false, eqb, List, [], ◌∷◌, length, get_or, position, Option, Some, refl, sym, ap, ◌∙◌, arith, ⊎_elim, inl, inr}
 use mathlib.Core.Bool.{true≢false}
 use mathlib.Core.Logic.{◌⊎◌}
 use Rattle.std.specs.Prelude.{slice_get}
@@ -15,6 +15,7 @@ use Rattle.index_model.specs.GdbIndex.{name_in_slot}
 use Rattle.index_model.specs.GdbIndexRead.{places_before}
 use Rattle.index_model.proofs.Meanings.{bind_some}
 use Rattle.index_model.proofs.SlotLaws.{each_name_has_its_slot}
+use Rattle.index_model.proofs.PassedOver.{passed_over}
 use Rattle.index_alike.proofs.GdbPositions.{position_is}
 
 -- ---- no two names have one slot
@@ -65,19 +66,6 @@ placed_size n taken [] [] p = refl
 placed_size n taken [] (s ∷ ss) p = absurd p
 placed_size n taken (m ∷ ms) [] p = absurd p
 placed_size n taken (m ∷ ms) (s ∷ ss) p = ap suc (placed_size n (s ∷ taken) ms ss p.1)
-
--- before what a search finds on a list, each item is one that it passes over
-passed_over : (taken : ℕ → Bool) (other : ℕ → Bool) (k : ℕ) (xs : List ℕ) → find (λ s. not (taken s)) xs ≡ Some k → ((s : ℕ) → taken s ≡ true → other s ≡ true) → list_all other (places_before k xs) ≡ true
-unfolding places_before
-passed_over taken other k [] e over = absurd cc
-passed_over taken other k (x ∷ xs) e over = elim (taken x) as (λ b. taken x ≡ b → cond (not b) (Some x) (find (λ s. not (taken s)) xs) ≡ Some k → list_all other (cond (eqb x k) [] (x ∷ places_before k xs)) ≡ true) [
-  | true ↦ λ is more. skipped (eqb x k) (over x is) (passed_over taken other k xs more over)
-  | false ↦ λ _ found. let same : x ≡ k = cc in rw (eq-eqb x k same) refl
-] refl e
-  where
-    skipped : (b : Bool) → other x ≡ true → list_all other (places_before k xs) ≡ true → list_all other (cond b [] (x ∷ places_before k xs)) ≡ true
-    skipped true o more = refl
-    skipped false o more = rw o more
 
 -- ---- the slots of names
 

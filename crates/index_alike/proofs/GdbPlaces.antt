@@ -2,22 +2,17 @@
 use Rattle.std.proofs.Common.{◌≡◌, ℕ, zero, suc, ◌+◌, ◌-◌, ◌*◌, ◌/◌, ◌^◌, ◌<◌, ◌≤◌, List, [], ◌∷◌, ◌++◌, length, get_or, take, drop, map, Result, Ok, refl, sym, ap, ◌∙◌, subst, arith}
 use Rattle.std.specs.Prelude.{flat_map, slice_range}
 use Rattle.std.specs.List.{range_with_len}
-use Rattle.std.proofs.lemmas.List.{append_assoc, append-nil, length-append, drop_at, take_at, take-append-drop, drop_more, length-take-le, length-map, get_or-map}
+use Rattle.std.proofs.lemmas.List.{append-nil, length-append, drop_at, take_at, take-append-drop, drop_more, length-take-le, length-map, get_or-map}
 use Rattle.std.proofs.lemmas.List.Concat.{flat_map-append}
 use Rattle.std.proofs.lemmas.List.FromFn.{fill_by_all, length-map-range_with_len, get_or-map-range_with_len}
 use Rattle.std.proofs.Math.Nat.{mul-div_cancel_left}
-use Rattle.byteorder.specs.Numbers.{little_number-reads_back, length-bytes_low_first}
+use Rattle.common_laws.proofs.Lists.{regrouped}
+use Rattle.byteorder.specs.Numbers.{little_number-reads_back}
 use Rattle.ix_base.specs.Reading.{Input}
-use Rattle.index_model.specs.Layout.{below, field, u32_bytes, u64_bytes}
+use Rattle.index_model.specs.Layout.{below, field}
 use Rattle.byteorder.specs.Endian.{little_bytes}
 use Rattle.index_model.specs.Meaning.{each}
 use Rattle.index_model.specs.GdbAreas.{items}
-
-pub size_4 : (n : ℕ) → length (u32_bytes n) ≡ 4
-size_4 n = length-bytes_low_first 0 4 n
-
-pub size_8 : (n : ℕ) → length (u64_bytes n) ≡ 8
-size_8 n = length-bytes_low_first 0 8 n
 
 -- ---- what stands where
 
@@ -46,12 +41,9 @@ module _ {at : ℕ} {part bytes : List ℕ} (s : Stands at part bytes) where
   stands_in {k} {small} t = record {
     front = s.front ++ t.front;
     behind = t.behind ++ s.behind;
-    is = s.is ∙ ap (λ (w : List ℕ). s.front ++ (w ++ s.behind)) t.is ∙ regroup s.front t.front small t.behind s.behind;
+    is = s.is ∙ ap (λ (w : List ℕ). s.front ++ (w ++ s.behind)) t.is ∙ regrouped s.front t.front small t.behind s.behind;
     size = length-append s.front t.front ∙ (λ i. s.size i + t.size i);
   }
-    where
-      regroup : (a b c d e : List ℕ) → a ++ ((b ++ (c ++ d)) ++ e) ≡ (a ++ b) ++ (c ++ (d ++ e))
-      regroup a b c d e = simp append_assoc
 
 -- a number in bytes reads back
 pub field_is : (w n at : ℕ) {bytes : List ℕ} → Stands at (little_bytes w n) bytes → n < 256 ^ w → field w at bytes ≡ n

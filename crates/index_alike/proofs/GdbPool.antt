@@ -5,6 +5,8 @@ use Rattle.std.proofs.lemmas.List.{length-append, take-map, map-id}
 use Rattle.std.proofs.lemmas.List.Concat.{length-flat_map}
 use Rattle.std.proofs.lemmas.List.Folds.{fold-map}
 use Rattle.std.proofs.lemmas.Slice.Eq.{bytes_eq-Decides}
+use Rattle.std.proofs.lemmas.Bool.{le-leb}
+use Rattle.common_laws.proofs.Members.{contains_here, contains_later, contains_cases, to_map, to_filter}
 use Rattle.ix_base.specs.Reading.{before_zero}
 use Rattle.index_model.specs.declared.entry.Entry.{Entry}
 use Rattle.index_model.specs.declared.unit.Unit.{Unit as UnitHeader}
@@ -12,11 +14,9 @@ use Rattle.index_model.specs.Layout.{below, field, u32_bytes, ended, start_of}
 use Rattle.index_model.specs.Ordered.{distinct, place_of}
 use Rattle.index_model.specs.GdbIndex.{Pool, pool_of, pool_bytes, name_place, vector_place, vector_bytes, vector, index_names}
 use Rattle.index_model.specs.GdbAreas.{Areas, string_at, vector_at}
-use Rattle.index_model.proofs.Meanings.{contains_here, contains_later, contains_cases}
-use Rattle.index_model.proofs.Pairs.{to_map, to_filter}
-use Rattle.index_alike.proofs.GdbPlaces.{Stands, from_there, is_within, stands_in, field_is, stands_first, stands_last, stands_at, stands_item, stands_item_of, length_is, map_below, by_places, size_4}
+use Rattle.index_model.proofs.IndexSizes.{size_4}
+use Rattle.index_alike.proofs.GdbPlaces.{Stands, from_there, is_within, stands_in, field_is, stands_first, stands_last, stands_at, stands_item, stands_item_of, length_is, map_below, by_places}
 use Rattle.index_alike.proofs.GdbPositions.{place_in, HasNoZero, text_reads}
-use Rattle.index_alike.proofs.GdbSteps.{is_le}
 
 start_is : {X : Type 0} (f : X → List ℕ) (xs : List X) (k : ℕ) → length (flat_map f (take k xs)) ≡ start_of (map f xs) k
 start_is f xs k = length-flat_map f (take k xs) ∙ sym (ap (sum_by length) (take-map f k xs) ∙ fold-map (λ (n : ℕ) (w : List ℕ). n + length w) f 0 (take k xs))
@@ -54,7 +54,7 @@ module _ (pool : Pool) where
 module _ (a : Areas) (bytes : List ℕ) (is : a.pool.rest ≡ bytes) (small : length bytes < 2 ^ 32) where
   pub string_is : (at : ℕ) (text : List ℕ) → HasNoZero text → Stands at (ended text) bytes → string_at a at ≡ Some text
   string_is at text none s =
-      let inside : leb at (length bytes) ≡ true = is_le at (length bytes) (omega (arith, is_within s)) in
+      let inside : leb at (length bytes) ≡ true = le-leb at (length bytes) (omega (arith, is_within s)) in
       ap (λ (w : List ℕ). cond (leb at (length w)) (before_zero (drop at w)) None) is
       ∙ ap (λ (b : Bool). cond b (before_zero (drop at bytes)) None) inside
       ∙ ap before_zero (from_there s) ∙ text_reads text s.behind none
@@ -72,9 +72,9 @@ module _ (a : Areas) (bytes : List ℕ) (is : a.pool.rest ≡ bytes) (small : le
       let within : at + (4 + 4 * length v) ≤ length bytes = omega (arith, is_within s, vector_size v) in
       let head : Stands (at + 0) (u32_bytes (length v)) bytes = stands_in s (stands_first (u32_bytes (length v)) (flat_map u32_bytes v)) in
       let count : field 4 at bytes ≡ length v = field_is 4 (length v) at (stands_at (let e : at + 0 ≡ at = omega arith in e) head) (omega (arith, within, small)) in
-      let enough : leb (4 * length v) (length bytes) ≡ true = is_le (4 * length v) (length bytes) (omega (arith, within)) in
-      let first : leb (at + 4) (length bytes) ≡ true = is_le (at + 4) (length bytes) (omega (arith, within)) in
-      let last : leb (at + 4 + 4 * length v) (length bytes) ≡ true = is_le (at + 4 + 4 * length v) (length bytes) (omega (arith, within)) in
+      let enough : leb (4 * length v) (length bytes) ≡ true = le-leb (4 * length v) (length bytes) (omega (arith, within)) in
+      let first : leb (at + 4) (length bytes) ≡ true = le-leb (at + 4) (length bytes) (omega (arith, within)) in
+      let last : leb (at + 4 + 4 * length v) (length bytes) ≡ true = le-leb (at + 4 + 4 * length v) (length bytes) (omega (arith, within)) in
       ap (λ (w : List ℕ). read_vector w at (field 4 at w)) is
       ∙ ap (read_vector bytes at) count
       ∙ (λ i. cond (first i && last i) (Some (map (λ k. field 4 (at + 4 + 4 * k) bytes) (below (cond (enough i) (length v) 0)))) None)

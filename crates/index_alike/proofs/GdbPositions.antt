@@ -10,6 +10,7 @@ use Rattle.std.specs.Prelude.{◌==◌}
 use Rattle.std.proofs.lemmas.List.Folds.{list_any_at}
 use Rattle.std.proofs.lemmas.List.Sums.{passes_at_first}
 use Rattle.std.proofs.lemmas.Slice.Eq.{bytes_eq-Decides}
+use Rattle.common_laws.proofs.Lists.{position_within}
 use Rattle.ix_base.specs.Reading.{before_zero, ◌>>=◌ as ◌>>=?◌}
 use Rattle.index_model.specs.Layout.{ended}
 use Rattle.index_model.specs.Ordered.{place_of}
@@ -20,14 +21,6 @@ module _ {X : Type 0} (p : X → Bool) where
   position_below xs k e =
       let h = cond_some (ltb (position_or_len p xs) (length xs)) (position_or_len p xs) k e in
       omega (arith, ltb-true (position_or_len p xs) (length xs) h.0, h.1)
-
-  pub any_below : (xs : List X) → list_any p xs ≡ true → position_or_len p xs < length xs
-  any_below [] some = absurd (true≢false (sym some))
-  any_below (x ∷ xs) some = by (p x) refl (any_below xs)
-    where
-      by : (b : Bool) → p x ≡ b → (list_any p xs ≡ true → position_or_len p xs < length xs) → position_or_len p (x ∷ xs) < length (x ∷ xs)
-      by true e rest = rw e (omega arith)
-      by false e rest = let more : list_any p xs ≡ true = rw e at some in let lt = rest more in rw e (omega (arith, lt))
 
   pub position_is : (xs : List X) → position_or_len p xs < length xs → position p xs ≡ Some (position_or_len p xs)
   position_is xs lt = ap (λ (b : Bool). cond b (Some (position_or_len p xs)) None) (is_lt (position_or_len p xs) (length xs) lt)
@@ -55,7 +48,7 @@ pub place_in : (x : List ℕ) (xs : List (List ℕ)) → Contains xs x → IsPla
 place_in x xs c =
     let same : bytes_eq x (get_or xs c.0 x) ≡ true = (bytes_eq-Decides x (get_or xs c.0 x)).1 (sym c.2) in
     let some : list_any (bytes_eq x) xs ≡ true = list_any_at (bytes_eq x) xs c.0 x c.1 same in
-    let lt = any_below (bytes_eq x) xs some in
+    let lt = position_within (bytes_eq x) xs some in
     let is : place_of bytes_eq x xs ≡ position_or_len (bytes_eq x) xs = ap (λ (o : Option ℕ). unwrap_or o 0) (position_is (bytes_eq x) xs lt) in
     let passes : bytes_eq x (get_or xs (position_or_len (bytes_eq x) xs) []) ≡ true = passes_at_first (bytes_eq x) xs [] lt in
     let found : x ≡ get_or xs (position_or_len (bytes_eq x) xs) [] = (bytes_eq-Decides x (get_or xs (position_or_len (bytes_eq x) xs) [])).0 passes in

@@ -1,5 +1,5 @@
 -- What a meaning is, step by step.
-use Rattle.std.proofs.Common.{◌≡◌, Bool, true, ◌<◌, ◌≤◌, leb, ltb, ℕ, Option, Some, Result, Ok, ap, ◌∙◌, arith}
+use Rattle.std.proofs.Common.{◌≡◌, Bool, true, ◌<◌, ltb, ℕ, Option, Some, Result, Ok, ap, ◌∙◌, arith}
 use Rattle.std.proofs.lemmas.Bool.Decides.{nat_tests}
 use Rattle.index_model.specs.Meaning.{◌>>=◌, ◌>>◌, holds_or, some_or}
 
@@ -11,9 +11,6 @@ then_is b e s y is more = ap (λ b. holds_or b e >> s) is ∙ more
 
 pub some_is : {A B E : Type 0} (o : Option A) (e : E) (f : A → Result B E) (x : A) (y : Result B E) → o ≡ Some x → f x ≡ y → (some_or o e >>= f) ≡ y
 some_is o e f x y is more = ap (λ o. some_or o e >>= f) is ∙ more
-
-pub is_le : (a b : ℕ) → a ≤ b → leb a b ≡ true
-is_le a b le = grind (arith, nat_tests)
 
 pub is_lt : (a b : ℕ) → a < b → ltb a b ≡ true
 is_lt a b lt = grind (arith, nat_tests)

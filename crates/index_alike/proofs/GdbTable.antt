@@ -17,7 +17,8 @@ use Rattle.index_model.specs.GdbSlots.{slot_count, slots_of}
 use Rattle.index_model.specs.GdbIndex.{Pool, pool_of, pool_bytes, cu_list, types_list, vector, name_place, vector_place, slot_bytes, name_in_slot, symbol_table}
 use Rattle.index_model.specs.GdbAreas.{Areas, items, unit_count, string_at, vector_at}
 use Rattle.index_model.specs.GdbIndexRead.{Slot, full_slot, slot_at, unit_in}
-use Rattle.index_alike.proofs.GdbPlaces.{is_within, stands_at, field_is, stands_first, stands_last, length_is, items_are, each_below, size_4}
+use Rattle.index_model.proofs.IndexSizes.{size_4, slot_size}
+use Rattle.index_alike.proofs.GdbPlaces.{is_within, stands_at, field_is, stands_first, stands_last, length_is, items_are, each_below}
 use Rattle.index_alike.proofs.GdbUnits.{count_is}
 use Rattle.index_alike.proofs.GdbPool.{name_stands, vector_stands, name_behind, string_is, vector_is, has_vector}
 use Rattle.index_alike.proofs.GdbElements.{vector_low, vector_known}
@@ -41,10 +42,6 @@ module _ (units : List UnitHeader) (entries : List Entry) where
   slot_read at None = None
   slot_read at (Some name) = Some (slot_of at name)
 
-  slot_size : (o : Option (List ℕ)) → length (slot_bytes units entries pool o) ≡ 8
-  slot_size None = refl
-  slot_size (Some name) = refl
-
   abbrev pub count : ℕ
   count = slot_count (length pool.names)
 
@@ -53,7 +50,7 @@ module _ (units : List UnitHeader) (entries : List Entry) where
 
   pub table_size : length (symbol_table units entries pool) ≡ 8 * count
   unfolding symbol_table
-  table_size = length_is (λ slot. slot_bytes units entries pool (name_in_slot pool.names slots slot)) 8 (λ slot. slot_size (name_in_slot pool.names slots slot)) (below count) ∙ ap (λ (n : ℕ). 8 * n) (length-range_with_len 0 count)
+  table_size = length_is (λ slot. slot_bytes units entries pool (name_in_slot pool.names slots slot)) 8 (λ slot. slot_size units entries pool (name_in_slot pool.names slots slot)) (below count) ∙ ap (λ (n : ℕ). 8 * n) (length-range_with_len 0 count)
 
   module _ (few : length units < 2 ^ 28) (some : 0 < length units) (short : length pool.names < 2 ^ 60) (small : length (pool_bytes pool) < 2 ^ 32)
       (clean : (name : List ℕ) → Contains pool.names name → HasNoZero name)
@@ -103,7 +100,7 @@ module _ (units : List UnitHeader) (entries : List Entry) where
     pub slots_are : a.table.rest ≡ symbol_table units entries pool → each (slot_at a) (items 8 a.table) ≡ Ok (map (λ k. slot_read (a.table.at + 8 * k) (name_in_slot pool.names slots k)) (below count))
     unfolding symbol_table
     slots_are table =
-        ap (each (slot_at a)) (items_are bytes_of 8 (omega arith) (λ slot. slot_size (name_in_slot pool.names slots slot)) (below count) 0 a.table table)
+        ap (each (slot_at a)) (items_are bytes_of 8 (omega arith) (λ slot. slot_size units entries pool (name_in_slot pool.names slots slot)) (below count) 0 a.table table)
         ∙ ap (λ (n : ℕ). each (slot_at a) (map given (below n))) (length-range_with_len 0 count)
         ∙ each_below (slot_at a) given (λ k. slot_read (a.table.at + 8 * k) (name_in_slot pool.names slots k)) count one
       where

@@ -7,12 +7,13 @@ use Rattle.std.proofs.lemmas.List.{take-append-drop, get_or-reverse, length-reve
 use Rattle.std.proofs.lemmas.List.Elements.{All-from_recursion, recursion_from_All, All-append, All-cons, All-nil}
 use Rattle.std.proofs.lemmas.List.Folds.{list_all-append}
 use Rattle.std.proofs.lemmas.List.Quantifiers.{position-Some}
+use Rattle.std.proofs.lemmas.Option.{same_Some}
 use Rattle.ix_base.specs.Reading.{before_zero}
 use Rattle.index_model.specs.declared.rules.Class.{Class}
 use Rattle.index_model.specs.declared.rules.Class.TheVariants.{C, Cxx, Ada, Plain}
 use Rattle.index_model.specs.AdaNames.{pieces, shortened, is_coded, is_line, decoded, without_prefix, without_number, before_digits}
 use Rattle.index_model.specs.Names.{Member, component, scoped_name, qualified_name}
-use Rattle.index_model.proofs.Meanings.{bind_some, same_some}
+use Rattle.index_model.proofs.Meanings.{bind_some}
 use Rattle.index_alike.proofs.GdbPositions.{HasNoZero}
 
 abbrev is_byte : ℕ → Bool
@@ -41,7 +42,7 @@ before_clean bytes text e =
     let b = bind_some (position (λ b. b == 0) bytes) (λ k. Some (take k bytes)) text e in
     let p = position-Some (λ b. b == 0) bytes b.0 0 b.1 in
     let size : length (take b.0 bytes) ≡ b.0 = length-take-le b.0 bytes (omega (arith, p.0)) in
-    subst HasNoZero (same_some (take b.0 bytes) text b.2) (none_passes (take b.0 bytes) (λ k lt. ap (λ (n : ℕ). eqb n 0) (get_or-take b.0 bytes k 0 (omega (arith, lt, size))) ∙ p.2 k (omega (arith, lt, size))))
+    subst HasNoZero (same_Some (take b.0 bytes) text b.2) (none_passes (take b.0 bytes) (λ k lt. ap (λ (n : ℕ). eqb n 0) (get_or-take b.0 bytes k 0 (omega (arith, lt, size))) ∙ p.2 k (omega (arith, lt, size))))
 
 -- ---- pieces and joins
 

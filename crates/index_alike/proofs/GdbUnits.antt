@@ -7,7 +7,8 @@ use Rattle.index_model.specs.declared.unit.Unit.{Unit as UnitHeader}
 use Rattle.index_model.specs.Layout.{u64_bytes}
 use Rattle.index_model.specs.GdbIndex.{is_type_unit, index_order, index_number, start_in_section, cu_list, types_list}
 use Rattle.index_model.specs.GdbAreas.{Areas, unit_count}
-use Rattle.index_alike.proofs.GdbPlaces.{size_8, length_is}
+use Rattle.index_model.proofs.IndexSizes.{size_8}
+use Rattle.index_alike.proofs.GdbPlaces.{length_is}
 use Rattle.index_alike.proofs.GdbPositions.{position_below}
 
 -- ---- the lists of units

@@ -21,7 +21,8 @@ use Rattle.index_model.specs.GdbSlots.{slot_count}
 use Rattle.index_model.specs.GdbIndex.{Pool, pool_of, pool_bytes, cu_list, types_list, address_area, symbol_table, shortcut, name_place, vector_bytes}
 use Rattle.index_model.specs.GdbAreas.{Areas, areas, items, string_at}
 use Rattle.index_model.specs.GdbIndexRead.{Address, Slot, GdbIndex, gdb_index, whole_items, is_table_size, slot_at, shortcut_at, reached}
-use Rattle.index_alike.proofs.GdbPlaces.{stands_at, field_is, stands_first, stands_last, size_4}
+use Rattle.index_model.proofs.IndexSizes.{size_4}
+use Rattle.index_alike.proofs.GdbPlaces.{stands_at, field_is, stands_first, stands_last}
 use Rattle.index_alike.proofs.GdbHeader.{Laid}
 use Rattle.index_alike.proofs.GdbUnits.{few_units}
 use Rattle.index_alike.proofs.GdbAddresses.{IsWide, address_of, addresses_are, whole_items_are}

@@ -5,7 +5,6 @@ pub mod GdbHeader
 pub mod GdbUnits
 pub mod GdbAddresses
 pub mod GdbPool
-pub mod GdbAscends
 pub mod GdbElements
 pub mod GdbPlaced
 pub mod GdbTable

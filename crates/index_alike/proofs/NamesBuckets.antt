@@ -9,6 +9,7 @@ use Rattle.std.proofs.lemmas.List.{get_or-map, get_or-take, get_or-drop, length-
 use Rattle.std.proofs.lemmas.List.FromFn.{get_or-map-range_with_len, length-map-range_with_len}
 use Rattle.std.proofs.lemmas.List.Sums.{list_all-from_AllPass}
 use Rattle.std.proofs.lemmas.Option.{unwrap_or-slice_get}
+use Rattle.std.proofs.Math.Bool.{or-true}
 use Rattle.index_model.specs.Hashes.{name_hash, lower}
 use Rattle.index_model.specs.Layout.{below, nth}
 use Rattle.index_model.specs.NameIndex.{name_lt, bucket}
@@ -16,7 +17,9 @@ use Rattle.index_model.specs.Ordered.{bytes_lt}
 use Rattle.index_model.specs.NameTables.{Tables}
 use Rattle.index_model.specs.NameIndexRead.{has_hash, is_in_bucket, is_hashed}
 use Rattle.index_model.proofs.Pairs.{Pairs, all_pairs}
-use Rattle.index_alike.proofs.NamesOrder.{IsOrder, order_by, Below, below as first_or_same}
+use Rattle.index_model.proofs.IndexOrders.{name_order}
+use Rattle.index_model.proofs.Orders.{first_or_same}
+use Rattle.index_alike.proofs.NamesOrder.{Below}
 
 -- ---- hashes
 
@@ -27,21 +30,6 @@ hash_from h (c ∷ name) lt = hash_from ((h * 33 + lower c) % 2 ^ 32) name (mod-
 pub hash_fits : (name : List ℕ) → name_hash name < 4294967296
 unfolding name_hash
 hash_fits name = hash_from 5381 name (omega arith)
-
--- ---- the order of the index
-
-abbrev index_key : ℕ → List ℕ → List ℕ
-index_key n a = name_hash a % n ∷ name_hash a ∷ a
-
-one_name : (n : ℕ) (a b : List ℕ) → index_key n a ≡ index_key n b → a ≡ b
-one_name n a b e = cc
-
-by_index_key : (n : ℕ) (a b : List ℕ) → name_lt n a b ≡ bytes_lt (index_key n a) (index_key n b)
-unfolding bytes_lt
-by_index_key n a b = refl
-
-pub name_order : (n : ℕ) → IsOrder (name_lt n)
-name_order n = order_by (name_lt n) (index_key n) (one_name n) (by_index_key n)
 
 -- ---- first places
 
@@ -95,10 +83,6 @@ both a b c e f g = rw (e, f, g) refl
 
 nth_is : (xs : List ℕ) (k : ℕ) → nth xs k ≡ get_or xs k 0
 nth_is xs k = unwrap_or-slice_get xs k 0
-
-or_true : (a : Bool) → (a || true) ≡ true
-or_true true = refl
-or_true false = refl
 
 hashed_steps : (t : Tables) (k : ℕ) (name : List ℕ) → has_hash name (nth t.hashes.numbers k) ≡ true → is_in_bucket t k ≡ true → is_hashed t k name ≡ Ok (record {})
 unfolding is_hashed
@@ -184,5 +168,5 @@ module _ (names : List (List ℕ)) (rises : Pairs (Below (name_lt (length names)
       pub hashed_is : is_hashed t k (get_or names k []) ≡ Ok (record {})
       hashed_is =
           let name = get_or names k [] in
-          let hash : has_hash name (nth t.hashes.numbers k) ≡ true = ap (λ (b : Bool). list_any (λ c. leb 0x80 c) name || b) (eq-eqb _ _ hash_read) ∙ or_true (list_any (λ c. leb 0x80 c) name) in
+          let hash : has_hash name (nth t.hashes.numbers k) ≡ true = ap (λ (b : Bool). list_any (λ c. leb 0x80 c) name || b) (eq-eqb _ _ hash_read) ∙ or-true (list_any (λ c. leb 0x80 c) name) in
           hashed_steps t k name hash in_bucket_is

@@ -4,27 +4,30 @@ use Rattle.std.specs.Prelude.{position, Contains, filter_map}
 use Rattle.std.proofs.lemmas.Bool.{false≢true}
 use Rattle.std.proofs.lemmas.List.{get_or-take}
 use Rattle.std.proofs.lemmas.List.Quantifiers.{position-Some}
+use Rattle.std.proofs.lemmas.Option.{same_Some}
+use Rattle.common_laws.proofs.Members.{contains_cases}
 use Rattle.ix_base.specs.declared.code.TheConstants.{TRUNCATED, UNKNOWN_FORM, SUPPLEMENTARY, BAD_CODE, BAD_ROOT, DEPTH}
 use Rattle.ix_base.specs.declared.limits.TheConstants.{MAX_DEPTH}
 use Rattle.ix_base.specs.declared.fault.Fault.{Fault}
 use Rattle.ix_base.specs.Reading.{Input, number, skip, offset, past, uleb, sleb, zstr, before_zero}
 use Rattle.index_model.specs.declared.unit.Unit.{Unit as UnitHeader}
-use Rattle.index_model.specs.Meaning.{◌>>=◌, ◌>>◌, holds_or, some_or, at_place}
+use Rattle.index_model.specs.Meaning.{◌>>=◌, ◌>>◌, holds_or, some_or}
 use Rattle.index_model.specs.Sections.{Section}
 use Rattle.index_model.specs.Tags.{is_root_tag}
 use Rattle.index_model.specs.Forms.{Value, Addr, Unsigned, Str, LineStr, StrIndex, AddrIndex, Near, Far, Signature, Offset, RangeIndex, ListIndex, Signed, Flag, Wide, Inline, Block, Reader, by, refused, plain_forms, reader_of, is_set, counted, section_reference, indirect, value_at}
 use Rattle.index_model.specs.Abbreviations.{Abbrev, Spec, abbrev_of}
 use Rattle.index_model.specs.Walk.{Item, Token, Null, Entry, Levels, levels, is_over, behind, values, entry_at, token_at, token_or_fault, tail_of, walk_from, walk_of, item_in, items}
 use Rattle.index_model.specs.Program.{Walked, walked, items_of, body}
-use Rattle.index_model.proofs.Meanings.{bind_ok, holds_ok, some_ok, bind_some, same_some, same_ok, contains_cases}
+use Rattle.index_model.proofs.Meanings.{bind_ok, holds_ok, some_ok, bind_some, same_ok, at_place_ok}
 use Rattle.index_model.proofs.Scans.{walked_read}
+use Rattle.index_model.proofs.TextReads.{same_text}
 use Rattle.index_alike.proofs.NamesTexts.{HasNoZero}
 
 -- what stands before the first zero has none
 pub before_zero_clean : (bytes text : List ℕ) → before_zero bytes ≡ Some text → HasNoZero text
 before_zero_clean bytes text is =
     let k = bind_some (position (λ b. eqb b 0) bytes) (λ k. Some (take k bytes)) text is in
-    let taken : take k.0 bytes ≡ text = same_some (take k.0 bytes) text k.2 in
+    let taken : take k.0 bytes ≡ text = same_Some (take k.0 bytes) text k.2 in
     subst HasNoZero taken (λ j d lt.
     let within : j < k.0 = omega (arith, lt, length-take k.0 bytes) in
     ap (λ (b : ℕ). eqb b 0) (get_or-take k.0 bytes j d within) ∙ (position-Some (λ b. eqb b 0) bytes k.0 d k.1).2 j within)
@@ -38,9 +41,6 @@ Clean r = (i : Input) (x : Value × Input) → r i ≡ Ok x → (text : List ℕ
 abbrev is_text : Value → Bool
 is_text (Inline text) = true
 is_text other = false
-
-same_text : (s text : List ℕ) → Inline s ≡ Inline text → s ≡ text
-same_text s text e = cc
 
 -- a reader of other values
 other_clean : {A : Type 0} (read : Input → Option (A × Input)) (make : A → Value) → ((y : A) → is_text (make y) ≡ false) → Clean (by read make)
@@ -58,7 +58,7 @@ zstr_clean i x is text e =
     let pair : (Inline v.0.0, v.0.1) ≡ x = same_ok (Inline v.0.0, v.0.1) x v.2 in
     let t : v.0.0 ≡ text = same_text v.0.0 text (ap (λ (q : Value × Input). q.0) pair ∙ e) in
     let b = bind_some (before_zero i.rest) (λ s. Some (s, past (length s + 1) i)) v.0 v.1 in
-    let own : b.0 ≡ text = ap (λ (q : List ℕ × Input). q.0) (same_some (b.0, past (length b.0 + 1) i) v.0 b.2) ∙ t in
+    let own : b.0 ≡ text = ap (λ (q : List ℕ × Input). q.0) (same_Some (b.0, past (length b.0 + 1) i) v.0 b.2) ∙ t in
     subst HasNoZero own (before_zero_clean i.rest b.0 b.1)
 
 abbrev AllClean : List (ℕ × Reader) → Type 0
@@ -150,12 +150,8 @@ module _ (u : UnitHeader) (table : List Abbrev) (open_ : Levels) (i : Input) whe
       let c = some_ok (uleb i) TRUNCATED (λ code. null_or (eqb code.0 0 && open_.root) code) x is in
       null_or_clean (eqb c.0.0 0 && open_.root) c.0 x c.2
 
-  placed_ok : (r : Result (Token × Input) ℕ) (x : Token × Input) → at_place i.at r ≡ Ok x → r ≡ Ok x
-  placed_ok (Ok y) x is = ap {B = Result (Token × Input) ℕ} (λ (z : Token × Input). Ok z) (same_ok y x is)
-  placed_ok (Err code) x is = absurd cc
-
   read_clean : (x : Token × Input) → token_or_fault u table open_ i ≡ Ok x → CleanToken x.0
-  read_clean x is = token_clean x (placed_ok (token_at u table open_ i) x is)
+  read_clean x is = token_clean x (at_place_ok i.at (token_at u table open_ i) x is)
 
 -- ---- walks
 

@@ -1,7 +1,8 @@
 -- What is written of a file reads back.
-use Rattle.std.proofs.Common.{◌≡◌, ℕ, ◌+◌, ◌-◌, ◌<◌, ◌≤◌, Bool, true, false, ◌&&◌, not, cond, leb, List, length, map, Option, Some, None, Ok, refl, sym, ap, subst, ◌∙◌, arith}
+use Rattle.std.proofs.Common.{◌≡◌, ℕ, ◌+◌, ◌-◌, ◌<◌, ◌≤◌, Bool, true, false, ◌&&◌, not, cond, leb, List, length, map, Some, None, Ok, refl, sym, ap, subst, ◌∙◌, arith}
 use Rattle.std.specs.Prelude.{Contains, slice_get, is_some, option_map}
 use Rattle.std.proofs.lemmas.Bool.{and_parts, leb-true}
+use Rattle.common_laws.proofs.Options.{of_option_map}
 use Rattle.ix_base.specs.declared.limits.TheConstants.{MAX_FILE_BYTES}
 use Rattle.index_model.specs.declared.entry.Entry.{Entry}
 use Rattle.index_model.specs.declared.unit.Unit.{Unit as UnitHeader}
@@ -15,12 +16,12 @@ use Rattle.index_model.specs.Cache.{NameBytes, DoesNotFit, cache_of, cache_in, s
 use Rattle.index_model.specs.Entries.{entries_of}
 use Rattle.index_model.specs.NameIndex.{Indexed, indexed_entry, units_of_sort, all_indexed, name_index_bytes, name_index_strings, name_lt}
 use Rattle.index_model.specs.NameIndexRead.{NameHit, name_index}
-use Rattle.index_model.proofs.Meanings.{bind_ok, same_ok, same_some}
+use Rattle.index_model.proofs.Meanings.{bind_ok, same_ok}
 use Rattle.index_model.proofs.Pairs.{Pairs, pairs_weaker}
+use Rattle.index_model.proofs.IndexOrders.{name_order}
 use Rattle.index_alike.specs.GdbAlike.{units_in}
 use Rattle.index_alike.specs.NamesAlike.{sort_of, hit_of, LeadsTo, HitsLeadToEntries, InfoHasHits, WrittenNamesReadAlike}
-use Rattle.index_alike.proofs.NamesOrder.{Below, ascending_rises}
-use Rattle.index_alike.proofs.NamesBuckets.{name_order}
+use Rattle.index_alike.proofs.NamesOrder.{Below, ascending_pairs}
 use Rattle.index_alike.proofs.NamesTexts.{HasNoZero}
 use Rattle.index_alike.proofs.NamesParts.{strings, names as index_names}
 use Rattle.index_alike.proofs.NamesRead.{named, IsSound, index_is}
@@ -86,10 +87,6 @@ sound_in f b short is =
 
 -- ---- hits
 
-mapped : {A B : Type 0} (f : A → B) (o : Option A) (y : B) → option_map f o ≡ Some y → (x : A) × (o ≡ Some x) × (f x ≡ y)
-mapped f (Some x) y is = (x, refl, same_some (f x) y is)
-mapped f None y is = absurd cc
-
 known_in : (f : List ℕ) (b : Built) (e : Entry) → built_of f ≡ Ok b → Contains (entries_in b) e → (program_of f ≡ Ok b.program) × IsKnown b.program e
 unfolding built_of
 known_in f b e is c =
@@ -104,7 +101,7 @@ pub hits_lead_to_entries : HitsLeadToEntries
 hits_lead_to_entries f b e h built c is =
     let k = known_in f b e built c in
     let units = units_in b in
-    let m = mapped hit_of (indexed_entry units e) h is in
+    let m = of_option_map hit_of (indexed_entry units e) h is in
     let w = m.0 in
     let g = indexed_is units e w m.1 in
     let low = offset_short f b.program k.1.home k.1.item g.unit k.0 k.1.walk k.1.own (ap (slice_get units) (sym k.1.unit) ∙ g.at) g.info in
@@ -141,7 +138,7 @@ names_apart : (units : List UnitHeader) (old : ℕ) (entries : List Entry) → P
 names_apart units old entries =
     let ss = strings units old entries in
     let n : ℕ = length ss in
-    pairs_weaker (Below (name_lt n) (name_order n)) Apart (λ x y less same. (name_order n).itself y (subst (λ (w : List ℕ). name_lt n w y ≡ true) same less)) (index_names units old entries) (ascending_rises (name_lt n) (name_order n) ss)
+    pairs_weaker (Below (name_lt n) (name_order n)) Apart (λ x y less same. (name_order n).itself y (subst (λ (w : List ℕ). name_lt n w y ≡ true) same less)) (index_names units old entries) (ascending_pairs (name_lt n) (name_order n) ss)
 
 pub written_names_read_alike : WrittenNamesReadAlike
 written_names_read_alike f b names strings short built cache =

@@ -4,12 +4,12 @@ use Rattle.std.specs.Prelude.{flat_map, Contains, bytes_eq}
 use Rattle.std.proofs.lemmas.Bool.{true≢false}
 use Rattle.std.proofs.lemmas.List.{append-nil}
 use Rattle.std.proofs.lemmas.Slice.Eq.{bytes_eq-Decides}
+use Rattle.common_laws.proofs.Members.{contains_here, contains_later, contains_cases, of_filter}
 use Rattle.index_model.specs.declared.entry.Entry.{Entry}
 use Rattle.index_model.specs.declared.unit.Unit.{Unit as UnitHeader}
 use Rattle.index_model.specs.NameIndex.{Indexed}
 use Rattle.index_model.specs.NameIndexRead.{NameHit, name_index_hits}
-use Rattle.index_model.proofs.Meanings.{contains_here, contains_later, contains_cases}
-use Rattle.index_model.proofs.Pairs.{Pairs, of_filter}
+use Rattle.index_model.proofs.Pairs.{Pairs}
 use Rattle.index_alike.specs.NamesAlike.{hit_of}
 use Rattle.index_alike.proofs.NamesParts.{es, names, entry_name}
 use Rattle.index_alike.proofs.NamesRead.{own, named}

@@ -3,8 +3,9 @@ use Rattle.std.proofs.Common.{◌≡◌, ℕ, zero, suc, ◌+◌, ◌-◌, ◌<�
 use Rattle.std.specs.Prelude.{Contains, bytes_eq, filter_map, slice_get, option_map, unwrap_or, position}
 use Rattle.std.specs.List.{enumerate_from, position_or_len}
 use Rattle.std.proofs.lemmas.Bool.{lt-ltb, eqb-true}
-use Rattle.std.proofs.lemmas.Option.{slice_get-get_or}
+use Rattle.std.proofs.lemmas.Option.{slice_get-get_or, same_Some}
 use Rattle.std.proofs.lemmas.List.Elements.{Contains-get_or}
+use Rattle.common_laws.proofs.Members.{contains_here, contains_later, contains_cases, of_filter, to_filter}
 use Rattle.index_model.specs.declared.entry.Entry.{Entry}
 use Rattle.index_model.specs.declared.unit.Unit.{Unit as UnitHeader}
 use Rattle.index_model.specs.Units.{is_types}
@@ -12,8 +13,7 @@ use Rattle.index_model.specs.GdbIndex.{is_type_unit}
 use Rattle.index_model.specs.Entries.{simple_of}
 use Rattle.index_model.specs.NameIndex.{Indexed, units_of_sort, string_of_entry, indexed_entry, all_indexed}
 use Rattle.index_model.specs.NameIndexRead.{NameHit}
-use Rattle.index_model.proofs.Meanings.{bind_some, same_some, contains_here, contains_later, contains_cases}
-use Rattle.index_model.proofs.Pairs.{to_filter, of_filter}
+use Rattle.index_model.proofs.Meanings.{bind_some}
 use Rattle.index_alike.specs.NamesAlike.{stands_under, hit_of}
 use Rattle.index_alike.proofs.NamesBuckets.{first_up, first_passes}
 
@@ -32,7 +32,7 @@ pub record IsOf (units : List UnitHeader) (e : Entry) (w : Indexed) : Type 0 whe
 
 unless : {A : Type 0} (b : Bool) (x y : A) → cond b None (Some x) ≡ Some y → (b ≡ false) × (x ≡ y)
 unless true x y is = absurd cc
-unless false x y is = (refl, same_some x y is)
+unless false x y is = (refl, same_Some x y is)
 
 pub indexed_is : (units : List UnitHeader) (e : Entry) (w : Indexed) → indexed_entry units e ≡ Some w → IsOf units e w
 unfolding indexed_entry
@@ -47,7 +47,7 @@ contains_number : {A : Type 0} (n k : ℕ) (xs : List A) (x : A) → slice_get x
 contains_number n k [] x is = absurd cc
 contains_number n zero (y ∷ ys) x is =
     let none : n ≡ n + 0 = omega arith in
-    let same : y ≡ x = same_some y x is in
+    let same : y ≡ x = same_Some y x is in
     subst (Contains ((n, y) ∷ enumerate_from (n + 1) ys)) (λ i. (none i, same i)) (contains_here (n, y) (enumerate_from (n + 1) ys))
 contains_number n (suc k) (y ∷ ys) x is =
     let next : n + 1 + k ≡ n + suc k = omega arith in
@@ -97,7 +97,7 @@ unit_listed units e w h =
     let number : v.0 ≡ e.unit = eqb-true _ _ (first_passes (λ v. eqb v.0 e.unit) us (e.unit, u) within) in
     let s = contains_slice 0 units v (of_filter (is_listed types) (enumerate_from 0 units) v (Contains-get_or us first (e.unit, u) within)).0 in
     let slot : s.0 ≡ e.unit = (let at = s.1 in omega (arith, at, number)) in
-    let unit : v.1 ≡ u = same_some v.1 u (sym s.2 ∙ ap (slice_get units) slot ∙ h.at) in
+    let unit : v.1 ≡ u = same_Some v.1 u (sym s.2 ∙ ap (slice_get units) slot ∙ h.at) in
     let own : slice_get us first ≡ Some (e.unit, u) = slice_get-get_or us first (e.unit, u) within ∙ (λ i. Some (number i, unit i)) in
     let place : first ≡ (indexed_as units e u).unit = sym (ap (λ (b : Bool). unwrap_or (cond b (Some first) None) 0) (lt-ltb first (length us) within)) in
     let made : IsListed units e (indexed_as units e u) u = record { within = subst (λ (k : ℕ). k < length us) place within; at = subst (λ (k : ℕ). slice_get us k ≡ Some (e.unit, u)) place own } in

@@ -4,6 +4,8 @@ use Rattle.std.specs.Prelude.{Contains, codes, bytes_eq, flat_map, option_map, u
 use Rattle.std.specs.List.{list_all}
 use Rattle.std.proofs.lemmas.Bool.{and_parts, ltb-true, eqb-true}
 use Rattle.std.proofs.lemmas.List.Elements.{Contains-append_left, Contains-append_right}
+use Rattle.std.proofs.lemmas.Option.{cond_some, same_Some}
+use Rattle.common_laws.proofs.Members.{contains_here, contains_later, contains_cases, of_map, to_map, of_filter, of_flat_map, of_find}
 use Rattle.ix_base.specs.declared.code.TheConstants.{NAME_TOO_LONG}
 use Rattle.ix_base.specs.declared.fault.Fault.{Fault}
 use Rattle.index_model.specs.declared.entry.Entry.{Entry}
@@ -19,12 +21,10 @@ use Rattle.index_model.specs.Links.{Link, link_of, is_link_indexed, is_within_li
 use Rattle.index_model.specs.Entries.{entry_of, simple_of, may_have_linkage, linkage_entry_of, entries_of_link, entries_of}
 use Rattle.index_model.specs.NameIndex.{string_of_entry}
 use Rattle.index_model.specs.Faults.{program_of, links_of}
-use Rattle.index_model.proofs.Meanings.{bind_ok, holds_ok, same_ok, same_some, contains_here, contains_later, contains_cases}
-use Rattle.index_model.proofs.Pairs.{of_map, to_map, of_filter, of_flat_map}
-use Rattle.index_model.proofs.UnitReads.{if_some}
+use Rattle.index_model.proofs.Meanings.{bind_ok, holds_ok, same_ok}
 use Rattle.index_model.proofs.SimpleNames.{simple_name_ends}
 use Rattle.index_alike.proofs.NamesTexts.{HasNoZero}
-use Rattle.index_alike.proofs.NamesSpelled.{found, StandsIn, spelled_clean, linkage_name_clean}
+use Rattle.index_alike.proofs.NamesSpelled.{StandsIn, spelled_clean, linkage_name_clean}
 use Rattle.index_alike.proofs.NamesSimple.{tested, simple_clean}
 
 -- each result is that of an item
@@ -119,7 +119,7 @@ tag_small tag is = by (row_of tag) refl is
     by : (o : Option Row) → row_of tag ≡ o → is_some o ≡ true → tag < 128
     by None e is = absurd cc
     by (Some r) e is =
-        let f = found (λ r. eqb r.tag tag) table r e in
+        let f = of_find (λ r. eqb r.tag tag) table r e in
         let low : r.tag < 128 = ltb-true _ _ (all_at (λ r. ltb r.tag 128) table r table_small f.0) in
         let same : r.tag ≡ tag = eqb-true _ _ f.1 in
         omega (arith, low, same)
@@ -142,12 +142,12 @@ module _ (f : List ℕ) (p : Program) (program : program_of f ≡ Ok p) (k : Lin
   name_clean text is = by k.spelled h.spelled is
     where
       fixed : (b : Bool) → cond b (Some (codes "(anonymous namespace)")) None ≡ Some text → HasNoZero text
-      fixed true e = subst HasNoZero (same_some (codes "(anonymous namespace)") text e) (tested (codes "(anonymous namespace)") refl)
+      fixed true e = subst HasNoZero (same_Some (codes "(anonymous namespace)") text e) (tested (codes "(anonymous namespace)") refl)
       fixed false e = absurd cc
 
       by : (o : Option (List ℕ)) → spelled_name p k.entry k.chain ≡ Ok o → name_with k.entry o ≡ Some text → HasNoZero text
       by None e is = fixed (eqb k.entry.item.tag namespace) is
-      by (Some t) e is = subst HasNoZero (same_some t text is) (spelled_clean f p program k.entry k.chain t (stands_in p k h) h.chain e)
+      by (Some t) e is = subst HasNoZero (same_Some t text is) (spelled_clean f p program k.entry k.chain t (stands_in p k h) h.chain e)
 
   simple_is_clean : HasNoZero (simple_of (entry_of k))
   simple_is_clean = subst HasNoZero (sym (simple_name_ends k)) (by (name_in k) refl)
@@ -178,7 +178,7 @@ module _ (f : List ℕ) (p : Program) (program : program_of f ≡ Ok p) (k : Lin
   unfolding linkage_entry_of
   linkage_known None e name is = absurd cc
   linkage_known (Some text) e name is =
-      let i = if_some (may_have_linkage (entry_of k).tag && not (bytes_eq text (entry_of k).name)) (linkage_made text) e is in
+      let i = cond_some (may_have_linkage (entry_of k).tag && not (bytes_eq text (entry_of k).name)) (linkage_made text) e is in
       let own = own_known in
       subst (IsKnown p) i.1 (record {
         name = linkage_name_clean f p program k.entry k.chain text (stands_in p k h) h.chain name;

@@ -1,11 +1,11 @@
 -- Numbers that were written read back.
 use Rattle.std.proofs.Common.{◌≡◌, ℕ, zero, suc, ◌+◌, ◌-◌, ◌*◌, ◌/◌, ◌%◌, ◌^◌, ◌<◌, ◌≤◌, true, leb, ltb, List, [], ◌∷◌, ◌++◌, length, take, drop, Some, refl, sym, ap, ◌∙◌, subst, inl, inr, arith, lit≤, length-append, append_assoc}
 use Rattle.std.specs.Prelude.{All, flat_map, Option}
-use native.Mathlib.Numerals.{unary_clauses}
 use Rattle.std.proofs.lemmas.Bool.{lt-ltb, le-ltb, le-leb, cases_lt}
 use Rattle.std.proofs.Math.Seq.{drop-append_seam}
 use Rattle.std.proofs.lemmas.List.{take-append-le, take_all}
 use Rattle.std.proofs.lemmas.List.Elements.{All-tail}
+use Rattle.std.proofs.Math.Nat.{pow-suc}
 use Rattle.byteorder.specs.Endian.{little_number}
 use Rattle.byteorder.specs.Numbers.{little_number-reads_back}
 use Rattle.ix_base.specs.Reading.{Input, number, part, past, unsigned_leb, uleb}
@@ -59,9 +59,6 @@ numbers_4 at (x ∷ xs) tail all =
 
 -- ---- LEB numbers
 
-more : (p : ℕ) → 128 ^ suc p ≡ 128 ^ p * 128
-more p = simp unary_clauses
-
 leb_last : (most n : ℕ) → n < 128 → uleb_in (suc most) n ≡ n ∷ []
 unfolding uleb_in
 leb_last most n lt = rw (lt-ltb n 128 lt) refl
@@ -90,7 +87,7 @@ leb_is zero n tail lt =
 leb_is (suc most) n tail lt = elim (cases_lt n 128) [
   | inl low ↦ subst (λ (w : List ℕ). Reads w n tail) (sym (leb_last (suc most) n low)) (one_byte n tail low)
   | inr high ↦
-      let p = more (suc most) in
+      let p = pow-suc 128 (suc most) in
       let bytes : List ℕ = uleb_in (suc most) (n / 128) in
       let rest = leb_is most (n / 128) tail (omega (arith, p)) in
       let whole = one_more (n % 128 + 128) (n / 128) (length bytes) (bytes ++ tail) (omega arith) rest in

@@ -7,24 +7,23 @@ use Rattle.std.proofs.lemmas.List.Elements.{All-map, Contains-get_or}
 use Rattle.std.proofs.lemmas.List.Folds.{flat_map-map}
 use Rattle.std.proofs.lemmas.List.FromFn.{length-map-range_with_len, length-range_with_len, get_or-range_with_len}
 use Rattle.std.proofs.lemmas.Slice.Eq.{bytes_eq-Decides}
+use Rattle.common_laws.proofs.Members.{of_map, to_map}
+use Rattle.common_laws.proofs.Lists.{length_of_fours}
 use Rattle.index_model.specs.declared.entry.Entry.{Entry}
 use Rattle.index_model.specs.declared.unit.Unit.{Unit as UnitHeader}
 use Rattle.index_model.specs.Hashes.{name_hash}
 use Rattle.index_model.specs.Layout.{below, u16_bytes, u32_bytes, ended, start_of}
 use Rattle.index_model.specs.Ordered.{bytes_lt, place_of}
 use Rattle.index_model.specs.NameIndex.{Indexed, Row, units_of_sort, unit_offsets, all_indexed, names_in, name_index_strings, name_index_bytes, in_index_order, name_lt, bucket, rows_of, group, abbreviation_bytes, abbreviation_table, string_offset}
-use Rattle.index_model.proofs.Pairs.{of_map, to_map}
+use Rattle.index_model.proofs.IndexOrders.{name_order}
 use Rattle.index_alike.proofs.NamesHeader.{Parts, counts_in, body_of, AreParts}
 use Rattle.index_alike.proofs.NamesAbbreviations.{rows_short}
-use Rattle.index_alike.proofs.NamesOrder.{bytes_order, place_stands, ascending_has, ascending_only}
+use Rattle.index_model.proofs.Orders.{bytes_order, ascending_has, ascending_only}
+use Rattle.index_alike.proofs.NamesOrder.{place_stands}
 use Rattle.index_alike.proofs.NamesEntries.{begins_at}
-use Rattle.index_alike.proofs.NamesBuckets.{name_order, bucket_low, hash_fits}
+use Rattle.index_alike.proofs.NamesBuckets.{bucket_low, hash_fits}
 
 -- ---- sizes
-
-four_each : {X : Type 0} (f : X → List ℕ) (xs : List X) → ((x : X) → length (f x) ≡ 4) → length (flat_map f xs) ≡ length xs * 4
-four_each f [] four = refl
-four_each f (x ∷ xs) four = omega (arith, four_each f xs four, length-append (f x) (flat_map f xs), four x)
 
 pub all_below : (n : ℕ) (f : ℕ → ℕ) (P : ℕ → Type 0) → ((k : ℕ) → k < n → P (f k)) → All P (map f (below n))
 all_below n f P each k d lt =
@@ -90,12 +89,12 @@ module _ (units : List UnitHeader) (old : ℕ) (entries : List Entry) where
       let p : Parts = parts in
       let whole = ten (u16_bytes 5) (u16_bytes 0) (flat_map u32_bytes (counts_in p)) p.lists (flat_map u32_bytes p.buckets) (flat_map u32_bytes p.hashes) (flat_map u32_bytes p.strings) (flat_map u32_bytes p.entries) p.table p.pool in
       let lists = length-append (unit_offsets false units) (unit_offsets true units) in
-      let cus = four_each (λ (u : ℕ × UnitHeader). u32_bytes u.1.start) (units_of_sort false units) (λ u. refl) in
-      let local = four_each (λ (u : ℕ × UnitHeader). u32_bytes u.1.start) (units_of_sort true units) (λ u. refl) in
-      let buckets = four_each u32_bytes p.buckets (λ x. refl) in
-      let hashes = four_each u32_bytes p.hashes (λ x. refl) in
-      let texts = four_each u32_bytes p.strings (λ x. refl) in
-      let places = four_each u32_bytes p.entries (λ x. refl) in
+      let cus = length_of_fours (λ (u : ℕ × UnitHeader). u32_bytes u.1.start) (units_of_sort false units) (λ u. refl) in
+      let local = length_of_fours (λ (u : ℕ × UnitHeader). u32_bytes u.1.start) (units_of_sort true units) (λ u. refl) in
+      let buckets = length_of_fours u32_bytes p.buckets (λ x. refl) in
+      let hashes = length_of_fours u32_bytes p.hashes (λ x. refl) in
+      let texts = length_of_fours u32_bytes p.strings (λ x. refl) in
+      let places = length_of_fours u32_bytes p.entries (λ x. refl) in
       let b : length p.buckets ≡ n = length-map-range_with_len (bucket names) 0 n in
       let h : length p.hashes ≡ n = length-map names name_hash in
       let s : length p.strings ≡ n = length-map names (string_offset old strings) in
@@ -158,8 +157,8 @@ module _ (units : List UnitHeader) (old : ℕ) (entries : List Entry) where
         let size = body_size in
         let low = body_short in
         let lists = length-append (unit_offsets false units) (unit_offsets true units) in
-        let cus = four_each (λ (u : ℕ × UnitHeader). u32_bytes u.1.start) (units_of_sort false units) (λ u. refl) in
-        let local = four_each (λ (u : ℕ × UnitHeader). u32_bytes u.1.start) (units_of_sort true units) (λ u. refl) in
+        let cus = length_of_fours (λ (u : ℕ × UnitHeader). u32_bytes u.1.start) (units_of_sort false units) (λ u. refl) in
+        let local = length_of_fours (λ (u : ℕ × UnitHeader). u32_bytes u.1.start) (units_of_sort true units) (λ u. refl) in
         record {
           lists = omega (arith, lists, cus, local);
           buckets = length-map-range_with_len (bucket names) 0 n;

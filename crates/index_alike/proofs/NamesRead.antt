@@ -7,6 +7,7 @@ use Rattle.std.proofs.lemmas.List.{length-map, get_or-map, get_or_default}
 use Rattle.std.proofs.lemmas.List.Elements.{Contains-get_or, All-tail}
 use Rattle.std.proofs.lemmas.List.FromFn.{get_or-map-range_with_len, length-range_with_len, get_or-range_with_len}
 use Rattle.std.proofs.lemmas.Option.{unwrap_or-slice_get}
+use Rattle.common_laws.proofs.Members.{of_filter}
 use Rattle.ix_base.specs.declared.fault.Fault.{Fault}
 use Rattle.index_model.specs.declared.entry.Entry.{Entry}
 use Rattle.index_model.specs.declared.unit.Unit.{Unit as UnitHeader}
@@ -18,15 +19,17 @@ use Rattle.index_model.specs.NameTables.{Tables}
 use Rattle.index_model.specs.NameHeader.{tables}
 use Rattle.index_model.specs.NameIndexRead.{NameHit, Name, string_of, is_hashed, entries_at, entries_of_name, name_at, is_bucket, name_index}
 use Rattle.index_model.specs.Ordered.{bytes_lt}
-use Rattle.index_model.proofs.Pairs.{of_filter, Pairs, pairs_weaker}
+use Rattle.index_model.proofs.Pairs.{Pairs, pairs_weaker}
+use Rattle.index_model.proofs.IndexOrders.{name_order}
 use Rattle.index_alike.specs.NamesAlike.{hit_of}
 use Rattle.index_alike.proofs.NamesNumbers.{from}
 use Rattle.index_alike.proofs.NamesHeader.{tables_in, tables_are}
 use Rattle.index_alike.proofs.NamesAbbreviations.{table_is}
-use Rattle.index_alike.proofs.NamesOrder.{Below, bytes_order, ascending_rises, ascending_size}
+use Rattle.index_model.proofs.Orders.{bytes_order}
+use Rattle.index_alike.proofs.NamesOrder.{Below, ascending_pairs, ascending_size}
 use Rattle.index_alike.proofs.NamesRows.{row_stands, rows_fit}
 use Rattle.index_alike.proofs.NamesEntries.{unit_count, Fits, abbrevs, entries_are, entries_short, BeginsAt, begins_at}
-use Rattle.index_alike.proofs.NamesBuckets.{name_order, bucket_low, hashed_is}
+use Rattle.index_alike.proofs.NamesBuckets.{bucket_low, hashed_is}
 use Rattle.index_alike.proofs.NamesTexts.{HasNoZero, string_is}
 use Rattle.index_alike.proofs.NamesParts.{es, rows, strings, names, groups, parts, bytes_are, name_string, string_entry, few_rows, are_parts, strings_are, all_below}
 
@@ -146,9 +149,9 @@ module _ (units : List UnitHeader) (old : ℕ) (entries : List Entry) where
     names_rise : Pairs (Below (name_lt (length ns)) (name_order (length ns))) ns
     names_rise =
         let ss = strings units old entries in
-        let apart = pairs_weaker (Below bytes_lt bytes_order) (λ x y. x ≡ y → ⊥) (λ x y less same. bytes_order.itself y (subst (λ (w : List ℕ). bytes_lt w y ≡ true) same less)) ss (ascending_rises bytes_lt bytes_order (map (λ (e : Indexed). e.name) (es units old entries))) in
+        let apart = pairs_weaker (Below bytes_lt bytes_order) (λ x y. x ≡ y → ⊥) (λ x y less same. bytes_order.itself y (subst (λ (w : List ℕ). bytes_lt w y ≡ true) same less)) ss (ascending_pairs bytes_lt bytes_order (map (λ (e : Indexed). e.name) (es units old entries))) in
         let size : length ns ≡ length ss = ascending_size (name_lt (length ss)) (name_order (length ss)) ss apart in
-        subst (λ (k : ℕ). Pairs (Below (name_lt k) (name_order k)) ns) (sym size) (ascending_rises (name_lt (length ss)) (name_order (length ss)) ss)
+        subst (λ (k : ℕ). Pairs (Below (name_lt k) (name_order k)) ns) (sym size) (ascending_pairs (name_lt (length ss)) (name_order (length ss)) ss)
 
     -- the name at a place
     name_is : (k : ℕ) → k < length ns → name_at t kinds (name_index_strings units entries) old k ≡ Ok (named (get_or ns k []))

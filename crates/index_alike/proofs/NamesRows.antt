@@ -1,50 +1,15 @@
 -- The rows of the abbreviations.
-use Rattle.std.proofs.Common.{◌≡◌, ℕ, ◌<◌, Bool, true, false, cond, List, [], ◌∷◌, get_or, map, refl, subst, arith}
-use Rattle.std.specs.Prelude.{Contains, nat_lt, nat_eq}
-use mathlib.Core.Bool.{not, ◌&&◌, ◌||◌}
+use Rattle.std.proofs.Common.{◌≡◌, ◌<◌, Bool, true, false, List, get_or, map, refl, subst}
+use Rattle.std.specs.Prelude.{Contains}
+use mathlib.Core.Bool.{not, ◌&&◌}
 use Rattle.std.proofs.lemmas.List.Elements.{Contains-get_or}
+use Rattle.common_laws.proofs.Members.{of_map, to_map}
 use Rattle.index_model.specs.NameIndex.{Indexed, Row, row_of, row_lt, row_eq, rows_of}
-use Rattle.index_model.specs.Ordered.{bytes_lt, place_of}
-use Rattle.index_model.proofs.Pairs.{of_map, to_map}
+use Rattle.index_model.specs.Ordered.{place_of}
+use Rattle.index_model.proofs.IndexOrders.{row_order}
 use Rattle.index_alike.proofs.NamesAbbreviations.{TagsFit}
-use Rattle.index_alike.proofs.NamesOrder.{IsOrder, order_by, ascending_has, ascending_only, StandsAt, place_stands}
-
--- ---- their order
-
-abbrev bit : Bool → ℕ
-bit b = cond b 1 0
-
-abbrev row_key : Row → List ℕ
-row_key r = r.0 ∷ bit r.1 ∷ []
-
-one_bit : (a b : Bool) → bit a ≡ bit b → a ≡ b
-one_bit true true e = refl
-one_bit false false e = refl
-one_bit true false e = absurd (omega arith)
-one_bit false true e = absurd (omega arith)
-
-one_row : (a b : Row) → row_key a ≡ row_key b → a ≡ b
-one_row a b e =
-    let tag : a.0 ≡ b.0 = cc in
-    let types : a.1 ≡ b.1 = one_bit a.1 b.1 (cc) in
-    λ i. (tag i, types i)
-
-by_tags : (l e p q : Bool) → (l || ((e && not p) && q)) ≡ (l || (e && (nat_lt (bit p) (bit q) || (nat_eq (bit p) (bit q) && false))))
-by_tags l true true true = refl
-by_tags l true true false = refl
-by_tags l true false true = refl
-by_tags l true false false = refl
-by_tags l false true true = refl
-by_tags l false true false = refl
-by_tags l false false true = refl
-by_tags l false false false = refl
-
-row_by_key : (a b : Row) → row_lt a b ≡ bytes_lt (row_key a) (row_key b)
-unfolding bytes_lt
-row_by_key a b = by_tags (nat_lt a.0 b.0) (nat_eq a.0 b.0) a.1 b.1
-
-pub row_order : IsOrder row_lt
-row_order = order_by row_lt row_key one_row row_by_key
+use Rattle.index_model.proofs.Orders.{ascending_has, ascending_only}
+use Rattle.index_alike.proofs.NamesOrder.{StandsAt, place_stands}
 
 -- ---- their places
 

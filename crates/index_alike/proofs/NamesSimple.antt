@@ -2,7 +2,7 @@
 use Rattle.std.proofs.Common.{◌≡◌, ℕ, zero, suc, Bool, true, false, cond, eqb, List, [], ◌∷◌, refl, ap, arith}
 use Rattle.std.specs.List.{list_all, onto_first}
 use mathlib.Core.Bool.{not, ◌&&◌}
-use Rattle.std.proofs.lemmas.Bool.{and_parts}
+use Rattle.std.proofs.lemmas.Bool.{and_parts, not-true, and_from}
 use Rattle.std.proofs.lemmas.Bool.Decides.{nat_tests}
 use Rattle.index_model.specs.declared.rules.Class.{Class}
 use Rattle.index_model.specs.declared.rules.Class.TheVariants.{C, Cxx, Ada, Plain}
@@ -14,14 +14,10 @@ use Rattle.index_alike.proofs.NamesTexts.{HasNoZero}
 abbrev pub some_byte : ℕ → Bool
 some_byte b = not (eqb b 0)
 
-flip : (b : Bool) → not b ≡ true → b ≡ false
-flip true e = absurd cc
-flip false e = refl
-
 -- no byte is zero, as a test
 pub tested : (text : List ℕ) → list_all some_byte text ≡ true → HasNoZero text
 tested [] e k d lt = absurd (omega arith)
-tested (b ∷ text) e zero d lt = flip (eqb b 0) (and_parts (some_byte b) (list_all some_byte text) e).0
+tested (b ∷ text) e zero d lt = not-true (eqb b 0) (and_parts (some_byte b) (list_all some_byte text) e).0
 tested (b ∷ text) e (suc k) d lt = tested text (and_parts (some_byte b) (list_all some_byte text) e).1 k d (omega arith)
 
 -- ---- pieces
@@ -29,19 +25,16 @@ tested (b ∷ text) e (suc k) d lt = tested text (and_parts (some_byte b) (list_
 abbrev all_some : List (List ℕ) → Bool
 all_some ps = list_all (λ piece. list_all some_byte piece) ps
 
-both : (a b : Bool) → a ≡ true → b ≡ true → (a && b) ≡ true
-both a b e f = rw (e, f) refl
-
 onto_some : (b : ℕ) (ps : List (List ℕ)) → some_byte b ≡ true → all_some ps ≡ true → all_some (onto_first b ps) ≡ true
 onto_some b [] own all = rw own refl
 onto_some b (p ∷ ps) own all =
     let q = and_parts (list_all some_byte p) (all_some ps) all in
-    both (some_byte b && list_all some_byte p) (all_some ps) (both (some_byte b) (list_all some_byte p) own q.0) q.1
+    and_from (some_byte b && list_all some_byte p) (all_some ps) (and_from (some_byte b) (list_all some_byte p) own q.0) q.1
 
 pieces_some : (text : List ℕ) → list_all some_byte text ≡ true → all_some (pieces text) ≡ true
 unfolding pieces
 pieces_some [] e = refl
-pieces_some (a ∷ []) e = both (list_all some_byte (a ∷ [])) true e refl
+pieces_some (a ∷ []) e = and_from (list_all some_byte (a ∷ [])) true e refl
 pieces_some (a ∷ b ∷ bs) e =
     let p = and_parts (some_byte a) (list_all some_byte (b ∷ bs)) e in
     let q = and_parts (some_byte b) (list_all some_byte bs) p.1 in
@@ -64,7 +57,7 @@ good_some (suc b) e = let some : eqb (suc b) 0 ≡ false = grind (arith, nat_tes
 
 all_good : (text : List ℕ) → list_all is_good_byte text ≡ true → list_all some_byte text ≡ true
 all_good [] e = refl
-all_good (b ∷ text) e = let p = and_parts (is_good_byte b) (list_all is_good_byte text) e in both (some_byte b) (list_all some_byte text) (good_some b p.0) (all_good text p.1)
+all_good (b ∷ text) e = let p = and_parts (is_good_byte b) (list_all is_good_byte text) e in and_from (some_byte b) (list_all some_byte text) (good_some b p.0) (all_good text p.1)
 
 decoded_clean : (name : List ℕ) → HasNoZero name → HasNoZero (decoded_simple name)
 unfolding decoded_simple is_coded

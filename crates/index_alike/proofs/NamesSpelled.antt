@@ -1,8 +1,11 @@
 -- No name that a file spells has a zero.
-use Rattle.std.proofs.Common.{◌≡◌, ℕ, zero, suc, Bool, true, false, cond, eqb, List, [], ◌∷◌, length, drop, find, Option, Some, None, Result, Ok, Err, refl, sym, ap, subst, ◌∙◌, arith, ⊎_elim, leb}
+use Rattle.std.proofs.Common.{◌≡◌, ℕ, zero, suc, Bool, true, eqb, List, [], ◌∷◌, length, drop, find, Option, Some, None, Result, Ok, Err, refl, ap, subst, ◌∙◌, arith, ⊎_elim, leb}
+use Rattle.std.proofs.lemmas.Option.{same_Some}
 use Rattle.std.specs.Prelude.{Contains, filter_map, flat_map, codes, option_and_then}
-use Rattle.std.specs.Option.{option_or, option_map}
+use Rattle.std.specs.Option.{option_or}
 use mathlib.Core.Bool.{◌&&◌}
+use Rattle.common_laws.proofs.Members.{contains_here, contains_later, contains_cases, of_map, of_flat_map, of_find}
+use Rattle.common_laws.proofs.Options.{of_option_map}
 use Rattle.ix_base.specs.declared.code.TheConstants.{BAD_STRING, NAME_TOO_LONG, BAD_REFERENCE, REFERENCE_CHAIN}
 use Rattle.ix_base.specs.declared.limits.TheConstants.{MAX_STRING, MAX_CHAIN_HOPS}
 use Rattle.ix_base.specs.Reading.{before_zero}
@@ -16,9 +19,9 @@ use Rattle.index_model.specs.Strings.{unless_empty, bounded, string_at, str, str
 use Rattle.index_model.specs.References.{target_of, entry_named}
 use Rattle.index_model.specs.Chains.{first, next_of, hop, hops_from, chain_of, linkage_name_of, is_type_unit, name_signed, name_by_signature, spelled_name}
 use Rattle.index_model.specs.Faults.{program_of}
-use Rattle.index_model.proofs.Meanings.{bind_ok, then_ok, some_ok, same_some, same_ok, contains_here, contains_later, contains_cases}
-use Rattle.index_model.proofs.Pairs.{of_map, of_flat_map}
+use Rattle.index_model.proofs.Meanings.{bind_ok, then_ok, some_ok, same_ok}
 use Rattle.index_model.proofs.UnitsApart.{program_apart}
+use Rattle.index_model.proofs.Located.{at_home}
 use Rattle.index_alike.proofs.NamesTexts.{HasNoZero}
 use Rattle.index_alike.proofs.NamesClean.{before_zero_clean, CleanTexts, items_clean}
 
@@ -30,7 +33,7 @@ CleanValue v = (text : List ℕ) → v ≡ Inline text → HasNoZero text
 
 not_empty : (s text : List ℕ) → unless_empty s ≡ Some text → s ≡ text
 not_empty [] text is = absurd cc
-not_empty (b ∷ s) text is = same_some (b ∷ s) text is
+not_empty (b ∷ s) text is = same_Some (b ∷ s) text is
 
 bounded_is : (s text : List ℕ) → bounded s ≡ Ok (Some text) → s ≡ text
 unfolding bounded
@@ -64,10 +67,10 @@ module _ (ss : List Section) (base : Option ℕ) (wide : Bool) (text : List ℕ)
   text_clean (Block s) own is = absurd cc
 
 as_text_is : (v w : Value) → as_text v ≡ Some w → v ≡ w
-as_text_is (Inline s) w is = same_some (Inline s) w is
-as_text_is (Str o) w is = same_some (Str o) w is
-as_text_is (LineStr o) w is = same_some (LineStr o) w is
-as_text_is (StrIndex n) w is = same_some (StrIndex n) w is
+as_text_is (Inline s) w is = same_Some (Inline s) w is
+as_text_is (Str o) w is = same_Some (Str o) w is
+as_text_is (LineStr o) w is = same_Some (LineStr o) w is
+as_text_is (StrIndex n) w is = same_Some (StrIndex n) w is
 as_text_is (Addr n) w is = absurd cc
 as_text_is (Unsigned n) w is = absurd cc
 as_text_is (AddrIndex n) w is = absurd cc
@@ -84,19 +87,6 @@ as_text_is (Block s) w is = absurd cc
 
 -- ---- texts of entries
 
--- what is found is a member that passes
-pub found : {A : Type 0} (p : A → Bool) (xs : List A) (y : A) → find p xs ≡ Some y → Contains xs y × (p y ≡ true)
-found p [] y is = absurd cc
-found {A = A} p (x ∷ xs) y is =
-    elim (p x) as (λ b. p x ≡ b → cond b (Some x) (find p xs) ≡ Some y → Contains (x ∷ xs) y × (p y ≡ true)) [
-      | true ↦ λ on e. let s = same_some x y e in (subst (Contains (x ∷ xs)) s (contains_here x xs), ap p (sym s) ∙ on)
-      | false ↦ λ off e. let r = found p xs y e in (contains_later x xs y r.0, r.1)
-    ] refl is
-
-mapped : {A B : Type 0} (f : A → B) (o : Option A) (y : B) → option_map f o ≡ Some y → (x : A) × (o ≡ Some x) × (f x ≡ y)
-mapped f (Some x) y is = (x, refl, same_some (f x) y is)
-mapped f None y is = absurd cc
-
 followed_by : {A B : Type 0} (f : A → Option B) (o : Option A) (y : B) → option_and_then f o ≡ Some y → (x : A) × (o ≡ Some x) × (f x ≡ Some y)
 followed_by f (Some x) y is = (x, refl, is)
 followed_by f None y is = absurd cc
@@ -104,18 +94,18 @@ followed_by f None y is = absurd cc
 read_clean : (d : Item) (n : ℕ) (w : Value) → CleanTexts d.values → read_as as_text n d ≡ Some w → CleanValue w
 read_clean d n w all is text e =
     let a = followed_by as_text (attribute n d) w is in
-    let f = mapped (λ (x : ℕ × Value). x.1) (find (λ x. eqb x.0 n) d.values) a.0 a.1 in
-    let m = found (λ x. eqb x.0 n) d.values f.0 f.1 in
+    let f = of_option_map (λ (x : ℕ × Value). x.1) (find (λ x. eqb x.0 n) d.values) a.0 a.1 in
+    let m = of_find (λ x. eqb x.0 n) d.values f.0 f.1 in
     let value : f.0.1 ≡ Inline text = f.2 ∙ as_text_is a.0 w a.2 ∙ e in
     let same : f.0 ≡ (f.0.0, Inline text) = ap (λ (y : Value). let x : ℕ × Value = (f.0.0, y) in x) value in
     all f.0.0 text (subst (Contains d.values) same m.0)
 
 either : (d : Item) (a b : Option Value) (w : Value) → option_or a b ≡ Some w → ((v : Value) → a ≡ Some v → CleanValue v) → ((v : Value) → b ≡ Some v → CleanValue v) → CleanValue w
-either d (Some v) b w is first second = subst CleanValue (same_some v w is) (first v refl)
+either d (Some v) b w is first second = subst CleanValue (same_Some v w is) (first v refl)
 either d None b w is first second = second w is
 
 text_given : (r : Result (Option (List ℕ)) ℕ) (text : List ℕ) → some_text (value_of r) ≡ Some text → r ≡ Ok (Some text)
-text_given (Ok (Some t)) text is = ap {B = Result (Option (List ℕ)) ℕ} (λ (x : List ℕ). Ok (Some x)) (same_some t text is)
+text_given (Ok (Some t)) text is = ap {B = Result (Option (List ℕ)) ℕ} (λ (x : List ℕ). Ok (Some x)) (same_Some t text is)
 text_given (Ok None) text is = absurd cc
 text_given (Err e) text is = absurd cc
 
@@ -139,9 +129,6 @@ linkage_clean ss d text all is =
 abbrev pub StandsIn : Program → Located → Type 0
 StandsIn p d = Contains (flat_map located p.walks) d
 
-abbrev at_home : Walked → Item → Located
-at_home w d = record { home = w; item = d }
-
 module _ (f : List ℕ) (p : Program) (program : program_of f ≡ Ok p) where
   -- so its texts have no zero
   pub entry_clean : (d : Located) → StandsIn p d → CleanTexts d.item.values
@@ -156,7 +143,7 @@ module _ (f : List ℕ) (p : Program) (program : program_of f ≡ Ok p) where
   named_in w r d is =
       let o = given_by (option_and_then (item_with_offset p) (target_of p.sections w r)) d is in
       let t = followed_by (item_with_offset p) (target_of p.sections w r) d o in
-      (found (λ (x : Located). eqb x.item.at t.0) (flat_map located p.walks) d t.2).0
+      (of_find (λ (x : Located). eqb x.item.at t.0) (flat_map located p.walks) d t.2).0
     where
       given_by : (o : Option Located) (d : Located) → some_or o BAD_REFERENCE ≡ Ok d → o ≡ Some d
       given_by (Some x) d is = ap (λ (y : Located). Some y) (same_ok x d is)
@@ -170,7 +157,7 @@ module _ (f : List ℕ) (p : Program) (program : program_of f ≡ Ok p) where
       by None is = absurd cc
       by (Some r) is =
           let t = bind_ok (entry_named p d.home r) (λ target. Ok (Some target)) (Some e) is in
-          named_in d.home r e (t.1 ∙ ap {B = Result Located ℕ} (λ (x : Located). Ok x) (same_some t.0 e (same_ok (Some t.0) (Some e) t.2)))
+          named_in d.home r e (t.1 ∙ ap {B = Result Located ℕ} (λ (x : Located). Ok x) (same_Some t.0 e (same_ok (Some t.0) (Some e) t.2)))
 
   AllIn : List Located → Type 0
   AllIn ds = (d : Located) → Contains ds d → StandsIn p d
@@ -217,7 +204,7 @@ module _ (f : List ℕ) (p : Program) (program : program_of f ≡ Ok p) where
     where
       by : (o : Option (List ℕ)) → text_by d ≡ o → first (filter_map text_by (d ∷ ds)) ≡ Some text → (first (filter_map text_by ds) ≡ Some text → HasNoZero text) → HasNoZero text
       by None e is rest = rest (rw e at is)
-      by (Some t) e is rest = let g : Some t ≡ Some text = rw e at is in subst HasNoZero (same_some t text g) (own d t (all d (contains_here d ds)) e)
+      by (Some t) e is rest = let g : Some t ≡ Some text = rw e at is in subst HasNoZero (same_Some t text g) (own d t (all d (contains_here d ds)) e)
 
   pub linkage_name_clean : (d : Located) (chain : List Located) (text : List ℕ) → StandsIn p d → chain_of p d ≡ Ok chain → linkage_name_of p chain ≡ Some text → HasNoZero text
   unfolding linkage_name_of
@@ -249,5 +236,5 @@ module _ (f : List ℕ) (p : Program) (program : program_of f ≡ Ok p) where
       by : (o : Option (List ℕ)) → first (filter_map (own_name p.sections) chain) ≡ o → some_else o (name_by_signature p d) ≡ Ok (Some text) → HasNoZero text
       by None e is = by_signature_clean d text is
       by (Some t) e is =
-          let same : t ≡ text = same_some t text (same_ok (Some t) (Some text) is) in
+          let same : t ≡ text = same_Some t text (same_ok (Some t) (Some text) is) in
           first_clean (own_name p.sections) (λ x s c h. name_clean p.sections x s (entry_clean x c) h) chain text (chain_in d chain own chained) (e ∙ ap (λ (x : List ℕ). Some x) same)

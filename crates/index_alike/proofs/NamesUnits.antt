@@ -3,7 +3,8 @@ use Rattle.std.proofs.Common.{◌≡◌, ℕ, suc, ◌+◌, ◌-◌, ◌<◌, �
 use Rattle.std.specs.Prelude.{Contains, codes, bytes_eq, slice_get, option_map, unwrap_or}
 use Rattle.std.proofs.lemmas.Bool.{true≢false}
 use Rattle.std.proofs.lemmas.List.Elements.{Contains-append_cases}
-use Rattle.std.proofs.lemmas.Option.{slice_get-map}
+use Rattle.std.proofs.lemmas.Option.{slice_get-map, same_Some}
+use Rattle.common_laws.proofs.Members.{contains_here, contains_later, contains_cases, of_find}
 use Rattle.ix_base.specs.declared.fault.Fault.{Fault}
 use Rattle.ix_base.specs.declared.code.TheConstants.{SECTION_TABLE, NO_DEBUG_INFO}
 use Rattle.ix_base.specs.Reading.{Input, input, before_zero}
@@ -17,13 +18,12 @@ use Rattle.index_model.specs.Units.{is_types, next_unit, units_of}
 use Rattle.index_model.specs.Walk.{Item}
 use Rattle.index_model.specs.Program.{Walked, Program, walked, items_of}
 use Rattle.index_model.specs.Faults.{program_of}
-use Rattle.index_model.proofs.Meanings.{bind_ok, then_ok, holds_ok, some_ok, same_ok, same_some, contains_here, contains_later, contains_cases}
+use Rattle.index_model.proofs.Meanings.{bind_ok, then_ok, holds_ok, some_ok, same_ok}
 use Rattle.index_model.proofs.Scans.{AreScans, scanned_walked, program_parts}
 use Rattle.index_model.proofs.UnitReads.{unit_takes}
 use Rattle.index_model.proofs.UnitTilingLaws.{units_tile}
 use Rattle.index_model.proofs.UnitsApart.{walk_parts}
 use Rattle.index_model.proofs.OrderLaws.{walks_in_order}
-use Rattle.index_alike.proofs.NamesSpelled.{found}
 
 -- ---- sections
 
@@ -78,7 +78,7 @@ module _ (f : List ℕ) where
     where
       by : (o : Option Section) → find (λ s. bytes_eq s.name name) ss ≡ o → length (unwrap_or (option_map (λ s. s.content) o) []) ≤ length f
       by None e = omega arith
-      by (Some s) e = all_short ss is s (found (λ s. bytes_eq s.name name) ss s e).0
+      by (Some s) e = all_short ss is s (of_find (λ s. bytes_eq s.name name) ss s e).0
 
 -- ---- units
 
@@ -148,7 +148,7 @@ pub offset_short : (f : List ℕ) (p : Program) (w : Walked) (d : Item) (u : Uni
 offset_short f p w d u program c dc at info =
     let parts = program_parts f p program in
     let h = numbered p.sections 0 parts.0 p.walks w parts.3 c in
-    let same : w.unit ≡ u = same_some w.unit u (sym (unit_at f p w program c) ∙ at) in
+    let same : w.unit ≡ u = same_Some w.unit u (sym (unit_at f p w program c) ∙ at) in
     let inside = (walks_in_order p.sections h.walk.0 w h.walk.1).inside d dc in
     let begins = inside.begins in
     let some = inside.some in

@@ -2,6 +2,7 @@
 pub mod LookTexts
 pub mod Says
 pub mod Limits
+pub mod Parts
 pub mod ElfFaults
 pub mod SectionTableFaults
 pub mod DebugSectionFaults
