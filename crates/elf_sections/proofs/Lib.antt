@@ -1,5 +1,0 @@
-pub mod Tables
-pub mod Named
-pub mod Fronts
-pub mod CompressedLaws
-pub mod Opened

@@ -1,7 +1,0 @@
-use Rattle.std.proofs.Common.{◌∙◌}
-use Rattle.elf_sections.specs.Headers.{header_of}
-use Rattle.elf_sections.proofs.Tables.{header_in_table, names_elsewhere}
-use Rattle.elf_sections.proofs.table.names_section.Goals as goal
-
-pub returns : goal.returns
-returns c = names_elsewhere c.args.file.now c.args.index (header_of c.header_in.result) c.content.result c.requires.index c.if-index-eq0.false (c.header_in.ensures ∙ header_in_table c.args.file.now c.args.headers.now c.args.index c.requires.headers) c.content.ensures

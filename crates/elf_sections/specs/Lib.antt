@@ -1,3 +1,0 @@
-pub mod Headers
-pub mod Found
-pub mod Front

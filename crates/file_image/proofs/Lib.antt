@@ -1,0 +1,9 @@
+pub mod Tables
+pub mod Named
+pub mod Fronts
+pub mod CompressedLaws
+pub mod Opened
+pub mod Loops
+pub mod InsideLaws
+pub mod Both
+pub mod Images

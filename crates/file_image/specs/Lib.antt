@@ -1,0 +1,6 @@
+pub mod Headers
+pub mod Found
+pub mod Front
+pub mod Heads
+pub mod Images
+pub mod Inside

@@ -1,5 +1,0 @@
-pub mod UnitLaws
-pub mod Loops
-pub mod InsideLaws
-pub mod Both
-pub mod Images
