@@ -17,17 +17,3 @@ pub fn class(language: u16) -> Class
         _ => Class::Plain,
     }
 }
-
-#[cfg(test)]
-mod tests {
-    use super::*;
-
-    // DW_LANG_C11, DW_LANG_C_plus_plus_14, DW_LANG_Ada95 and DW_LANG_Rust.
-    #[test]
-    fn knows_the_classes_of_languages(rt: HostRuntime) {
-        assert_eq!(rt; class(0x1d), Class::C);
-        assert_eq!(rt; class(0x21), Class::Cxx);
-        assert_eq!(rt; class(0x0d), Class::Ada);
-        assert_eq!(rt; class(0x1c), Class::Plain);
-    }
-}

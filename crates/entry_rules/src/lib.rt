@@ -13,6 +13,3 @@ pub use index_model::{Class, Facts, Kind, Parent};
 pub use language::class;
 pub use rules::{indexed, is_static, visited};
 pub use tag::{in_table, kind};
-
-#[cfg(test)]
-mod tests;

@@ -57,17 +57,3 @@ pub fn in_table(tag: u64) -> bool
 {
     kind(tag).is_some()
 }
-
-#[cfg(test)]
-mod tests {
-    use super::*;
-
-    #[test]
-    fn knows_the_kinds_of_tags(rt: HostRuntime) {
-        assert_eq!(rt; kind(0x24), Some(Kind::Named));
-        assert_eq!(rt; kind(0x28), Some(Kind::Variable));
-        assert_eq!(rt; kind(0x2e), Some(Kind::Function));
-        assert_eq!(rt; kind(0x11), None);
-        assert!(rt; in_table(0x39) && !in_table(0x05));
-    }
-}

@@ -1,6 +1,6 @@
 -- An entry and a null, by what was read of them.
 use Rattle.std.proofs.Common.{◌≡◌, ℕ, ◌<◌, ◌≤◌, Bool, true, false, cond, leb, eqb, ◌&&◌, ◌||◌, List, [], ◌∷◌, length, map, Option, Some, None, Result, Ok, Err, refl, ap, sym, ◌∙◌, arith}
-use Rattle.std.proofs.lemmas.Bool.{le-leb, lt-leb, leb-true, true≢false}
+use Rattle.std.proofs.lemmas.Bool.{le-leb, lt-leb, leb-true, true≢false, and_parts}
 use Rattle.ix_base.specs.declared.code.TheConstants.{TRUNCATED, BAD_CODE, BAD_ROOT, DEPTH}
 use Rattle.ix_base.specs.Reading.{Input, uleb}
 use Rattle.index_model.specs.declared.unit.Unit.{Unit as UnitHeader}
@@ -9,13 +9,14 @@ use Rattle.index_model.specs.Tags.{is_root_tag}
 use Rattle.index_model.specs.Abbreviations.{Abbrev, Spec, abbrev_of}
 use Rattle.index_model.specs.Forms.{Value, value_at}
 use Rattle.index_model.specs.Walk.{Item, Token, Null, Entry, Levels, is_null, values, entry_at, token_at, token_or_fault}
-use Rattle.abbrev_table.specs.declared.parts.Spec.{Spec as ReadSpec}
-use Rattle.abbrev_table.specs.declared.table.Abbrev.{Abbrev as ReadAbbrev}
-use Rattle.abbrev_table.specs.Seen.{spec_seen, abbrev_seen}
+use Rattle.index_model.proofs.Meanings.{bind_ok}
+use Rattle.entry_scan.specs.declared.abbreviation.Spec.{Spec as ReadSpec}
+use Rattle.entry_scan.specs.declared.abbreviations.Abbrev.{Abbrev as ReadAbbrev}
+use Rattle.entry_scan.specs.SeenAbbreviations.{spec_seen, abbrev_seen}
 use Rattle.entry_scan.specs.Values.{unit_of_format, values_at, value_read, place_read}
 use Rattle.entry_scan.specs.Tokens.{joint}
 use Rattle.entry_scan.proofs.Takes.{uleb_takes}
-use Rattle.entry_scan.proofs.Steady.{IsSound, slid, moved, value_sound, given_sound, bind_sound, bind_ok, some_ok, done, same_done, uleb_steady}
+use Rattle.entry_scan.proofs.Steady.{IsSound, slid, moved, value_sound, given_sound, bind_sound, some_ok, done, same_done, uleb_steady}
 
 -- ---- values
 
@@ -162,17 +163,13 @@ module _ (u : UnitHeader) (table : List Abbrev) where
       let s = entry_shrinks open_ at h.0 c.1 t h.2 in
       (s.0, λ n. absurd (let no = s.1 in cc))
 
-  both_true : (a b : Bool) → (a && b) ≡ true → b ≡ true
-  both_true true b e = e
-  both_true false b e = absurd cc
-
   token_facts : (open_ : Levels) (i : Input) (t : Token × Input) → token_at u table open_ i ≡ Ok t → (length t.1.rest < length i.rest) × (is_null t.0 ≡ true → open_.root ≡ true)
   unfolding token_at
   token_facts open_ i t e =
       let c = bind_ok (some_or (uleb i) TRUNCATED) (λ c. cond (eqb c.0 0 && open_.root) (Ok (Null open_.depth c.1.at, c.1)) (entry_by open_ i.at c)) t e in
       let takes = uleb_takes i c.0 (some_ok (uleb i) TRUNCATED c.0 c.1) in
       let w = which (eqb c.0.0 0 && open_.root) open_ i.at c.0 t c.2 in
-      (omega (arith, takes, w.0), λ n. both_true (eqb c.0.0 0) open_.root (w.1 n))
+      (omega (arith, takes, w.0), λ n. (and_parts (eqb c.0.0 0) open_.root (w.1 n)).1)
 
   placed_ok : (place : ℕ) (r : Read) (t : Token × Input) → at_place place r ≡ Ok t → r ≡ Ok t
   placed_ok place (Ok x) t e = cc

@@ -1,3 +1,8 @@
+pub mod AbbreviationFronts
+pub mod AbbreviationDamage
+pub mod AbbreviationKept
+pub mod AbbreviationLookup
+pub mod AbbreviationSorting
 pub mod Takes
 pub mod ValueLaws
 pub mod Steady

@@ -3,13 +3,13 @@ use Rattle.std.proofs.Common.{◌≡◌, ℕ, ◌<◌, ◌≤◌, false, eqb, Li
 use Rattle.std.specs.Prelude.{Contains, find, ◌==◌}
 use Rattle.ix_base.specs.declared.fault.Fault.{Fault}
 use Rattle.std.proofs.lemmas.Bool.{ne_eqb}
+use Rattle.common_laws.proofs.Members.{contains_here, contains_later}
 use Rattle.ix_base.specs.Reading.{Input}
 use Rattle.index_model.specs.declared.unit.Unit.{Unit as UnitHeader}
 use Rattle.index_model.specs.Abbreviations.{Abbrev}
 use Rattle.index_model.specs.Walk.{Item, Token, Null, Entry, Levels, Walk, token_or_fault}
 use Rattle.index_model.specs.WalkLeft.{left}
 use Rattle.entry_scan.specs.Ahead.{StandsBehind, place_behind, unless_stopped}
-use Rattle.index_model.proofs.Meanings.{contains_here, contains_later}
 use Rattle.index_model.proofs.TokenReads.{IsToken, read_is, left_follow}
 use Rattle.index_model.proofs.OrderLaws.{bounded}
 

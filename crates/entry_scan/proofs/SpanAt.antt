@@ -3,6 +3,7 @@ use Rattle.std.proofs.Common.{◌≡◌, ℕ, zero, suc, ◌+◌, ◌-◌, ◌<�
 use Rattle.std.specs.Prelude.{Contains, filter, find, ◌==◌}
 use Rattle.std.proofs.lemmas.Bool.{and_from, lt-ltb, le-leb, ne_eqb, lt-leb, le-ltb, true≢false}
 use Rattle.std.proofs.lemmas.List.{drop-drop}
+use Rattle.common_laws.proofs.Members.{contains_cases, of_map, of_filter}
 use Rattle.ix_base.specs.declared.fault.Fault.{Fault}
 use Rattle.ix_base.specs.Reading.{Input}
 use Rattle.index_model.specs.declared.unit.Unit.{Unit as UnitHeader}
@@ -12,10 +13,8 @@ use Rattle.index_model.specs.Walk.{Item, Token, Null, Entry, Levels, Walk, items
 use Rattle.index_model.specs.WalkLeft.{levels_after, left_from, left}
 use Rattle.index_model.specs.Program.{Walked, items_of}
 use Rattle.index_model.specs.ShardParts.{span_of, spans_of, item_in_span}
-use Rattle.index_model.proofs.Meanings.{contains_cases}
 use Rattle.index_model.proofs.TokenReads.{start, left_follow, walk_left}
 use Rattle.index_model.proofs.OrderLaws.{bounded}
-use Rattle.index_model.proofs.Pairs.{of_map, of_filter}
 use Rattle.index_model.proofs.ResumeLaws.{same_inside, span_facts}
 use Rattle.entry_scan.specs.Inside.{tree_of, walked_of, inside_of}
 use Rattle.entry_scan.proofs.EntryLaws.{shallow_token}

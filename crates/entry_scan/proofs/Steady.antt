@@ -1,11 +1,13 @@
 -- Values are read from the bytes that are left alone: where these are counted from changes only the place behind the value.
 use Rattle.std.proofs.Common.{◌≡◌, ℕ, ◌+◌, ◌≤◌, ℤ, Bool, true, false, cond, leb, eqb, ◌==◌, if◌then◌else◌, List, [], ◌∷◌, length, drop, take, Option, Some, None, Result, Ok, Err, refl, ap, sym, ◌∙◌, arith, length-drop}
+use Rattle.std.proofs.lemmas.Option.{same_Some}
 use Rattle.ix_base.specs.declared.code.TheConstants.{TRUNCATED, UNKNOWN_FORM, SUPPLEMENTARY}
 use Rattle.ix_base.specs.Reading.{Input, past, bytes, skip, number, uleb, sleb, zstr, offset, leb64, signed_leb64, before_zero, ◌>>=◌ as ◌>>=?◌}
 use Rattle.index_model.specs.Meaning.{◌>>=◌, some_or}
 use Rattle.index_model.specs.Forms.{Value, Addr, Unsigned, Str, LineStr, StrIndex, AddrIndex, Near, Far, Signature, Offset, RangeIndex, ListIndex, Signed, Flag, Wide, Inline, Block, Reader, by, is_set, refused, plain_forms, reader_of, indirect, value_at}
+use Rattle.index_model.proofs.Meanings.{bind_some, bind_ok}
 use Rattle.entry_scan.specs.Tokens.{joint}
-use Rattle.entry_scan.proofs.Takes.{bind_some, found, same_found}
+use Rattle.entry_scan.proofs.Takes.{found}
 
 -- ---- readers of numbers and texts
 
@@ -33,7 +35,7 @@ placed_shrinks : {A : Type 0} (r : Option (A × ℕ)) (i : Input) (x : A × Inpu
 placed_shrinks None i x e = absurd cc
 placed_shrinks {A = A} (Some y) i x e =
     let made : A × Input = (y.0, past y.1 i) in
-    let r = ap (λ (q : A × Input). length q.1.rest) (same_found made x e) in
+    let r = ap (λ (q : A × Input). length q.1.rest) (same_Some made x e) in
     omega (arith, length-drop y.1 i.rest)
 
 -- a reader that takes so many bytes as it finds in them
@@ -88,7 +90,7 @@ abbrev nothing : Input → Option (record {} × Input)
 nothing i = Some (record {}, i)
 
 nothing_steady : IsSteady nothing
-nothing_steady = record { slides = λ n i. refl; shrinks = λ i x e. let made : empty × Input = (record {}, i) in let r = ap (λ (q : empty × Input). length q.1.rest) (same_found made x e) in omega arith }
+nothing_steady = record { slides = λ n i. refl; shrinks = λ i x e. let made : empty × Input = (record {}, i) in let r = ap (λ (q : empty × Input). length q.1.rest) (same_Some made x e) in omega arith }
 
 offset_steady : (wide : Bool) → IsSteady (offset wide)
 offset_steady wide = number_steady (cond wide 8 4)
@@ -123,10 +125,6 @@ slid n (Err code) = Err code
 pub record IsSound {A : Type 0} (read : Input → Result (A × Input) ℕ) : Type 0 where
   pub slides : (n : ℕ) (i : Input) → read (joint n i) ≡ slid n (read i)
   pub shrinks : (i : Input) (x : A × Input) → read i ≡ Ok x → length x.1.rest ≤ length i.rest
-
-pub bind_ok : {A B E : Type 0} (r : Result A E) (f : A → Result B E) (y : B) → (r >>= f) ≡ Ok y → (x : A) × (r ≡ Ok x) × (f x ≡ Ok y)
-bind_ok (Ok x) f y e = (x, refl, e)
-bind_ok (Err e) f y h = absurd cc
 
 pub some_ok : {A E : Type 0} (r : Option A) (e : E) (x : A) → some_or r e ≡ Ok x → r ≡ Some x
 some_ok (Some y) e x h = cc

@@ -1,30 +1,21 @@
 -- A number takes a byte at least.
-use Rattle.std.proofs.Common.{◌≡◌, ℕ, ◌+◌, ◌*◌, ◌-◌, ◌<◌, ◌≤◌, ◌^◌, Bool, true, false, cond, ltb, List, [], ◌∷◌, length, Option, Some, None, Result, Ok, Err, refl, ap, arith, length-drop}
+use Rattle.std.proofs.Common.{◌≡◌, ℕ, ◌+◌, ◌*◌, ◌-◌, ◌<◌, ◌≤◌, ◌^◌, Bool, true, false, cond, ltb, List, [], ◌∷◌, length, Option, Some, None, Result, Ok, Err, ap, arith, length-drop}
+use Rattle.std.proofs.lemmas.Option.{same_Some, cond_some}
 use Rattle.std.specs.Prelude.{OnOk}
 use Rattle.ix_base.specs.Reading.{Input, past, unsigned_leb, leb64, uleb, ◌>>=◌}
-
-pub bind_some : {A B : Type 0} (r : Option A) (f : A → Option B) (y : B) → (r >>= f) ≡ Some y → (x : A) × (r ≡ Some x) × (f x ≡ Some y)
-bind_some (Some x) f y e = (x, refl, e)
-bind_some None f y e = absurd cc
+use Rattle.index_model.proofs.Meanings.{bind_some}
 
 abbrev pub found : {A : Type 0} → A → Option A
 found x = Some x
 
-pub same_found : {A : Type 0} (x y : A) → found x ≡ found y → x ≡ y
-same_found x y e = cc
-
 abbrev longer : ℕ → List ℕ → Option (ℕ × ℕ)
 longer b bs = unsigned_leb bs >>= λ high. Some (b - 128 + 128 * high.0, high.1 + 1)
 
-if_some : {A : Type 0} (b : Bool) (x y : A) → cond b (Some x) None ≡ Some y → (b ≡ true) × (x ≡ y)
-if_some true x y e = (refl, cc)
-if_some false x y e = absurd cc
-
 byte_or_more : (c : Bool) (b : ℕ) (bs : List ℕ) (x : ℕ × ℕ) → cond c (Some (b, 1)) (longer b bs) ≡ Some x → 1 ≤ x.1
-byte_or_more true b bs x e = omega (arith, ap (λ (p : ℕ × ℕ). p.1) (same_found (b, 1) x e))
+byte_or_more true b bs x e = omega (arith, ap (λ (p : ℕ × ℕ). p.1) (same_Some (b, 1) x e))
 byte_or_more false b bs x e =
     let h = bind_some (unsigned_leb bs) (λ high. Some (b - 128 + 128 * high.0, high.1 + 1)) x e in
-    omega (arith, ap (λ (p : ℕ × ℕ). p.1) (same_found (b - 128 + 128 * h.0.0, h.0.1 + 1) x h.2))
+    omega (arith, ap (λ (p : ℕ × ℕ). p.1) (same_Some (b - 128 + 128 * h.0.0, h.0.1 + 1) x h.2))
 
 leb_one : (bs : List ℕ) (x : ℕ × ℕ) → unsigned_leb bs ≡ Some x → (1 ≤ x.1) × (1 ≤ length bs)
 unfolding unsigned_leb
@@ -35,11 +26,11 @@ pub uleb_takes : (i : Input) (x : ℕ × Input) → uleb i ≡ Some x → length
 uleb_takes i x e =
     let n = bind_some (leb64 i.rest) (λ n. Some (n.0, past n.1 i)) x e in
     let m = bind_some (unsigned_leb i.rest) (λ n. cond (ltb n.0 (2 ^ 64)) (Some n) None) n.0 n.1 in
-    let p = if_some (ltb m.0.0 (2 ^ 64)) m.0 n.0 m.2 in
+    let p = cond_some (ltb m.0.0 (2 ^ 64)) m.0 n.0 m.2 in
     let one = leb_one i.rest m.0 m.1 in
     let k : m.0.1 ≡ n.0.1 = ap (λ (q : ℕ × ℕ). q.1) p.1 in
     let made : ℕ × Input = (n.0.0, past n.0.1 i) in
-    let r = ap (λ (q : ℕ × Input). length q.1.rest) (same_found made x n.2) in
+    let r = ap (λ (q : ℕ × Input). length q.1.rest) (same_Some made x n.2) in
     omega (arith, one.0, one.1, length-drop n.0.1 i.rest)
 
 -- what holds holds at Ok

@@ -4,7 +4,7 @@ use Rattle.ix_base.specs.Reading.{Input}
 use Rattle.index_model.specs.Meaning.{◌>>=◌}
 use Rattle.index_model.specs.Forms.{Value, value_at}
 use Rattle.index_model.specs.Walk.{values}
-use Rattle.abbrev_table.specs.declared.parts.Spec.{Spec}
+use Rattle.entry_scan.specs.declared.abbreviation.Spec.{Spec}
 use Rattle.entry_scan.specs.declared.values.Format.{Format}
 use Rattle.entry_scan.specs.Values.{values_at, value_read, place_read, IsRead}
 

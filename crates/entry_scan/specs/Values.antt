@@ -7,10 +7,10 @@ use Rattle.index_model.specs.declared.unit.UnitSort.TheVariants.{Compile}
 use Rattle.index_model.specs.declared.unit.Unit.{Unit as UnitHeader}
 use Rattle.index_model.specs.Forms.{Value, Reader}
 use Rattle.index_model.specs.Walk.{values}
-use Rattle.abbrev_table.specs.declared.parts.Spec.{Spec}
-use Rattle.abbrev_table.specs.Seen.{spec_seen}
-use Rattle.form_reader.specs.declared.value.Value.{Value as ReadValue}
-use Rattle.form_reader.specs.Seen.{seen}
+use Rattle.entry_scan.specs.declared.abbreviation.Spec.{Spec}
+use Rattle.entry_scan.specs.SeenAbbreviations.{spec_seen}
+use Rattle.index_model.specs.declared.value.Value.{Value as ReadValue}
+use Rattle.index_model.specs.FormSeen.{seen}
 use Rattle.entry_scan.specs.declared.values.Format.{Format}
 
 -- an attribute and its value

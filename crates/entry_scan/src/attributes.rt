@@ -3,9 +3,9 @@
 ghost use Rattle.std.specs.Prelude.{◌≡◌};
 ghost use Rattle.std.specs.Iterator.{YieldsFirstBy, item_count};
 
+use crate::abbreviation::Spec;
 use crate::values::{Format, read};
-use abbrev_table::Spec;
-use form_reader::Value;
+use index_model::Value;
 use ix_base::Cursor;
 use std::marker::Model;
 

@@ -3,7 +3,7 @@
 ghost use Rattle.std.specs.Prelude.{◌≡◌, ◌≤◌, ◌<◌, ◌^◌};
 
 use crate::attributes::Attributes;
-use form_reader::Value;
+use index_model::Value;
 use std::marker::Model;
 
 /// A debugging information entry. Its attributes stay in the unit's bytes, and are read where they are asked for.
@@ -33,7 +33,7 @@ impl<'a> Model for Item<'a> {
 impl<'a> Item<'a> {
     ghost use Rattle.std.specs.Prelude.{option_map};
     ghost use Rattle.index_model.specs.Attributes.{attribute as attribute_of};
-    ghost use Rattle.form_reader.specs.Seen.{seen};
+    ghost use Rattle.index_model.specs.FormSeen.{seen};
 
     /// Its joint offset.
     pub fn offset(&self) -> u64

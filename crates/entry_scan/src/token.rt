@@ -5,10 +5,10 @@ ghost use Rattle.ix_base.specs.Moves.{MovesOn};
 ghost use Rattle.index_model.specs.Gives.{GivesAlways};
 ghost use Rattle.index_model.specs.Tags.{is_root_tag};
 
+use crate::abbreviations::{Abbrev, Abbrevs};
 use crate::attributes::Attributes;
 use crate::item::Item;
 use crate::values::{Format, pass};
-use abbrev_table::{Abbrev, Abbrevs};
 use index_model::Unit;
 use ix_base::code::{BAD_CODE, BAD_ROOT, DEPTH, TRUNCATED};
 use ix_base::{Cursor, MAX_DEPTH};
@@ -66,7 +66,7 @@ pub(crate) struct Frame<'a> {
 
 impl<'a> Frame<'a> {
     ghost use Rattle.index_model.specs.Walk.{token_at, entry_at};
-    ghost use Rattle.abbrev_table.specs.Seen.{abbrev_seen};
+    ghost use Rattle.entry_scan.specs.SeenAbbreviations.{abbrev_seen};
     ghost use Rattle.entry_scan.specs.Tokens.{token_seen, levels_seen, joint, OnEntry};
 
     /// The joint offset of the cursor's place.

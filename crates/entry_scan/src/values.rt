@@ -4,12 +4,13 @@ ghost use Rattle.std.specs.Prelude.{◌≡◌};
 ghost use Rattle.ix_base.specs.Moves.{MovesOn};
 ghost use Rattle.index_model.specs.Forms.{value_at};
 ghost use Rattle.index_model.specs.Gives.{GivesAlways};
-ghost use Rattle.form_reader.specs.Seen.{seen};
+ghost use Rattle.index_model.specs.FormSeen.{seen};
 ghost use Rattle.entry_scan.specs.Values.{values_at, place_read};
 
+use crate::abbreviation::Spec;
+use crate::forms::read_value;
 use crate::sizes::size_of;
-use abbrev_table::Spec;
-use form_reader::{Value, read_value};
+use index_model::Value;
 use ix_base::Cursor;
 use ix_base::code::TRUNCATED;
 

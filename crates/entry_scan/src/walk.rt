@@ -2,10 +2,10 @@
 
 ghost use Rattle.std.specs.Prelude.{◌≡◌, ◌≤◌, ◌<◌, ◌+◌, ◌^◌, length, drop};
 
+use crate::abbreviations::Abbrevs;
 use crate::item::Item;
 use crate::token::{Frame, Levels, Token};
 use crate::tree::Tree;
-use abbrev_table::Abbrevs;
 use index_model::{Span, Unit};
 use ix_base::{Cursor, Fault};
 use std::marker::Model;
@@ -133,6 +133,3 @@ impl<'a> Walk<'a> {
         }
     }
 }
-
-#[cfg(test)]
-mod tests;

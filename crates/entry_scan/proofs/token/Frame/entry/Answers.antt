@@ -1,5 +1,5 @@
 use Rattle.std.proofs.Common.{sym, ◌∙◌}
-use Rattle.abbrev_table.specs.Seen.{abbrev_seen}
+use Rattle.entry_scan.specs.SeenAbbreviations.{abbrev_seen}
 use Rattle.entry_scan.specs.Tokens.{levels_seen, joint}
 use Rattle.entry_scan.proofs.EntryLaws.{too_deep, no_root, bad_value, entry_read, joint_values, joint_fault}
 use Rattle.entry_scan.proofs.token.Frame.entry.Goals as goal

@@ -1,5 +1,5 @@
 use Rattle.std.proofs.Common.{option_map, sym, ◌∙◌, ap}
-use Rattle.abbrev_table.specs.Seen.{abbrev_seen}
+use Rattle.entry_scan.specs.SeenAbbreviations.{abbrev_seen}
 use Rattle.entry_scan.specs.Tokens.{levels_seen, joint}
 use Rattle.entry_scan.proofs.EntryLaws.{code_cut, null_read, code_unknown, entry_next, code_free, joint_cut, joint_code}
 use Rattle.entry_scan.proofs.token.Frame.token.Goals as goal

@@ -1,5 +1,0 @@
-pub mod Fronts
-pub mod Damage
-pub mod Kept
-pub mod Lookup
-pub mod Sorting

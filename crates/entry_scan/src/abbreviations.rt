@@ -1,0 +1,101 @@
+//! A table of abbreviations, read once for its units.
+
+ghost use Rattle.std.specs.Prelude.{◌≡◌, ◌==◌, position, option_map};
+ghost use Rattle.index_model.specs.Abbreviations.{table, abbrev_of};
+ghost use Rattle.entry_scan.specs.GivesTable.{GivesOrFails};
+ghost use Rattle.entry_scan.specs.SeenAbbreviations.{abbrev_seen};
+ghost use Rattle.entry_scan.specs.AbbreviationTables.{AreInOrder, Cuts};
+
+use crate::abbreviation::{BadAbbrev, Head, Parts, Place, Spec, read_parts};
+use std::alloc::Global;
+use std::marker::Model;
+
+/// An abbreviation: the tag of its entries, whether entries may stand below them, and their attributes in order.
+#[derive(Clone, Copy)]
+pub struct Abbrev<'t> {
+    pub tag: u64,
+    pub children: bool,
+    pub specs: &'t [Spec],
+}
+
+/// The abbreviations of a table, in the order in which they stand there.
+#[derive(Drop)]
+pub struct Abbrevs {
+    heads: Vec<Head>,
+    // The attributes of all heads, one head's after another's.
+    specs: Vec<Spec>,
+    // The heads at the front have the codes 1, 2, 3 and so on. The places of those behind them, by code and then by index.
+    others: Vec<Place>,
+}
+
+impl Model for Abbrevs {
+    ghost use Rattle.std.specs.Prelude.{List, length, All};
+    ghost use Rattle.index_model.specs.Abbreviations as meant;
+    ghost use Rattle.entry_scan.specs.AbbreviationTables.{heads_seen, IsWithin, IsSearchable};
+
+    ghost Value = { List meant.Abbrev };
+
+    ghost view = { λ a. heads_seen a.specs.items a.heads.items };
+
+    ghost invariant = { λ a. (All (IsWithin (length a.specs.items)) a.heads.items) × IsSearchable a.heads.items a.others.items };
+}
+
+impl Abbrevs {
+    /// Reads the table at an offset of `.debug_abbrev`. LEB128 numbers in it may be padded.
+    pub fn read(alloc: Global, bytes: &[u8], offset: u64) -> Result<Abbrevs, BadAbbrev>
+        ensures { GivesOrFails (λ t. t) result (table bytes.now offset) }
+    {
+        if offset > bytes.len() as u64 {
+            return Err(BadAbbrev::Damaged);
+        }
+        let mut parts = read_parts(alloc, bytes, offset as usize)?;
+        parts.others.sort_unstable();
+        let Parts {
+            heads,
+            specs,
+            others,
+        } = parts;
+        Ok(Abbrevs {
+            heads,
+            specs,
+            others,
+        })
+    }
+
+    /// The abbreviation of a code: the first that has it.
+    pub fn find(&self, code: u64) -> Option<Abbrev<'_>>
+        ensures { option_map (abbrev_seen code) result ≡ abbrev_of self.now code }
+    {
+        let head = self.heads[self.index_of(code)?];
+        Some(Abbrev {
+            tag: head.tag,
+            children: head.children,
+            specs: &self.specs[head.start..head.end],
+        })
+    }
+
+    // The index of the first with this code.
+    fn index_of(&self, code: u64) -> Option<usize>
+        ensures { result ≡ position (λ a. a.code == code) self.now }
+    {
+        let in_front = self.heads.len() - self.others.len();
+        if code != 0 && code <= in_front as u64 {
+            return Some(code as usize - 1);
+        }
+        let first = lower_codes(&self.others, code);
+        let place = self.others.get(first)?;
+        if place.code == code {
+            Some(place.index)
+        } else {
+            None
+        }
+    }
+}
+
+// How many places have a lower code.
+fn lower_codes(places: &[Place], code: u64) -> usize
+    requires { AreInOrder places.now }
+    ensures { Cuts places.now code result }
+{
+    places.partition_point(|place| place.code < code)
+}

@@ -1,0 +1,110 @@
+//! The value of an attribute, by its form (DWARF 5, section 7.5.6).
+//!
+//! A form says how a value is written and what it stands for. All forms of DWARF 5 are read, in units of every version.
+
+ghost use Rattle.std.specs.Prelude.{◌≡◌, ◌≢◌};
+ghost use Rattle.ix_base.specs.Moves.{MovesOn};
+ghost use Rattle.ix_base.specs.Reading.{number, offset, uleb, sleb, bytes, skip};
+ghost use Rattle.index_model.specs.Meaning.{some_or};
+ghost use Rattle.index_model.specs.Gives.{GivesAlways};
+ghost use Rattle.index_model.specs.Forms.{by, Signed, Wide, reader_of, plain_forms, indirect, value_at};
+ghost use Rattle.entry_scan.specs.FormNumbers.{other_forms};
+ghost use Rattle.index_model.specs.FormSeen.{seen};
+
+use crate::form_codes as form;
+use crate::form_numbers::{four, leb, number_form, one, read_number, two, value_of};
+use index_model::Value;
+use ix_base::Cursor;
+use ix_base::code::{SUPPLEMENTARY, TRUNCATED, UNKNOWN_FORM};
+
+// The next `count` bytes.
+fn block<'a>(count: u64, cursor: &mut Cursor<'a>) -> Result<&'a [u8], u8>
+    ensures value { GivesAlways (λ b. (b.now, cursor.new)) result (some_or (bytes count cursor.old) TRUNCATED) }
+    ensures place { MovesOn cursor.old cursor.new }
+{
+    Ok(cursor.bytes(count).ok_or(TRUNCATED)?)
+}
+
+// The value of form data16, which isn't kept.
+fn sixteen<'a>(cursor: &mut Cursor<'a>) -> Result<Value<'a>, u8>
+    ensures value { GivesAlways (λ v. (seen v, cursor.new)) result (by (skip 16) (λ _. Wide) cursor.old) }
+    ensures place { MovesOn cursor.old cursor.new }
+{
+    cursor.skip(16).ok_or(TRUNCATED)?;
+    Ok(Value::Wide)
+}
+
+// The value of form sdata.
+fn signed<'a>(cursor: &mut Cursor<'a>) -> Result<Value<'a>, u8>
+    ensures value { GivesAlways (λ v. (seen v, cursor.new)) result (by sleb Signed cursor.old) }
+    ensures place { MovesOn cursor.old cursor.new }
+{
+    Ok(Value::Signed(cursor.sleb().ok_or(TRUNCATED)?))
+}
+
+// The value of a form that stands for itself.
+fn plain<'a>(wide: bool, version: u16, form: u64, cursor: &mut Cursor<'a>) -> Result<Value<'a>, u8>
+    ensures value { GivesAlways (λ v. (seen v, cursor.new)) result (reader_of (plain_forms version wide) form cursor.old) }
+    ensures place { MovesOn cursor.old cursor.new }
+{
+    match number_form(form) {
+        Some((width, kind)) => {
+            let number = read_number(width, wide, version, cursor)?;
+            Ok(value_of(kind, number))
+        }
+        None => other(form, cursor),
+    }
+}
+
+// The value of a form that isn't that of a number alone.
+fn other<'a>(form: u64, cursor: &mut Cursor<'a>) -> Result<Value<'a>, u8>
+    ensures value { GivesAlways (λ v. (seen v, cursor.new)) result (reader_of other_forms form cursor.old) }
+    ensures place { MovesOn cursor.old cursor.new }
+{
+    match form {
+        form::FLAG_PRESENT => Ok(Value::Flag(true)),
+        form::DATA16 => sixteen(cursor),
+        form::SDATA => signed(cursor),
+        form::BLOCK1 => Ok(Value::Block(block(one(cursor)?, cursor)?)),
+        form::BLOCK2 => Ok(Value::Block(block(two(cursor)?, cursor)?)),
+        form::BLOCK4 => Ok(Value::Block(block(four(cursor)?, cursor)?)),
+        form::BLOCK | form::EXPRLOC => Ok(Value::Block(block(leb(cursor)?, cursor)?)),
+        form::STRING => Ok(Value::Inline(cursor.zstr().ok_or(TRUNCATED)?)),
+        form::REF_SUP4 | form::STRP_SUP | form::REF_SUP8 => Err(SUPPLEMENTARY),
+        _ => Err(UNKNOWN_FORM),
+    }
+}
+
+// The value of a form that stands before it.
+#[tactic(auto, unfolding(index_model::specs::Forms::indirect))]
+fn behind<'a>(wide: bool, version: u16, cursor: &mut Cursor<'a>) -> Result<Value<'a>, u8>
+    ensures value { GivesAlways (λ v. (seen v, cursor.new)) result (indirect version wide cursor.old) }
+    ensures place { MovesOn cursor.old cursor.new }
+{
+    let form = leb(cursor)?;
+    plain(wide, version, form, cursor)
+}
+
+/// Reads the value of a form at the cursor. `wide` and `version` are those of the unit: an offset has 8 bytes in the
+/// 64-bit format, else 4. `constant` is the value that implicit_const has in the abbreviation.
+///
+/// The error is a code of `ix_base::code`: 11 where the bytes end too early or a LEB128 number is too large, 12 where the
+/// form isn't known or may not stand behind indirect, 18 where it names a supplementary file. The cursor then stands
+/// somewhere in the value.
+#[tactic(auto, unfolding(index_model::specs::Forms::value_at))]
+pub fn read_value<'a>(
+    wide: bool,
+    version: u16,
+    form: u64,
+    constant: i64,
+    cursor: &mut Cursor<'a>,
+) -> Result<Value<'a>, u8>
+    ensures value { GivesAlways (λ v. (seen v, cursor.new)) result (value_at version wide form constant cursor.old) }
+    ensures place { MovesOn cursor.old cursor.new }
+{
+    match form {
+        form::INDIRECT => behind(wide, version, cursor),
+        form::IMPLICIT_CONST => Ok(Value::Signed(constant)),
+        _ => plain(wide, version, form, cursor),
+    }
+}
