@@ -2,10 +2,10 @@
 use Rattle.std.proofs.Common.{◌≡◌, ℕ, Bool, true, false, cond, List, [], ◌∷◌, Option, Some, None, refl, sym, ap, subst, arith, ⊎_elim, ◌∙◌}
 use Rattle.std.specs.Prelude.{Contains}
 use Rattle.std.proofs.lemmas.Bool.{false≢true}
+use Rattle.common_laws.proofs.Members.{contains_cases}
 use Rattle.index_model.specs.declared.range.UnitRange.{UnitRange}
 use Rattle.index_model.specs.Ranges.{contains, unit_at}
 use Rattle.index_model.specs.Pieces.{IsPieces, pieces}
-use Rattle.index_model.proofs.Meanings.{contains_cases}
 use Rattle.index_model.proofs.PieceLaws.{nothing, pieces_are}
 use Rattle.address_map.specs.Laws.{NoneContains, IsFirstUnit, PiecesHaveTheFirstUnits}
 use Rattle.address_map.proofs.UnitAt.{unit_at-cons}

@@ -1,11 +1,10 @@
 -- The unit at an address in a list of ranges, and in a list of pieces.
-use Rattle.std.proofs.Common.{◌≡◌, ℕ, ◌+◌, ◌-◌, suc, zero, ◌<◌, ◌≤◌, Bool, true, false, ◌&&◌, cond, ltb, leb, List, [], ◌∷◌, ◌++◌, length, get_or, drop, Option, Some, None, refl, arith, ap, sym, ◌∙◌, inl, inr, add-one}
+use Rattle.std.proofs.Common.{◌≡◌, ℕ, ◌+◌, ◌-◌, suc, zero, ◌<◌, ◌≤◌, Bool, true, false, cond, List, [], ◌∷◌, ◌++◌, length, get_or, drop, Option, Some, None, refl, arith, ap, sym, ◌∙◌, inl, inr, add-one}
 use Rattle.std.proofs.lemmas.Bool.{cases_lt}
-use Rattle.std.proofs.lemmas.Bool.Decides.{nat_tests}
 use Rattle.index_model.specs.declared.range.UnitRange.{UnitRange}
 use Rattle.index_model.specs.Ranges.{contains, unit_at}
 use Rattle.index_model.specs.Pieces.{AreApart}
-use Rattle.index_model.proofs.PieceLaws.{as_find, within, behind_end, nothing, behind_first}
+use Rattle.index_model.proofs.PieceLaws.{as_find, within, behind_end, nothing, behind_first, not_here}
 use Rattle.address_map.specs.Overlay.{EndsBy}
 
 -- what the elements behind the end of a list are taken for
@@ -21,11 +20,8 @@ unit_at-cons p ps a = as_find (contains a p.range) p ps a
 pub cons_same : (p : UnitRange) (xs ys : List UnitRange) (a : ℕ) → unit_at xs a ≡ unit_at ys a → unit_at (p ∷ xs) a ≡ unit_at (p ∷ ys) a
 cons_same p xs ys a e = unit_at-cons p xs a ∙ ap (λ (o : Option ℕ). cond (contains a p.range) (Some p.unit) o) e ∙ sym (unit_at-cons p ys a)
 
-not_yet : (low end a : ℕ) → a < low → (leb low a && ltb a end) ≡ false
-not_yet low end a lt = grind (arith, nat_tests)
-
 pub before_low : (p : UnitRange) (ps : List UnitRange) (a : ℕ) → a < p.range.low → unit_at (p ∷ ps) a ≡ unit_at ps a
-before_low p ps a lt = unit_at-cons p ps a ∙ ap (λ (b : Bool). cond b (Some p.unit) (unit_at ps a)) (not_yet p.range.low p.range.end a lt)
+before_low p ps a lt = unit_at-cons p ps a ∙ ap (λ (b : Bool). cond b (Some p.unit) (unit_at ps a)) (not_here p.range.low p.range.end a lt)
 
 -- a range without an address changes nothing
 pub empty_range : (p : UnitRange) (ps : List UnitRange) (a : ℕ) → p.range.end ≤ p.range.low → unit_at (p ∷ ps) a ≡ unit_at ps a

@@ -11,6 +11,3 @@ mod overlay;
 pub use index_model::{Range, UnitRange};
 pub use laws::pieces_are_exact;
 pub use map::AddressMap;
-
-#[cfg(test)]
-mod tests;

@@ -3,8 +3,9 @@ use Rattle.std.proofs.Common.{◌≡◌, ℕ, zero, suc, ◌+◌, ◌/◌, ◌%�
 use Rattle.std.specs.Prelude.{codes, flat_map}
 use Rattle.std.specs.List.{range_with_len}
 use Rattle.std.proofs.lemmas.Bool.{eqb-true, eqb-false}
-use Rattle.std.proofs.lemmas.List.{append_assoc, append-nil, length-append}
+use Rattle.std.proofs.lemmas.List.{append-nil, length-append}
 use Rattle.std.proofs.lemmas.Grind.{flat_map-append}
+use Rattle.common_laws.proofs.Lists.{regrouped}
 use Rattle.index_model.specs.Layout.{below, ended}
 use Rattle.index_model.specs.NameIndex.{uleb_in}
 use Rattle.elf_make.specs.Packed.{half, word, xword}
@@ -74,9 +75,6 @@ length_front low i = refl
 
 -- ---- the whole
 
-regroup : (a b c d e : List ℕ) → a ++ ((b ++ (c ++ d)) ++ e) ≡ (a ++ b) ++ (c ++ (d ++ e))
-regroup a b c d e = simp append_assoc
-
 -- the declaration of unit j of odd number
 stands : (seed units j : ℕ) → j < units → j % 2 ≡ 1 → StandsAt (declaration_in (abbreviations 0 2) seed j) (method (abbreviations 0 2)) (generated_info seed units)
 stands seed units j lt odd =
@@ -90,7 +88,7 @@ stands seed units j lt odd =
       is =
           ap (flat_map unit) (below_split units j lt) ∙ flat_map-append unit (below j) (j ∷ range_with_len (j + 1) (units - j - 1))
           ∙ ap (λ xs. flat_map unit (below j) ++ (xs ++ others)) (generated_odd seed units j lt odd ∙ in_unit low j declared)
-          ∙ regroup (flat_map unit (below j)) (front low j) (method (abbreviations 0 2)) (back low declared) others;
+          ∙ regrouped (flat_map unit (below j)) (front low j) (method (abbreviations 0 2)) (back low declared) others;
       at =
           length-append (flat_map unit (below j)) (front low j)
           ∙ omega (arith, units_before seed units j (omega arith), length_front low j, start_is seed j (omega (arith, odd)), declaration_is seed j odd);

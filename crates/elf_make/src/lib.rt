@@ -13,8 +13,6 @@ mod layout;
 mod packer;
 mod places;
 mod section;
-#[cfg(test)]
-mod tests;
 mod units;
 mod values;
 

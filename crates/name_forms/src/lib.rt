@@ -7,8 +7,6 @@ mod decoding;
 mod pieces;
 mod scope;
 mod shortened;
-#[cfg(test)]
-mod tests;
 
 pub use decoding::{ada, ada_length, ada_tail};
 pub use scope::{scoped, scoped_length};

@@ -1,5 +1,5 @@
 -- What a source in memory is seen as, and what its next call does.
-use Rattle.std.specs.Prelude.{ℕ, ◌-◌, List, length, drop, min, slice_index_or, Contains}
+use Rattle.std.specs.Prelude.{ℕ, ◌-◌, List, drop, min, slice_index_or, Contains}
 use Rattle.outside.specs.Counts.{one_more}
 
 -- the bytes that are left, the calls that are to fail by their numbers from 1 on, how many bytes

@@ -17,8 +17,6 @@ mod source;
 mod stream_sink;
 mod stream_source;
 mod test_gate;
-#[cfg(test)]
-mod tests;
 
 pub use file_shelf::FileShelf;
 pub use gate::{Gate, NoGate};

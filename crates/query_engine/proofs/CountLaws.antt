@@ -10,6 +10,7 @@ use Rattle.std.proofs.lemmas.List.Folds.{list_any_at}
 use Rattle.std.proofs.lemmas.List.FromFn.{length-map-range_with_len, get_or-map-range_with_len}
 use Rattle.std.proofs.lemmas.Map.Keys.{IsDistinct-from_apart, IsDistinct-head, IsDistinct-tail, IsDistinct-cons}
 use Rattle.std.proofs.lemmas.Map.Made.{length-from_keys}
+use Rattle.common_laws.proofs.Booleans.{same_each_way}
 use Rattle.index_model.specs.declared.entry.Entry.{Entry}
 use Rattle.index_model.specs.Answers.{places}
 use Rattle.query_engine.specs.declared.way.Way.{Way}
@@ -22,11 +23,6 @@ use Rattle.query_engine.specs.Sorted.{name_at, AreNamesOf}
 use Rattle.query_engine.proofs.TextOrder.{same_from_eq, eq_from_same, eq_from_other, before_itself, filter_none, some_passes}
 
 -- ---- tests of lists
-
-same_tests : (a b : Bool) → (a ≡ true → b ≡ true) → (b ≡ true → a ≡ true) → a ≡ b
-same_tests true b f g = sym (f refl)
-same_tests false true f g = g refl
-same_tests false false f g = refl
 
 module _ {X : Type 0} where
   pub any_same : (p q : X → Bool) (xs : List X) → ((x : X) → p x ≡ q x) → list_any p xs ≡ list_any q xs
@@ -131,7 +127,7 @@ module _ (es : List Entry) (n : Names) (names : AreNamesOf es n) where
 
   -- the groups have the texts of the entries
   pub same_texts : (q : List ℕ) → list_any (bytes_eq q) (group_texts es n) ≡ list_any (is_asked n.way q) es
-  same_texts q = same_tests (list_any (bytes_eq q) (group_texts es n)) (list_any (is_asked n.way q) es) there back
+  same_texts q = same_each_way (list_any (bytes_eq q) (group_texts es n)) (list_any (is_asked n.way q) es) there back
     where
       there : list_any (bytes_eq q) (group_texts es n) ≡ true → list_any (is_asked n.way q) es ≡ true
       there some =
@@ -151,13 +147,10 @@ module _ (es : List Entry) (n : Names) (names : AreNamesOf es n) where
 
 -- ---- the texts of entries that pass a test
 
-flip : (xs ys : List ℕ) → bytes_eq xs ys ≡ bytes_eq ys xs
-flip xs ys = nat_list_eq_equiv.symm xs ys
-
 pub any_text : (way : Way) (p : Entry → Bool) (q : List ℕ) (es : List Entry) → list_any (bytes_eq q) (map (text_of way) (filter p es)) ≡ list_any (λ e. p e && bytes_eq (text_of way e) q) es
 any_text way p q es =
     any_map (bytes_eq q) (text_of way) (filter p es) ∙ any_filter (λ e. bytes_eq q (text_of way e)) p es
-    ∙ any_same (λ e. p e && bytes_eq q (text_of way e)) (λ e. p e && bytes_eq (text_of way e) q) es (λ e. ap (λ b. p e && b) (flip q (text_of way e)))
+    ∙ any_same (λ e. p e && bytes_eq q (text_of way e)) (λ e. p e && bytes_eq (text_of way e) q) es (λ e. ap (λ b. p e && b) (nat_list_eq_equiv.symm q (text_of way e)))
 
 pub group_count : (es : List Entry) (n : Names) → AreNamesOf es n → length n.groups.items ≡ text_count n.way es
 group_count es n names = sym (texts_length es n names) ∙ length-from_keys nat_list_eq_equiv (group_texts es n) (map (text_of n.way) (filter (is_counted n.way) es)) (texts_apart es n names) (λ q. same_texts es n names q ∙ sym (any_text n.way (is_counted n.way) q es))

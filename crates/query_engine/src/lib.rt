@@ -10,8 +10,6 @@ mod runs;
 mod search;
 mod spelling;
 mod table;
-#[cfg(test)]
-mod tests;
 mod way;
 
 pub use table::Table;

@@ -6,7 +6,6 @@ pub mod Walking
 pub mod Alike
 pub mod Filters
 pub mod Located
-pub mod Followed
 pub mod NodeItems
 pub mod LinkedLaws
 pub mod Runs

@@ -2,9 +2,11 @@
 use Rattle.std.proofs.Common.{◌≡◌, ℕ, ◌<◌, ◌≤◌, Bool, true, false, eqb, ◌&&◌, ◌||◌, List, [], ◌∷◌, ◌++◌, get_or, map, filter, flat_map, Ok, refl, sym, ap, subst, ◌∙◌, arith, ⊎_elim}
 use Rattle.std.specs.Prelude.{Contains}
 use Rattle.std.specs.List.{AllZip}
-use Rattle.std.proofs.lemmas.Bool.{false≢true, eqb-true, eq-eqb, and_parts, cases_lt}
+use Rattle.std.proofs.lemmas.Bool.{false≢true, eqb-true, eq-eqb, and_parts, cases_lt, or_right}
 use Rattle.std.proofs.lemmas.List.Concat.{flat_map-append}
 use Rattle.std.proofs.lemmas.List.Elements.{Contains-append_left, Contains-append_right, Contains-append_cases}
+use Rattle.common_laws.proofs.Members.{contains_here, contains_later, contains_cases, to_map, of_filter, to_filter, of_flat_map}
+use Rattle.common_laws.proofs.Booleans.{same_each_way}
 use Rattle.index_model.specs.declared.shard.LinkedEntry.{LinkedEntry}
 use Rattle.index_model.specs.Meaning.{each}
 use Rattle.index_model.specs.Tags.{subprogram}
@@ -13,20 +15,17 @@ use Rattle.index_model.specs.Links.{Link, is_link_indexed, indexed_in, followed,
 use Rattle.index_model.specs.Ranges.{subprograms_in}
 use Rattle.index_model.specs.Faults.{links_of}
 use Rattle.index_model.specs.Shards.{IsLinkedEntryOf, IsRunOf}
-use Rattle.index_model.proofs.Meanings.{same_ok, contains_here, contains_later, contains_cases}
+use Rattle.index_model.proofs.Meanings.{same_ok}
 use Rattle.index_model.proofs.EachLaws.{in_two}
-use Rattle.index_model.proofs.Pairs.{Pairs, On, all_pairs, of_filter, to_filter, to_map, of_flat_map}
+use Rattle.index_model.proofs.Pairs.{Pairs, On, all_pairs}
 use Rattle.index_model.proofs.UnitsApart.{Apart, pairs_back}
+use Rattle.index_model.proofs.Located.{Before, of_located, same_place}
 use Rattle.range_lists.specs.Nodes.{is_linked, EntriesRise}
-use Rattle.range_lists.proofs.Filters.{filter_within, filter_both, map_filter, map_map}
-use Rattle.range_lists.proofs.Located.{Before, same_place, at_number, of_located}
-use Rattle.range_lists.proofs.Followed.{is_followed, all_followed, placed, AreLinks, links_are}
+use Rattle.common_laws.proofs.Filters.{filter_within, filter_both, map_filter, map_map}
+use Rattle.range_lists.proofs.Located.{at_number}
+use Rattle.index_model.proofs.Followed.{is_followed, all_followed, placed, AreLinks, links_are}
 
 -- ---- linked entries and their links
-
-or_true : (a : Bool) {b : Bool} → b ≡ true → (a || b) ≡ true
-or_true true e = refl
-or_true false e = e
 
 module _ (p : Program) where
   linked_on : (es : List LinkedEntry) (ks : List Link) → AllZip (IsLinkedEntryOf p) es ks → (k : Link) → Contains ks k → is_linked es k.entry.item.at ≡ true
@@ -35,7 +34,7 @@ module _ (p : Program) where
   linked_on (e ∷ es) [] z k c = absurd z
   linked_on (e ∷ es) (l ∷ ks) z k c = ⊎_elim
       (λ (same : l ≡ k). ap (λ (b : Bool). b || is_linked es k.entry.item.at) (eq-eqb e.offset k.entry.item.at (z.0.offset ∙ ap (λ (x : Link). x.entry.item.at) same)))
-      (λ (later : Contains ks k). or_true (eqb e.offset k.entry.item.at) (linked_on es ks z.1 k later))
+      (λ (later : Contains ks k). or_right (eqb e.offset k.entry.item.at) _ (linked_on es ks z.1 k later))
       (contains_cases l ks k c)
 
   linked_back : (es : List LinkedEntry) (ks : List Link) → AllZip (IsLinkedEntryOf p) es ks → (o : ℕ) → is_linked es o ≡ true → (k : Link) × Contains ks k × (k.entry.item.at ≡ o)
@@ -74,12 +73,6 @@ pairs_rise es h i j d le within = ⊎_elim
     (cases_lt i j)
 
 -- ---- the links of a run
-
-each_way : (a b : Bool) → (a ≡ true → b ≡ true) → (b ≡ true → a ≡ true) → a ≡ b
-each_way true true f g = refl
-each_way true false f g = sym (f refl)
-each_way false true f g = g refl
-each_way false false f g = refl
 
 -- a member of the front differs from one of the back
 pairs_cross : {A : Type 0} (R : A → A → Type 0) (xs ys : List A) → Pairs R (xs ++ ys) → (x y : A) → Contains xs x → Contains ys y → R x y
@@ -177,7 +170,7 @@ module _ (p : Program) (ks : List Link) (links : links_of p ≡ Ok ks) (run : Li
     listed_followed d c on = let l = listed d c on in subst (λ (x : Located). is_followed p x ≡ true) l.3 (of_link l.0 l.1).1
 
     indexed_listed : (w : Walked) → Contains run w → (k : Link) → Contains ks k → k.entry.home.number ≡ w.number → is_link_indexed k ≡ is_listed k.entry
-    indexed_listed w wc k c number = each_way (is_link_indexed k) (is_listed k.entry)
+    indexed_listed w wc k c number = same_each_way (is_link_indexed k) (is_listed k.entry)
         (λ on. linked_on p es (indexed_in kr) z k (to_filter is_link_indexed kr k (in_run w wc k c number) on))
         (λ on.
         let l = listed k.entry (of_link k c).0 on in

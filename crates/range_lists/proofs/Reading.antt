@@ -1,5 +1,5 @@
 -- Lists of ranges, entry by entry.
-use Rattle.std.proofs.Common.{◌≡◌, ℕ, zero, suc, ◌+◌, ◌-◌, ◌<◌, ◌≤◌, Bool, true, false, cond, List, [], ◌∷◌, ◌++◌, append_assoc, length, drop, filter, min, Some, None, Result, Ok, Err, refl, ap, sym, ◌∙◌, arith, ⊎_elim}
+use Rattle.std.proofs.Common.{◌≡◌, ℕ, zero, suc, ◌+◌, ◌<◌, ◌≤◌, Bool, true, false, cond, List, [], ◌∷◌, ◌++◌, append_assoc, length, drop, filter, min, Some, None, Result, Ok, Err, refl, ap, sym, ◌∙◌, arith, ⊎_elim}
 use Rattle.std.proofs.lemmas.List.{append-nil, drop_all}
 use Rattle.std.proofs.lemmas.Bool.{cases_lt, eq-eqb, ne_eqb}
 use Rattle.ix_base.specs.declared.code.TheConstants.{BAD_RANGE}
@@ -94,9 +94,6 @@ list_capped format ss w base bytes place small = ⊎_elim
     list_past format ss w base bytes (min place top) (omega (arith, high, small)) ∙ sym (list_past format ss w base bytes place (omega (arith, high, small))))
     (λ (low : place ≤ top). let same : min place top ≡ place = omega (arith, low) in ap (λ (k : ℕ). list_at (reader_for format ss w) base bytes k) same)
     (cases_lt top place)
-
-pub one_less : (n k : ℕ) → k < n → n - k ≡ suc (n - (k + 1))
-one_less n k lt = omega arith
 
 -- ---- the list of a value
 

@@ -1,11 +1,13 @@
 -- The run of a shard, and the units of a file by their numbers.
-use Rattle.std.proofs.Common.{◌≡◌, ℕ, zero, suc, ◌+◌, ◌-◌, ◌<◌, ◌≤◌, Bool, true, false, cond, ltb, eqb, List, [], ◌∷◌, ◌++◌, append_assoc, length, get_or, map, Option, Some, None, refl, sym, ap, subst, ◌∙◌, arith, ⊎_elim}
+use Rattle.std.proofs.Common.{◌≡◌, ℕ, zero, suc, ◌+◌, ◌-◌, ◌<◌, ◌≤◌, Bool, true, false, cond, ltb, eqb, List, [], ◌∷◌, ◌++◌, append_assoc, length, get_or, Option, Some, None, refl, sym, ap, subst, ◌∙◌, arith, ⊎_elim}
 use Rattle.std.specs.Prelude.{Contains, find, position, slice_get, is_some}
 use Rattle.std.specs.Option.{option_map, option_or}
 use Rattle.std.specs.List.{AllZip, position_or_len}
 use Rattle.std.proofs.lemmas.Bool.{true≢false, eqb-true, ltb-false}
 use Rattle.std.proofs.lemmas.List.Sums.{fails_before_first}
 use Rattle.std.proofs.lemmas.List.Elements.{Contains-append_left, Contains-append_right}
+use Rattle.std.proofs.lemmas.Option.{same_Some}
+use Rattle.common_laws.proofs.Members.{contains_here, contains_later, contains_cases}
 use Rattle.index_model.specs.declared.unit.Unit.{Unit as UnitHeader}
 use Rattle.index_model.specs.declared.shard.Shard.{Shard}
 use Rattle.index_model.specs.declared.shard.Linked.{Linked}
@@ -14,7 +16,6 @@ use Rattle.index_model.specs.Program.{Walked, Program}
 use Rattle.index_model.specs.ShardParts.{root_facts}
 use Rattle.index_model.specs.Shards.{StandsFor}
 use Rattle.index_model.specs.ShardLanguages.{first_some, root_in}
-use Rattle.index_model.proofs.Meanings.{same_some, contains_here, contains_later, contains_cases}
 use Rattle.index_model.proofs.Scans.{AreScans, scanned_walked}
 use Rattle.index_model.proofs.UnitsApart.{walk_parts}
 use Rattle.index_model.proofs.ShardRoots.{Numbered, numbered_front, numbered_back, find_number, root_is, joined}
@@ -27,7 +28,7 @@ find_some q [] v is = absurd cc
 find_some {A = A} q (x ∷ xs) v is = by (find_some q xs v) (q x) refl is
   where
     by : (find q xs ≡ Some v → Contains xs v × (q v ≡ true)) → (b : Bool) → q x ≡ b → cond b (Some x) (find q xs) ≡ Some v → Contains (x ∷ xs) v × (q v ≡ true)
-    by later true e h = let same : x ≡ v = same_some x v h in (subst (Contains (x ∷ xs)) same (contains_here x xs), subst (λ (y : A). q y ≡ true) same e)
+    by later true e h = let same : x ≡ v = same_Some x v h in (subst (Contains (x ∷ xs)) same (contains_here x xs), subst (λ (y : A). q y ≡ true) same e)
     by later false e h = let r = later h in (contains_later x xs v r.0, r.1)
 
 some_of : {A B : Type 0} (f : A → B) (o : Option A) → is_some (option_map f o) ≡ true → (v : A) × (o ≡ Some v)
@@ -58,15 +59,6 @@ none_first {B = B} f (x ∷ xs) none =
     empty (Some y) e = absurd (true≢false e)
     empty None e = refl
 
-pub slice_map : {A B : Type 0} (f : A → B) (xs : List A) (k : ℕ) (d : A) → k < length xs → slice_get (map f xs) k ≡ Some (f (get_or xs k d))
-slice_map f [] k d lt = absurd (omega arith)
-slice_map f (x ∷ xs) zero d lt = refl
-slice_map f (x ∷ xs) (suc k) d lt = slice_map f xs k d (omega (arith, lt))
-
-pub map_length : {A B : Type 0} (f : A → B) (xs : List A) → length (map f xs) ≡ length xs
-map_length f [] = refl
-map_length f (x ∷ xs) = omega (arith, map_length f xs)
-
 -- ---- the run of a shard
 
 -- the run for which a shard stands, and whose links these are
@@ -90,8 +82,8 @@ module _ (p : Program) where
     before = [];
     after = joined runs;
     is = refl;
-    stands = subst (λ (x : Shard). StandsFor p.sections x run) (same_some t s is) z.0;
-    own = subst (λ (x : Linked). IsLinkedRun p x run) (same_some m l its) y.0;
+    stands = subst (λ (x : Shard). StandsFor p.sections x run) (same_Some t s is) z.0;
+    own = subst (λ (x : Linked). IsLinkedRun p x run) (same_Some m l its) y.0;
     first = n;
     numbered = numbered_front n run (joined runs) h;
   }
@@ -117,7 +109,7 @@ module _ (p : Program) where
       let g = find_some (λ (v : Walked). eqb v.number w.number) c.run f.0 f.1 in
       let vc : Contains ws f.0 = subst (λ (xs : List Walked). Contains xs f.0) (sym c.is) (Contains-append_right c.before (c.run ++ c.after) f.0 (Contains-append_left c.run c.after f.0 g.0)) in
       let number = eqb-true f.0.number w.number g.1 in
-      let same : f.0 ≡ w = same_some f.0 w (sym (find_number n ws f.0 h vc) ∙ ap (λ (k : ℕ). find (λ (x : Walked). eqb x.number k) ws) number ∙ find_number n ws w h wc) in
+      let same : f.0 ≡ w = same_Some f.0 w (sym (find_number n ws f.0 h vc) ∙ ap (λ (k : ℕ). find (λ (x : Walked). eqb x.number k) ws) number ∙ find_number n ws w h wc) in
       (subst (Contains c.run) same g.0, r ∙ ap (option_map root_facts) f.1 ∙ ap (λ (x : Walked). Some (root_facts x)) same)
 
 -- ---- headers

@@ -7,6 +7,7 @@ use mathlib.Core.Logic.{◌⊎◌}
 use Rattle.std.proofs.lemmas.Bool.{false≢true, eq-eqb, and_parts}
 use Rattle.std.proofs.lemmas.List.{append-nil}
 use Rattle.std.proofs.lemmas.List.Elements.{Contains-append_left, Contains-append_right}
+use Rattle.common_laws.proofs.Members.{contains_cases, of_filter}
 use Rattle.ix_base.specs.declared.fault.Fault.{Fault}
 use Rattle.ix_base.specs.Reading.{Input}
 use Rattle.index_model.specs.declared.range.Range.{Range}
@@ -19,8 +20,8 @@ use Rattle.index_model.specs.Meaning.{◌>>=◌, each}
 use Rattle.index_model.specs.Sections.{Section}
 use Rattle.index_model.specs.Units.{units_of}
 use Rattle.index_model.specs.declared.unit.Unit.{Unit as UnitHeader}
-use Rattle.unit_headers.specs.Images.{Image, image_of}
-use Rattle.unit_headers.proofs.Images.{Parts, parts_of}
+use Rattle.file_image.specs.Images.{Image, image_of}
+use Rattle.file_image.proofs.Images.{Parts, parts_of}
 use Rattle.index_model.specs.Forms.{Value, Addr, AddrIndex}
 use Rattle.index_model.specs.Tags.{subprogram}
 use Rattle.index_model.specs.Attributes.{attribute, as_address, low_pc}
@@ -33,20 +34,22 @@ use Rattle.index_model.specs.Rules.{is_visited}
 use Rattle.index_model.specs.ShardParts.{IsNodeOf, is_kept, kept_in, may_be_ada, root_facts}
 use Rattle.index_model.specs.Shards.{IsRunOf, AreShardsOf}
 use Rattle.index_model.specs.ShardLanguages.{first_some, root_in, NodesRise}
-use Rattle.index_model.proofs.Meanings.{same_ok, contains_cases}
+use Rattle.index_model.proofs.Meanings.{same_ok}
 use Rattle.index_model.proofs.TokenReads.{Follow, start}
 use Rattle.index_model.proofs.OrderLaws.{entries, walk_tokens}
-use Rattle.index_model.proofs.Pairs.{Pairs, On, of_filter, pairs_filter, pairs_of_map}
+use Rattle.index_model.proofs.Pairs.{Pairs, On, pairs_filter, pairs_of_map}
 use Rattle.index_model.proofs.ShardRoots.{Numbered, program_numbered, find_number, roots_are, joined}
 use Rattle.index_model.proofs.Scans.{program_parts}
 use Rattle.index_model.proofs.ShardNodes.{all_rise}
 use Rattle.index_model.proofs.UnitsApart.{program_apart, run_apart}
+use Rattle.index_model.proofs.Located.{Before, located_before, of_located, at_home}
 use Rattle.range_lists.specs.Homes.{as_value}
 use Rattle.range_lists.specs.Nodes.{node_ranges, all_node_ranges, has_node_ranges, is_linked, is_linked_subprogram, nodes_with_ranges, EntriesRise}
 use Rattle.range_lists.specs.Units.{AreLinkedOf, Keeps, unit_nodes, first_low}
-use Rattle.range_lists.proofs.Filters.{filter_within, filter_both, zip_filter, each_zip, each_map}
-use Rattle.range_lists.proofs.Located.{Before, located_before, of_located, at_home, at_number, home_only}
-use Rattle.range_lists.proofs.Followed.{is_followed, all_followed, followed_kept}
+use Rattle.common_laws.proofs.Filters.{filter_within, filter_both}
+use Rattle.range_lists.proofs.Filters.{zip_filter, each_zip, each_map}
+use Rattle.range_lists.proofs.Located.{at_number, home_only}
+use Rattle.index_model.proofs.Followed.{is_followed, all_followed, followed_kept}
 use Rattle.range_lists.proofs.NodeItems.{node_place, node_unit, node_tag, node_low, node_has, node_is_entry}
 use Rattle.range_lists.proofs.LinkedLaws.{own, entries_pairs, pairs_rise, listed_followed, subprograms_are}
 use Rattle.range_lists.proofs.Runs.{Chosen, chosen_at, member_of, scan_unit}

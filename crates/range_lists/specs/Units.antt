@@ -2,7 +2,7 @@
 use Rattle.std.specs.Prelude.{◌≡◌, ℕ, ◌==◌, List, [], ◌∷◌, filter, slice_get, Contains, Option, Some, None, option_and_then, Result, Ok}
 use Rattle.std.specs.List.{AllZip}
 use Rattle.ix_base.specs.declared.fault.Fault.{Fault}
-use Rattle.unit_headers.specs.Images.{Image}
+use Rattle.file_image.specs.Images.{Image}
 use Rattle.index_model.specs.declared.range.Range.{Range}
 use Rattle.index_model.specs.declared.shard.Raw.{Raw}
 use Rattle.index_model.specs.declared.shard.Node.{Node}

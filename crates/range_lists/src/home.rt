@@ -9,7 +9,7 @@ ghost use Rattle.index_model.specs.Ranges.{first_base};
 ghost use Rattle.std.specs.Prelude.{option_and_then};
 ghost use Rattle.range_lists.specs.Homes.{as_value, unit_with};
 
-use elf_sections::Sections;
+use file_image::Sections;
 use index_model::{Raw, Unit};
 use ix_base::Cursor;
 use ix_base::code::{BAD_RANGE, NO_BASE};

@@ -12,8 +12,6 @@ mod lists;
 mod node;
 mod refusal;
 mod run;
-#[cfg(test)]
-mod tests;
 mod unit;
 
 pub use index_model::Range;

@@ -3,7 +3,7 @@
 ghost use Rattle.std.specs.Prelude.{◌≡◌, filter, map, slice_get};
 ghost use Rattle.std.specs.Arc.{arc_value};
 ghost use Rattle.index_model.specs.Gives.{Gives};
-ghost use Rattle.unit_headers.specs.Images.{image_of};
+ghost use Rattle.file_image.specs.Images.{image_of};
 ghost use Rattle.range_lists.specs.Homes.{unit_with};
 ghost use Rattle.range_lists.specs.Lists.{behind};
 ghost use Rattle.range_lists.specs.Units.{first_low, ForUnit, ForWalk};
@@ -12,11 +12,11 @@ ghost use Rattle.range_lists.specs.Nodes.{all_node_ranges, is_linked_subprogram,
 use crate::home::Home;
 use crate::node::has_ranges;
 use crate::run::{is_linked, nodes_of, root_in, run_of};
+use file_image::Image;
 use index_model::{Linked, LinkedEntry, Node, Range, Raw, Shard, Unit};
 use ix_base::Stop;
 use std::alloc::Global;
 use std::sync::Arc;
-use unit_headers::Image;
 
 // The tag of a subprogram (DWARF 5, section 7.5.3).
 const SUBPROGRAM: u64 = 0x2e;

@@ -2,6 +2,7 @@
 use Rattle.std.proofs.Common.{◌≡◌, ℕ, suc, ◌+◌, ◌-◌, ◌≤◌, Bool, eqb, length, List, [], ◌∷◌, Option, Some, None, Result, Ok, Err, refl, sym, ap, subst, ◌∙◌, arith, ⊎_elim}
 use Rattle.std.specs.Prelude.{Contains, codes, find, option_and_then}
 use Rattle.std.proofs.lemmas.Bool.{cases_eq}
+use Rattle.common_laws.proofs.Members.{contains_here, contains_cases, to_map}
 use Rattle.ix_base.specs.declared.fault.Fault.{Fault}
 use Rattle.ix_base.specs.Reading.{Input}
 use Rattle.index_model.specs.declared.unit.Unit.{Unit as UnitHeader}
@@ -17,17 +18,17 @@ use Rattle.index_model.specs.Program.{Walked, Located, walked, items_of, located
 use Rattle.index_model.specs.Sections.{Section, section_bytes}
 use Rattle.index_model.specs.Strings.{Texts, base_of, texts_of}
 use Rattle.index_model.specs.Walk.{Item, walk_of, parent_of}
-use Rattle.index_model.proofs.Meanings.{bind_ok, then_ok, same_ok, contains_here, contains_cases}
+use Rattle.index_model.proofs.Meanings.{bind_ok, then_ok, same_ok}
 use Rattle.index_model.proofs.OrderLaws.{walks_in_order, walk_rises}
 use Rattle.index_model.proofs.ParentLaws.{Rise, rise_below}
-use Rattle.index_model.proofs.Pairs.{to_map}
 use Rattle.index_model.proofs.Scans.{read, walked_by}
 use Rattle.index_model.proofs.TextLaws.{attribute_texts_in}
+use Rattle.index_model.proofs.Located.{at_home}
 use Rattle.entry_scan.specs.Inside.{walked_of}
-use Rattle.unit_headers.specs.Images.{unit_bytes}
+use Rattle.file_image.specs.Images.{unit_bytes}
 use Rattle.shard_build.specs.Texts.{texts_by, HoldsTexts}
 use Rattle.shard_build.specs.Kept.{NodeSeen, node_seen, node_under}
-use Rattle.shard_build.proofs.NodeLaws.{at_home, place_of, IsSeenOf, is_node, seen_under}
+use Rattle.shard_build.proofs.NodeLaws.{place_of, IsSeenOf, is_node, seen_under}
 use Rattle.shard_build.proofs.RunLaws.{body_is}
 
 -- ---- the root

@@ -2,6 +2,7 @@
 use Rattle.std.proofs.Common.{◌≡◌, ℕ, ◌+◌, ◌<◌, ◌≤◌, length, List, [], ◌∷◌, Option, Some, Result, Ok, refl, sym, ap, subst, ◌∙◌, arith, ⊎_elim}
 use Rattle.std.specs.Prelude.{Contains, codes, slice_get, IsSome}
 use Rattle.std.proofs.lemmas.Option.{get_or_from_slice_get}
+use Rattle.common_laws.proofs.Members.{contains_cases}
 use Rattle.ix_base.specs.declared.code.TheConstants.{BAD_ABBREVIATION}
 use Rattle.ix_base.specs.declared.fault.Fault.{Fault}
 use Rattle.index_model.specs.declared.shard.Node.{Node}
@@ -15,10 +16,10 @@ use Rattle.index_model.specs.Program.{Walked, Program, walked, item_with_offset}
 use Rattle.index_model.specs.References.{target_of}
 use Rattle.index_model.specs.Sections.{Section, section_bytes}
 use Rattle.index_model.specs.ShardParts.{spans_of, as_next}
-use Rattle.index_model.proofs.Meanings.{some_ok, contains_cases}
+use Rattle.index_model.proofs.Meanings.{some_ok}
 use Rattle.index_model.proofs.Scans.{AreScans, read, scanned_walked, program_parts}
 use Rattle.index_model.proofs.UnitsApart.{walk_parts}
-use Rattle.unit_headers.specs.Images.{Image, image_of, unit_bytes}
+use Rattle.file_image.specs.Images.{Image, image_of, unit_bytes}
 use Rattle.shard_build.specs.declared.home.Home.{Home}
 use Rattle.shard_build.specs.Again.{walk_by, IsSound}
 use Rattle.shard_build.specs.Entries.{IsNodeIn}

@@ -4,16 +4,17 @@ use Rattle.std.specs.Prelude.{Contains, find, flat_map}
 use Rattle.std.specs.List.{AllZip}
 use Rattle.std.specs.List.Sorted.{IsNonDecreasingBy}
 use Rattle.std.proofs.lemmas.Bool.{eqb-true, eq-eqb, cases_lt}
+use Rattle.common_laws.proofs.Members.{contains_here, contains_later, contains_cases, of_filter, to_filter, of_find}
 use Rattle.index_model.specs.declared.shard.Node.{Node}
 use Rattle.index_model.specs.declared.shard.Shard.{Shard}
 use Rattle.index_model.specs.Program.{Walked, Located, located}
 use Rattle.index_model.specs.Sections.{Section}
 use Rattle.index_model.specs.ShardParts.{IsNodeOf, node_facts, is_kept, kept_in}
 use Rattle.index_model.specs.Shards.{StandsFor}
-use Rattle.index_model.proofs.Meanings.{contains_here, contains_later, contains_cases}
-use Rattle.index_model.proofs.Pairs.{Pairs, all_pairs, of_filter, to_filter, pairs_filter}
+use Rattle.index_model.proofs.Pairs.{Pairs, all_pairs, pairs_filter}
 use Rattle.index_model.proofs.UnitsApart.{AreApart}
-use Rattle.shard_build.proofs.OnePlace.{Earlier, find_member, find_none, run_rises}
+use Rattle.index_model.proofs.Located.{Before, located_before}
+use Rattle.shard_build.proofs.OnePlace.{find_none}
 
 node_offset : (n : Node) (d : Located) → n ≡ node_facts d n → n.offset ≡ d.item.at
 unfolding node_facts
@@ -49,7 +50,7 @@ module _ (ss : List Section) where
       (λ (l : Contains es d). let r = node_of ms es z.1 d l in (r.0, contains_later m ms r.0 r.1, r.2))
       (contains_cases e es d c)
 
-  nodes_rise : (nodes : List Node) (ds : List Located) → AllZip (IsNodeOf ss) nodes ds → Pairs Earlier ds → Pairs NodesEarlier nodes
+  nodes_rise : (nodes : List Node) (ds : List Located) → AllZip (IsNodeOf ss) nodes ds → Pairs Before ds → Pairs NodesEarlier nodes
   nodes_rise [] [] z h = tt
   nodes_rise [] (d ∷ ds) z h = absurd z
   nodes_rise (m ∷ ms) [] z h = absurd z
@@ -62,7 +63,7 @@ module _ (ss : List Section) where
     -- the offsets of a shard's nodes rise
     pub offsets_rise : IsNonDecreasingBy (λ n. n.offset) s.nodes
     offsets_rise i j d le within =
-        let pairs = nodes_rise s.nodes (kept_in run) stands.nodes (pairs_filter Earlier kept (flat_map located run) (run_rises ss run a)) in
+        let pairs = nodes_rise s.nodes (kept_in run) stands.nodes (pairs_filter Before kept (flat_map located run) (located_before ss run a)) in
         ⊎_elim
         (λ (lt : i < j). let r = all_pairs NodesEarlier s.nodes pairs i j d lt within in omega (arith, r))
         (λ (ge : j ≤ i). let same : i ≡ j = omega (arith, le, ge) in subst (λ (k : ℕ). (get_or s.nodes i d).offset ≤ (get_or s.nodes k d).offset) same (omega arith))
@@ -71,7 +72,7 @@ module _ (ss : List Section) where
     -- the node at an offset is that of an entry there
     pub kept_there : (o : ℕ) (n : Node) → find (has_offset o) s.nodes ≡ Some n → (d : Located) × Contains (flat_map located run) d × IsNodeOf ss n d × (d.item.at ≡ o)
     kept_there o n found =
-        let m = find_member (has_offset o) s.nodes n found in
+        let m = of_find (has_offset o) s.nodes n found in
         let e = entry_of s.nodes (kept_in run) stands.nodes n m.0 in
         (e.0, (of_filter kept (flat_map located run) e.0 e.1).0, e.2, sym (node_offset n e.0 e.2.facts) ∙ eqb-true n.offset o m.1)
 

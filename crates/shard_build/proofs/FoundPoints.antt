@@ -6,15 +6,15 @@ use Rattle.std.specs.List.Sorted.{IsNonDecreasingBy}
 use Rattle.std.proofs.lemmas.Bool.{eq-eqb, ne_eqb, cases_eq}
 use Rattle.std.proofs.lemmas.List.{take-append-drop}
 use Rattle.std.proofs.lemmas.List.Elements.{Contains-append_left}
+use Rattle.std.proofs.lemmas.Option.{same_Some}
+use Rattle.common_laws.proofs.Members.{contains_here, contains_later, of_filter}
 use Rattle.index_model.specs.declared.shard.Node.{Node}
-use Rattle.index_model.proofs.Meanings.{same_some, contains_here, contains_later}
-use Rattle.index_model.proofs.Pairs.{of_filter}
 use Rattle.shard_build.proofs.FoundNodes.{has_offset}
 
 -- ---- the last that passes
 
 last_in : {A : Type 0} (y : A) (ys : List A) (x : A) → last_or (Some y) ys ≡ Some x → Contains (y ∷ ys) x
-last_in {A = A} y [] x is = subst (Contains (y ∷ [])) (same_some y x is) (contains_here y [])
+last_in {A = A} y [] x is = subst (Contains (y ∷ [])) (same_Some y x is) (contains_here y [])
 last_in y (z ∷ zs) x is = contains_later y (z ∷ zs) x (last_in z zs x is)
 
 last_of : {A : Type 0} (ys : List A) (x : A) → last_or None ys ≡ Some x → Contains ys x

@@ -7,13 +7,12 @@ use Rattle.std.specs.List.{position_or_len}
 use Rattle.std.proofs.lemmas.Bool.{lt-ltb, cases_lt}
 use Rattle.std.proofs.lemmas.List.Folds.{find_at}
 use Rattle.std.proofs.lemmas.List.Quantifiers.{position-Some}
-use Rattle.std.proofs.lemmas.Option.{slice_get_past}
+use Rattle.std.proofs.lemmas.Option.{slice_get_past, same_Some}
+use Rattle.common_laws.proofs.Members.{of_map, to_map}
 use Rattle.index_model.specs.declared.shard.Shard.{Shard}
 use Rattle.index_model.specs.Faults.{program_of}
 use Rattle.index_model.specs.Program.{Program, Located, item_with_offset}
 use Rattle.index_model.specs.Shards.{AreShardsOf}
-use Rattle.index_model.proofs.Meanings.{same_some}
-use Rattle.index_model.proofs.Pairs.{of_map, to_map}
 use Rattle.index_model.proofs.ShardRuns.{shard_run}
 use Rattle.shard_build.specs.declared.found.Found.{Found}
 use Rattle.shard_build.specs.Found.{has_unit, IsUnitAt, IsFound, IsFoundIn}
@@ -58,7 +57,7 @@ module _ (f : List ℕ) (p : Program) (is : program_of f ≡ Ok p) (shards : Lis
 
   module _ (u : ℕ) (at : IsUnitAt f o (Some u)) where
     unit_is : (d : Located) → item_with_offset p o ≡ Some d → u ≡ d.home.number
-    unit_is d e = let h = home_of f p is o d e in same_some u d.home.number (at p is d.home h.0 d.item h.1 h.2)
+    unit_is d e = let h = home_of f p is o d e in same_Some u d.home.number (at p is d.home h.0 d.item h.1 h.2)
 
     has_home : (d : Located) → item_with_offset p o ≡ Some d → (s : Shard) → has_unit u s ≡ true → has_unit d.home.number s ≡ true
     has_home d e s on = subst (λ (n : ℕ). has_unit n s ≡ true) (unit_is d e) on

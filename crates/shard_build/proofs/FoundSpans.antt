@@ -3,6 +3,9 @@ use Rattle.std.proofs.Common.{◌≡◌, ℕ, ◌<◌, Bool, eqb, leb, ltb, ◌&
 use Rattle.std.specs.Prelude.{Contains, filter, find, flat_map}
 use Rattle.std.specs.Option.{option_map}
 use Rattle.std.proofs.lemmas.Bool.{and_parts, and_from, eqb-true, eq-eqb, le-leb, lt-ltb, cases_eq}
+use Rattle.std.proofs.lemmas.Option.{same_Some}
+use Rattle.common_laws.proofs.Members.{of_map, to_map, of_filter, of_flat_map, to_flat_map, of_find}
+use Rattle.common_laws.proofs.Options.{of_option_map}
 use Rattle.index_model.specs.declared.shard.Node.{Node}
 use Rattle.index_model.specs.declared.shard.Shard.{Shard}
 use Rattle.index_model.specs.declared.shard.Span.{Span}
@@ -15,27 +18,18 @@ use Rattle.index_model.specs.ShardParts.{may_be_ada, span_of, spans_of, item_in_
 use Rattle.index_model.specs.Shards.{StandsFor, IsRunOf}
 use Rattle.index_model.specs.Walk.{Item, parent_of}
 use Rattle.index_model.proofs.InnermostLaws.{parent_innermost}
-use Rattle.index_model.proofs.Meanings.{same_some}
 use Rattle.index_model.proofs.OrderLaws.{walks_in_order}
-use Rattle.index_model.proofs.Pairs.{of_map, to_map, of_filter, of_flat_map}
 use Rattle.index_model.proofs.UnitsApart.{run_apart}
+use Rattle.index_model.proofs.SpanOrder.{entry_is}
+use Rattle.index_model.proofs.Located.{at_home}
 use Rattle.shard_build.specs.Entries.{IsNodeIn}
 use Rattle.shard_build.specs.Found.{IsWithin, IsSpanOfParent, located_in_span}
-use Rattle.shard_build.proofs.NodeLaws.{at_home}
 use Rattle.shard_build.proofs.FoundNodes.{has_offset, kept_there, not_kept}
-use Rattle.shard_build.proofs.OnePlace.{find_member, find_none, to_flat_map, is_at, home_of, item_is_at, one_place, in_program}
+use Rattle.shard_build.proofs.OnePlace.{find_none, is_at, home_of, item_is_at, one_place, in_program}
 
 -- the entry at the offset in a span
 abbrev stands_in : Span → ℕ → Item → Bool
 stands_in s o d = eqb d.at o && leb s.from o && ltb o s.to
-
-mapped : {A B : Type 0} (f : A → B) (o : Option A) (y : B) → option_map f o ≡ Some y → (x : A) × (o ≡ Some x) × (f x ≡ y)
-mapped f (Some x) y is = (x, refl, same_some (f x) y is)
-mapped f None y is = absurd cc
-
-entry_is : (w : Walked) (e : Item) → (span_of w e).entry ≡ e.at
-unfolding span_of
-entry_is w e = refl
 
 number_is : (w : Walked) (e : Item) → (span_of w e).unit ≡ w.number
 unfolding span_of
@@ -54,7 +48,7 @@ span_number w s c = let e = span_item w s c in ap (λ (x : Span). x.unit) (sym e
 -- an entry that is found in a span is one of the unit
 pub in_span : (w : Walked) (s : Span) (o : ℕ) (d : Item) → item_in_span w s o ≡ Some d → Contains (items_of w) d × (d.at ≡ o)
 in_span w s o d found =
-    let m = find_member (stands_in s o) (items_of w) d found in
+    let m = of_find (stands_in s o) (items_of w) d found in
     (m.0, eqb-true d.at o (and_parts (eqb d.at o) (leb s.from o) (and_parts (eqb d.at o && leb s.from o) (ltb o s.to) m.1).0).0)
 
 offset_of_parent : (w : Walked) (d e : Item) → parent_of (items_of w) d ≡ Some e → parent_offset (at_home w d) ≡ Some e.at
@@ -95,7 +89,7 @@ module _ (f : List ℕ) (p : Program) (is : program_of f ≡ Ok p) (s : Shard) (
         let deep : 0 < d.item.depth = omega (arith, other) in
         let i = parent_innermost p.sections walk.0 d.home walk.1 d.item h.1 deep in
         let has = (walks_in_order p.sections walk.0 d.home walk.1).parents d.item h.1 deep in
-        let same : has.parent ≡ i.0 = same_some has.parent i.0 (sym has.is ∙ i.1) in
+        let same : has.parent ≡ i.0 = same_Some has.parent i.0 (sym has.is ∙ i.1) in
         record {
           parent = i.0;
           member = subst (Contains (items_of d.home)) same has.member;
@@ -119,7 +113,7 @@ module _ (f : List ℕ) (p : Program) (is : program_of f ≡ Ok p) (s : Shard) (
     module _ (t : Span) (parent : IsParentAt s o (Some t.entry)) (w : Walked) (wc : Contains run w) (tc : Contains (spans_of w) t) where
       parent_span : IsSpanOfParent w t o
       parent_span d found =
-          let m = mapped (at_home w) (item_in_span w t o) d found in
+          let m = of_option_map (at_home w) (item_in_span w t o) d found in
           let i = in_span w t o m.0 m.1 in
           subst (λ (x : Located). parent_offset x ≡ Some t.entry) m.2 (sym (parent f p run is part stands (at_home w m.0) (in_run w wc m.0 i.0) i.1))
 
@@ -131,7 +125,7 @@ module _ (f : List ℕ) (p : Program) (is : program_of f ≡ Ok p) (s : Shard) (
           let k = parent_is d found in
           let says = parent f p run is part stands d (in_run d.home here d.item h.1) h.2 in
           let x = span_item w t tc in
-          let at : x.0.at ≡ k.parent.at = sym (entry_is w x.0) ∙ ap (λ (y : Span). y.entry) x.2 ∙ same_some t.entry k.parent.at (says ∙ k.offset) in
+          let at : x.0.at ≡ k.parent.at = sym (entry_is w x.0) ∙ ap (λ (y : Span). y.entry) x.2 ∙ same_Some t.entry k.parent.at (says ∙ k.offset) in
           let one = one_place f p is w d.home (in_program p run part w wc) (in_program p run part d.home here) x.0 k.parent x.1 k.member at in
           let home : d.home ≡ w = sym (ap (λ (l : Located). l.home) one) in
           let span : span_of d.home k.parent ≡ t = sym (ap (λ (l : Located). span_of l.home l.item) one) ∙ x.2 in

@@ -5,12 +5,12 @@ use Rattle.std.specs.Option.{option_or}
 use Rattle.std.proofs.lemmas.Bool.{eqb-true, eq-eqb, ne_eqb, cases_eq}
 use Rattle.std.proofs.lemmas.List.{get_or-set_other, get_or-set_same}
 use Rattle.std.proofs.lemmas.List.Quantifiers.{position-Some}
-use Rattle.form_reader.specs.declared.value.Value.{Value as ReadValue}
-use Rattle.form_reader.specs.Seen.{seen}
+use Rattle.std.proofs.lemmas.Option.{same_Some}
+use Rattle.index_model.specs.declared.value.Value.{Value as ReadValue}
+use Rattle.index_model.specs.FormSeen.{seen}
 use Rattle.index_model.specs.Forms.{Value}
 use Rattle.index_model.specs.Walk.{Item}
 use Rattle.index_model.specs.Attributes.{attribute}
-use Rattle.index_model.proofs.Meanings.{same_some}
 use Rattle.shard_build.specs.Numbers.{numbers, index_in, index_of, kept_at, if_asked, Keeps}
 
 -- at the index of an attribute stands its number
@@ -38,7 +38,7 @@ module _ (values : List (Option ReadValue)) (number : ℕ) (v : Value) where
   pub stays : (j : ℕ) (x : Value) → index_of number ≡ Some j → kept_at values j ≡ Some x → Keeps values number v values
   stays j x here some n k is = ⊎_elim
       (λ (same : number ≡ n).
-      let at : j ≡ k = same_some j k (sym here ∙ ap index_of same ∙ is) in
+      let at : j ≡ k = same_Some j k (sym here ∙ ap index_of same ∙ is) in
       let full : kept_at values k ≡ Some x = subst (λ (i : ℕ). kept_at values i ≡ Some x) at some in
       rw full refl)
       (λ (other : number ≢ n). rw (ne_eqb number n other) (or_none (kept_at values k)))
@@ -48,7 +48,7 @@ module _ (values : List (Option ReadValue)) (number : ℕ) (v : Value) where
   pub puts : (j : ℕ) (read : ReadValue) → seen read ≡ v → j < length values → index_of number ≡ Some j → kept_at values j ≡ None → Keeps values number v (set values j (Some read))
   puts j read what within here empty n k is = ⊎_elim
       (λ (same : number ≡ n).
-      let at : j ≡ k = same_some j k (sym here ∙ ap index_of same ∙ is) in
+      let at : j ≡ k = same_Some j k (sym here ∙ ap index_of same ∙ is) in
       subst (λ (i : ℕ). option_map seen (get_or (set values j (Some read)) i None) ≡ option_or (kept_at values i) (if_asked number n v)) at
       (rw (eq-eqb number n same, empty) (ap (option_map seen) (get_or-set_same values j (Some read) None within) ∙ ap {B = Option Value} (λ (x : Value). Some x) what)))
       (λ (other : number ≢ n).

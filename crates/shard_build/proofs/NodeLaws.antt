@@ -11,12 +11,9 @@ use Rattle.index_model.specs.ShardParts.{node_facts, IsNodeOf}
 use Rattle.index_model.specs.Strings.{Texts, text_in, texts_of, some_text, own_name, own_linkage_name}
 use Rattle.index_model.specs.Walk.{Item, parent_of}
 use Rattle.index_model.proofs.Meanings.{bind_ok, same_ok}
+use Rattle.index_model.proofs.Located.{at_home}
 use Rattle.shard_build.specs.declared.open.Open.{Open}
 use Rattle.shard_build.specs.Kept.{NodeSeen, node_seen, node_by, node_under}
-
--- an entry of a unit
-abbrev pub at_home : Walked → Item → Located
-at_home w d = record { home = w; item = d }
 
 -- the node, with its texts apart, is that of the entry
 pub record IsSeenOf (ss : List Section) (n : NodeSeen) (d : Located) : Type 0 where

@@ -2,13 +2,14 @@
 use Rattle.std.proofs.Common.{◌≡◌, ℕ, zero, suc, ◌-◌, ◌<◌, ◌≤◌, Bool, List, [], ◌∷◌, ◌++◌, Option, Some, None, option_map, sym, ap, subst, ◌∙◌, arith, ⊎_elim}
 use Rattle.std.specs.Prelude.{Contains}
 use Rattle.std.proofs.lemmas.List.Elements.{Contains-append_left, Contains-append_right, Contains-append_cases, Contains-push, Contains-push_cases}
+use Rattle.common_laws.proofs.Members.{contains_here, contains_cases}
 use Rattle.index_model.specs.declared.rules.Parent.{Parent}
 use Rattle.index_model.specs.Walk.{Item, parent_of}
 use Rattle.index_model.specs.Rules.{is_visited, is_visited_under, parent_as}
 use Rattle.index_model.specs.LawsOrder.{HasParent}
-use Rattle.index_model.proofs.Meanings.{contains_here, contains_cases}
 use Rattle.index_model.proofs.ParentLaws.{Rise, rise_below}
 use Rattle.index_model.proofs.VisitedLaws.{visited_by_parent}
+use Rattle.index_model.proofs.InnermostLaws.{same_item}
 use Rattle.shard_build.specs.declared.open.Open.{Open}
 use Rattle.shard_build.specs.Kept.{innermost, is_visited_in, role_of}
 
@@ -27,20 +28,6 @@ after_in n [] d rest r x c = ⊎_elim
     (λ (l : Contains rest x). let up = rise_below (suc d.at) rest x r.1 l in omega (arith, up))
     (contains_cases d rest x c)
 after_in n (e ∷ es) d rest r x c = after_in (suc e.at) es d rest r.1 x c
-
--- two entries at one place are one
-same_place : (n : ℕ) (ds : List Item) (x y : Item) → Rise n ds → Contains ds x → Contains ds y → x.at ≡ y.at → x ≡ y
-same_place n [] x y r xc yc same = absurd (omega (arith, xc.1))
-same_place n (d ∷ ds) x y r xc yc same = ⊎_elim
-    (λ (dx : d ≡ x). ⊎_elim
-    (λ (dy : d ≡ y). sym dx ∙ dy)
-    (λ (yl : Contains ds y). absurd (omega (arith, rise_below (suc d.at) ds y r.1 yl, same, ap (λ (z : Item). z.at) dx)))
-    (contains_cases d ds y yc))
-    (λ (xl : Contains ds x). ⊎_elim
-    (λ (dy : d ≡ y). absurd (omega (arith, rise_below (suc d.at) ds x r.1 xl, same, ap (λ (z : Item). z.at) dy)))
-    (λ (yl : Contains ds y). same_place (suc d.at) ds x y r.1 xl yl same)
-    (contains_cases d ds y yc))
-    (contains_cases d ds x xc)
 
 -- ---- open entries
 
@@ -111,7 +98,7 @@ module _ (ada : Bool) (ds : List Item) where
         let a : h.parent.at ≤ is.entry.at = is.last h.parent early up in
         let here : Contains ds is.entry = subst (λ (xs : List Item). Contains xs is.entry) whole (Contains-append_left es (d ∷ rest) is.entry is.member) in
         let b : is.entry.at ≤ h.parent.at = h.last is.entry here (before_in n es d rest rising is.entry is.member) (omega (arith, is.depth, deep)) in
-        same_place n ds h.parent is.entry rise h.member here (omega (arith, a, b))
+        same_item n ds h.parent is.entry rise h.member here (omega (arith, a, b))
 
     -- what the open entries say of an entry behind them
     pub record IsParentOf (os : List Open) : Type 0 where

@@ -12,7 +12,7 @@ use Rattle.index_model.specs.declared.unit.Unit.{Unit as UnitHeader}
 use Rattle.index_model.specs.Program.{Walked, Located, located, joint, body}
 use Rattle.index_model.specs.Sections.{Section}
 use Rattle.index_model.specs.ShardParts.{root_facts, is_kept, kept_in, spans_of, imports_in}
-use Rattle.unit_headers.specs.Images.{unit_bytes}
+use Rattle.file_image.specs.Images.{unit_bytes}
 use Rattle.shard_build.specs.declared.run.Run.{Run}
 use Rattle.shard_build.specs.Kept.{Behind, NodeSeen, node_seen, kept_seen}
 use Rattle.shard_build.specs.Runs.{HoldsOneMore}

@@ -4,6 +4,7 @@ use Rattle.std.specs.Prelude.{Contains, filter, filter_map, map}
 use Rattle.std.specs.List.{cons_option}
 use Rattle.std.proofs.lemmas.Bool.{lt-ltb, le-ltb}
 use Rattle.std.proofs.lemmas.List.Elements.{filter_map-append, Contains-push_cases}
+use Rattle.common_laws.proofs.Members.{contains_here, contains_later}
 use Rattle.ix_base.specs.Reading.{Input}
 use Rattle.index_model.specs.declared.shard.Span.{Span}
 use Rattle.index_model.specs.declared.unit.Unit.{Unit as UnitHeader}
@@ -13,7 +14,6 @@ use Rattle.index_model.specs.ShardParts.{ends_children, first_place, span_of, sp
 use Rattle.index_model.specs.Walk.{Item, Token, Null, Entry, Levels}
 use Rattle.index_model.specs.WalkLeft.{levels_after}
 use Rattle.index_model.proofs.OrderLaws.{entries, goes}
-use Rattle.index_model.proofs.Meanings.{contains_here, contains_later}
 use Rattle.index_model.proofs.TokenReads.{Follow}
 use Rattle.shard_build.proofs.SpanEnds.{ends, new_spans, span_before}
 

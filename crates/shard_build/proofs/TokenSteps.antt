@@ -1,12 +1,12 @@
 -- One token of a walk, and those behind it.
 use Rattle.std.proofs.Common.{◌≡◌, ℕ, List, ◌∷◌, Result, Ok, sym, ap, ◌∙◌}
 use Rattle.std.specs.Prelude.{Contains}
+use Rattle.common_laws.proofs.Members.{contains_here, contains_later}
 use Rattle.ix_base.specs.declared.fault.Fault.{Fault}
 use Rattle.index_model.specs.declared.unit.Unit.{Unit as UnitHeader}
 use Rattle.index_model.specs.Meaning.{◌>>=◌}
 use Rattle.index_model.specs.Sections.{Section}
 use Rattle.index_model.specs.Walk.{Item, Token, Null, Entry, Walk, items, with_token}
-use Rattle.index_model.proofs.Meanings.{contains_here, contains_later}
 use Rattle.shard_build.specs.Kept.{Behind, behind, behind_all}
 use Rattle.shard_build.specs.Tokens.{OnEntry}
 

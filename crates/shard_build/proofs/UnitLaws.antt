@@ -4,6 +4,7 @@ use Rattle.std.specs.Prelude.{Contains, filter, flat_map, map}
 use Rattle.std.specs.List.{AllZip}
 use Rattle.std.proofs.lemmas.Bool.{eq-eqb, ne_eqb, cases_eq}
 use Rattle.std.proofs.lemmas.List.Elements.{Contains-append_right}
+use Rattle.common_laws.proofs.Members.{contains_here}
 use Rattle.ix_base.specs.declared.fault.Fault.{Fault}
 use Rattle.ix_base.specs.Reading.{Input}
 use Rattle.index_model.specs.declared.shard.Import.{Import}
@@ -17,17 +18,17 @@ use Rattle.index_model.specs.ShardParts.{is_kept, may_be_ada}
 use Rattle.index_model.specs.Strings.{Texts, texts_of}
 use Rattle.index_model.specs.Walk.{Item, Token, Null, Entry, Levels, parent_of}
 use Rattle.index_model.specs.WalkLeft.{levels_after}
-use Rattle.index_model.proofs.Meanings.{contains_here}
 use Rattle.index_model.proofs.OrderLaws.{entries}
 use Rattle.index_model.proofs.ParentLaws.{Rise}
 use Rattle.index_model.proofs.TokenReads.{Follow}
+use Rattle.index_model.proofs.Located.{at_home}
 use Rattle.shard_build.specs.declared.frame.Frame.{Frame}
 use Rattle.shard_build.specs.declared.open.Open.{Open}
 use Rattle.shard_build.specs.Kept.{Behind, NodeSeen, innermost, is_visited_in, role_of, opened_by, closed, imports_by, node_by, has_node, behind_all}
 use Rattle.shard_build.specs.Texts.{texts_by}
 use Rattle.shard_build.proofs.EntrySteps.{frame, visited, texts, node, made, goes_on, stops}
 use Rattle.shard_build.proofs.FrameLaws.{frame_by, unit_frame, ada_says, texts_say}
-use Rattle.shard_build.proofs.NodeLaws.{at_home, IsSeenOf, seen_of}
+use Rattle.shard_build.proofs.NodeLaws.{IsSeenOf, seen_of}
 use Rattle.shard_build.proofs.OpenLaws.{AreOpen, open_behind, opens, open_closed, is_parent}
 
 -- ---- behind a null

@@ -7,6 +7,7 @@ use Rattle.std.proofs.lemmas.Bool.{and_parts, and_from, leb-true, le-leb, ltb-tr
 use Rattle.std.proofs.lemmas.List.{get_or-map, length-map}
 use Rattle.std.proofs.lemmas.List.Elements.{Contains-get_or, Contains-append_cases}
 use mathlib.Core.Logic.{◌⊎◌}
+use Rattle.common_laws.proofs.Members.{contains_here, contains_later}
 use Rattle.index_model.specs.declared.shard.Root.{Root}
 use Rattle.index_model.specs.declared.shard.Shard.{Shard}
 use Rattle.index_model.specs.declared.unit.Unit.{Unit as UnitHeader}
@@ -17,14 +18,14 @@ use Rattle.index_model.specs.ShardParts.{root_facts}
 use Rattle.index_model.specs.Shards.{StandsFor, AreShardsOf, IsRunOf, first_number}
 use Rattle.index_model.specs.Units.{units_of}
 use Rattle.index_model.specs.Walk.{Item}
-use Rattle.index_model.proofs.Meanings.{same_ok, contains_here, contains_later}
+use Rattle.index_model.proofs.Meanings.{same_ok}
 use Rattle.index_model.proofs.OrderLaws.{walks_in_order}
 use Rattle.index_model.proofs.Pairs.{Pairs, On, all_pairs, pairs_map, pairs_weaker}
 use Rattle.index_model.proofs.Scans.{AreScans, scanned_walked, program_parts}
 use Rattle.index_model.proofs.ShardRoots.{Numbered, joined, program_numbered, numbered_front, numbered_back}
 use Rattle.index_model.proofs.UnitsApart.{Apart, pairs_cases, walk_parts, program_apart}
-use Rattle.unit_headers.specs.Images.{Image, image_of}
-use Rattle.unit_headers.proofs.Images.{parts_of}
+use Rattle.file_image.specs.Images.{Image, image_of}
+use Rattle.file_image.proofs.Images.{parts_of}
 use Rattle.shard_build.specs.Found.{has_unit}
 
 -- ---- numbers

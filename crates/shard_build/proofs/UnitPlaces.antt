@@ -3,6 +3,7 @@ use Rattle.std.proofs.Common.{◌≡◌, ℕ, ◌+◌, ◌<◌, ◌≤◌, ◌^�
 use Rattle.std.specs.Prelude.{Contains, codes, slice_get}
 use Rattle.std.proofs.lemmas.List.Elements.{Contains-append_cases, Contains-get_or}
 use Rattle.std.proofs.lemmas.Option.{get_or_from_slice_get, slice_get_within}
+use Rattle.common_laws.proofs.Members.{contains_cases}
 use Rattle.ix_base.specs.Reading.{Input, input}
 use Rattle.index_model.specs.declared.unit.Part.{Part}
 use Rattle.index_model.specs.declared.unit.Part.TheVariants.{Info, Types}
@@ -11,11 +12,10 @@ use Rattle.index_model.specs.Program.{joint}
 use Rattle.index_model.specs.Sections.{Section, section_bytes}
 use Rattle.index_model.specs.Tiling.{Tiles}
 use Rattle.index_model.specs.Units.{next_unit, units_of}
-use Rattle.index_model.proofs.Meanings.{contains_cases}
 use Rattle.index_model.proofs.UnitReads.{unit_takes}
 use Rattle.index_model.proofs.UnitTilingLaws.{units_tile}
-use Rattle.unit_headers.specs.Images.{Image, image_of, unit_bytes}
-use Rattle.unit_headers.proofs.Images.{parts_of}
+use Rattle.file_image.specs.Images.{Image, image_of, unit_bytes}
+use Rattle.file_image.proofs.Images.{parts_of}
 
 -- a unit that tiles bytes ends in them
 ends_in : (section : Part) (base k : ℕ) (i : Input) (us : List UnitHeader) → Tiles (next_unit section base) k i us → (u : UnitHeader) → Contains us u → u.start + u.length ≤ base + i.at + length i.rest

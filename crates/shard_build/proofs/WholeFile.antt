@@ -12,8 +12,8 @@ use Rattle.index_model.specs.Faults.{scanned, scan_of, program_of}
 use Rattle.index_model.specs.Meaning.{each}
 use Rattle.index_model.specs.Program.{Walked}
 use Rattle.index_model.specs.Shards.{StandsFor}
-use Rattle.unit_headers.specs.Images.{Image, image_of}
-use Rattle.unit_headers.proofs.Images.{parts_of}
+use Rattle.file_image.specs.Images.{Image, image_of}
+use Rattle.file_image.proofs.Images.{parts_of}
 use Rattle.shard_build.specs.Entries.{AreShardsOfFile}
 
 abbrev Numbered : Type 0
@@ -23,7 +23,7 @@ all_units : (us : List UnitHeader) (n : ℕ) → n ≡ length us → take n (dro
 all_units us n is =
     ap (λ (k : ℕ). take k (drop 0 (enumerate_from 0 us))) (is ∙ sym (length-enumerate_from 0 us)) ∙ take-length (enumerate_from 0 us)
 
-program_is : (im : Image) → image_of im.file ≡ Ok im → (ws : List Walked) → each (scanned im.sections) (enumerate_from 0 im.units) ≡ Ok ws → program_of im.file ≡ Ok (record { sections = im.sections; walks = ws })
+pub program_is : (im : Image) → image_of im.file ≡ Ok im → (ws : List Walked) → each (scanned im.sections) (enumerate_from 0 im.units) ≡ Ok ws → program_of im.file ≡ Ok (record { sections = im.sections; walks = ws })
 unfolding program_of scan_of
 program_is im image ws is = let p = parts_of im.file im image in rw (p.sections, p.units, is) refl
 

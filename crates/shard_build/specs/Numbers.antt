@@ -1,8 +1,8 @@
 -- The attributes that count (DWARF 5, 7.5.4, table 7.5), and where the first value of each is kept.
 use Rattle.std.specs.Prelude.{◌≡◌, ℕ, ◌==◌, if◌then◌else◌, List, [], ◌∷◌, position, slice_index_or, Option, Some, None, option_map}
 use Rattle.std.specs.Option.{option_or}
-use Rattle.form_reader.specs.declared.value.Value.{Value as ReadValue}
-use Rattle.form_reader.specs.Seen.{seen}
+use Rattle.index_model.specs.declared.value.Value.{Value as ReadValue}
+use Rattle.index_model.specs.FormSeen.{seen}
 use Rattle.index_model.specs.Forms.{Value}
 use Rattle.index_model.specs.Walk.{Item}
 use Rattle.index_model.specs.Attributes.{attribute}

@@ -3,15 +3,14 @@
 ghost use Rattle.std.specs.Prelude.{◌≡◌, ◌≤◌, ◌<◌, ◌+◌, ◌^◌, Contains, length};
 ghost use Rattle.index_model.specs.ShardParts.{spans_of};
 ghost use Rattle.index_model.specs.Strings.{base_of};
-ghost use Rattle.unit_headers.specs.Images.{unit_bytes};
+ghost use Rattle.file_image.specs.Images.{unit_bytes};
 ghost use Rattle.shard_build.specs.Again.{walk_by, IsSound};
 ghost use Rattle.shard_build.specs.Entries.{IsNodeIn};
 ghost use Rattle.shard_build.specs.Found.{located_in_span, IsSpanOfParent};
 
 use crate::attributes::Attributes;
 use crate::home::Home;
-use abbrev_table::Abbrevs;
-use entry_scan::{Walk, item_at};
+use entry_scan::{Abbrevs, Walk, item_at};
 use index_model::{Node, Span};
 
 impl<'s, 'f> Home<'s, 'f> {

@@ -1,11 +1,11 @@
 //! An entry with the values of the attributes that count (DWARF 5, section 7.5.4).
 
 ghost use Rattle.std.specs.Prelude.{◌≡◌, ◌<◌, IfSome};
-ghost use Rattle.form_reader.specs.Seen.{seen};
+ghost use Rattle.index_model.specs.FormSeen.{seen};
 ghost use Rattle.shard_build.specs.Numbers.{index_of, Keeps};
 
 use entry_scan::Item;
-use form_reader::Value;
+use index_model::Value;
 use std::marker::Model;
 
 // How many attributes count.

@@ -11,12 +11,12 @@ ghost use Rattle.shard_build.specs.Found.{IsWithin};
 use crate::found::Found;
 use crate::home::Home;
 use crate::tables::Table;
+use file_image::Image;
 use index_model::{Next, Node, Shard, Span};
 use ix_base::NoMemory;
 use std::alloc::Global;
 use std::marker::Model;
 use std::sync::Arc;
-use unit_headers::Image;
 
 /// The entries of a file, by its image and by the shards of all its units.
 #[derive(Drop)]

@@ -4,8 +4,7 @@ ghost use Rattle.std.specs.Prelude.{◌≡◌, option_map, option_and_then};
 
 use crate::attributes::Attributes;
 use crate::forms;
-use form_reader::Value;
-use index_model::{Next, Raw};
+use index_model::{Next, Raw, Value};
 
 const LOCATION: u64 = 0x02;
 
@@ -59,7 +58,7 @@ const VARIABLE: u64 = 0x34;
 
 #[tactic(auto, unfolding(crate::specs::Numbers::index_of))]
 impl<'a> Attributes<'a> {
-    ghost use Rattle.form_reader.specs.Seen.{seen};
+    ghost use Rattle.index_model.specs.FormSeen.{seen};
     ghost use Rattle.index_model.specs.Attributes.{attribute as attribute_of, name_value, linkage_value, low_pc, high_pc, ranges_value, has_address, is_declaration, has_external, has_enum_class, says_main, signature_of, next_reference, import_of, language_value, read_as, as_offset};
     ghost use Rattle.index_model.specs.Rules.{has_value};
     ghost use Rattle.index_model.specs.ShardParts.{raw_of, raw_of_high, as_next};

@@ -4,10 +4,9 @@ ghost use Rattle.std.specs.Prelude.{◌≡◌, is_some, option_map, option_and_t
 ghost use Rattle.index_model.specs.Attributes.{as_text, as_address, as_unsigned, as_high, as_ranges, as_reference, as_signature, as_offset, is_set};
 ghost use Rattle.index_model.specs.Forms.{Signed, Offset};
 ghost use Rattle.index_model.specs.ShardParts.{raw_of, raw_of_high, as_next};
-ghost use Rattle.form_reader.specs.Seen.{seen};
+ghost use Rattle.index_model.specs.FormSeen.{seen};
 
-use form_reader::Value;
-use index_model::{Next, Raw};
+use index_model::{Next, Raw, Value};
 
 /// The value of a text.
 pub(crate) fn text<'a>(value: Option<Value<'a>>) -> Option<Value<'a>>

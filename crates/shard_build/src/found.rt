@@ -10,9 +10,9 @@ ghost use Rattle.index_model.specs.Program.{Program};
 ghost use Rattle.index_model.specs.Shards.{AreShardsOf};
 ghost use Rattle.shard_build.specs.Found.{IsFound, IsFoundIn, IsUnitAt, has_unit};
 
+use file_image::Image;
 use index_model::{Node, Shard, Span};
 use std::sync::Arc;
-use unit_headers::Image;
 
 /// What the shards of a file say of the entry at a joint offset.
 pub(crate) enum Found<'f> {

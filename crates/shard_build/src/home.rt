@@ -2,17 +2,16 @@
 
 ghost use Rattle.std.specs.Prelude.{◌≡◌, ◌+◌, ◌<◌, ◌≤◌, ◌^◌, nat_lt, slice_get, if◌then◌else◌, length, codes, Some, None, option_to_list};
 ghost use Rattle.index_model.specs.Sections.{section_bytes};
-ghost use Rattle.unit_headers.specs.Images.{unit_bytes};
+ghost use Rattle.file_image.specs.Images.{unit_bytes};
 ghost use Rattle.shard_build.specs.Kept.{node_seen, node_by, node_under, target_by, span_from, imports_by};
 ghost use Rattle.shard_build.specs.Texts.{texts_seen};
 
 use crate::attributes::Attributes;
 use crate::open::Open;
 use crate::texts::Texts;
-use elf_sections::Sections;
 use entry_scan::Item;
+use file_image::{Image, Sections};
 use index_model::{Import, Next, Node, Span, Unit};
-use unit_headers::Image;
 
 const IMPORTED_UNIT: u64 = 0x3d;
 

@@ -12,13 +12,9 @@ mod frame;
 mod home;
 mod kept;
 mod open;
-#[cfg(test)]
-mod rows;
 mod run;
 mod shard;
 mod tables;
-#[cfg(test)]
-mod tests;
 mod texts;
 mod unit;
 

@@ -7,14 +7,13 @@ ghost use Rattle.index_model.specs.Gives.{GivesFor};
 ghost use Rattle.index_model.specs.Program.{Walked};
 ghost use Rattle.index_model.specs.Sections.{Section, section_bytes};
 ghost use Rattle.index_model.specs.Shards.{StandsFor, first_number};
-ghost use Rattle.unit_headers.specs.Images.{unit_bytes};
+ghost use Rattle.file_image.specs.Images.{unit_bytes};
 ghost use Rattle.shard_build.specs.Runs.{Holds, HoldsOneMore};
 
 use crate::frame::Frame;
 use crate::home::Home;
 use crate::kept::Kept;
-use abbrev_table::Abbrevs;
-use entry_scan::Walk;
+use entry_scan::{Abbrevs, Walk};
 use index_model::{List, Root, Shard};
 use ix_base::Stop;
 use std::alloc::Global;

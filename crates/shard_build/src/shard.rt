@@ -10,10 +10,10 @@ ghost use Rattle.index_model.specs.Shards.{StandsFor};
 use crate::home::Home;
 use crate::run::Run;
 use crate::tables::Table;
+use file_image::Image;
 use index_model::Shard;
 use ix_base::Stop;
 use std::alloc::Global;
-use unit_headers::Image;
 
 /// The shard of the `count` units from number `first` on, counted over both sections in section order.
 ///

@@ -8,7 +8,7 @@ ghost use Rattle.index_model.specs.Gives.{Gives};
 ghost use Rattle.index_model.specs.Meaning.{fault, some_or};
 ghost use Rattle.shard_build.specs.Runs.{IsAtOffset};
 
-use abbrev_table::{Abbrevs, BadAbbrev};
+use entry_scan::{Abbrevs, BadAbbrev};
 use index_model::Unit;
 use ix_base::code::BAD_ABBREVIATION;
 use ix_base::{Fault, NoMemory, Stop};

@@ -1,7 +1,7 @@
 //! The texts of an entry, borrowed from the file (DWARF 5, section 7.5.5 on the class string).
 
 ghost use Rattle.std.specs.Prelude.{◌≡◌, ◌-◌, ℕ, List, Some, option_map};
-ghost use Rattle.form_reader.specs.Seen.{seen};
+ghost use Rattle.index_model.specs.FormSeen.{seen};
 ghost use Rattle.index_model.specs.Forms.{Inline};
 ghost use Rattle.index_model.specs.Gives.{GivesAlways};
 ghost use Rattle.index_model.specs.LawsTexts.{StandsIn};
@@ -12,11 +12,11 @@ ghost use Rattle.shard_build.specs.Texts.{text_by, texts_by, texts_seen, tested,
 use crate::attributes::Attributes;
 use crate::home::Home;
 use entry_scan::Item;
-use form_reader::Value;
+use file_image::text;
+use index_model::Value;
 use ix_base::code::NAME_TOO_LONG;
 use ix_base::{Fault, MAX_STRING};
 use memchr::memmem;
-use string_tables::text;
 
 /// The texts of an entry, if it has them.
 #[derive(Clone, Copy)]

@@ -10,12 +10,12 @@ use lib.Seq.{set-get_or}
 use Rattle.atomic_table.specs.Table.{State, Me, keeps, stepped}
 use Rattle.atomic_table.proofs.Lists.{at_set, set_else}
 use Rattle.index_model.specs.Stages.{IsReachable}
+use Rattle.index_model.proofs.StageLaws.{closure}
 use Rattle.stage_lock.specs.declared.known.Known.{Known}
 use Rattle.stage_lock.specs.declared.known.Turn.{Turn}
 use Rattle.stage_lock.specs.declared.known.Turn.TheVariants.{Without, Out}
 use Rattle.stage_lock.specs.Rule.{word_of, Lives, Knows, Holds}
 use Rattle.stage_lock.proofs.Shares.{kept_fine, kept_whole}
-use Rattle.stage_lock.proofs.Stages.{reach_on}
 use Rattle.stage_lock.proofs.Turns.{dec_without}
 
 module _ {V X : Type 0} (stage_of : V → ℕ) (subject : V → X) (fits : X → ℕ → Type 0) (about : X) where
@@ -91,8 +91,8 @@ module _ {V X : Type 0} (stage_of : V → ℕ) (subject : V → X) (fits : X →
         record {
           has_share = t.1.has_share;
           fitting = t.1.fitting;
-          reaches = reach_on u.floor now now' t.1.reaches on;
-          olds = λ i d l. reach_on _ now now' (t.1.olds i d l) on;
+          reaches = closure.onwards u.floor now now' t.1.reaches on;
+          olds = λ i d l. closure.onwards _ now now' (t.1.olds i d l) on;
           marks = t.1.marks;
           own = λ l. absurd (l idle);
           out = λ e. absurd (cc);

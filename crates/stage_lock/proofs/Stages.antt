@@ -5,13 +5,10 @@ use mathlib.Core.Logic.{dite}
 use native.Mathlib.Decide.{dec_lt}
 use Rattle.index_model.specs.Stages.{IsReachable, same}
 use Rattle.index_model.specs.LawsStages.{Leads}
-use Rattle.index_model.proofs.StageLaws.{closure, order}
+use Rattle.index_model.proofs.StageLaws.{order}
 
 pub reach_self : (s : ℕ) → IsReachable s s
 reach_self s = same
-
-pub reach_on : (s t u : ℕ) → IsReachable s t → IsReachable t u → IsReachable s u
-reach_on s t u = closure.onwards s t u
 
 leads_between : (a b g : ℕ) → Leads a g → Leads b g → a ≤ b → Leads a b
 leads_between a b g p q le =

@@ -11,12 +11,13 @@ use lib.Seq.{set-get_or}
 use prog.Atomic.{either}
 use Rattle.atomic_table.specs.Table.{step, keeps, takes, gives, stepped, put_back, Allows}
 use Rattle.index_model.specs.Stages.{IsReachable}
+use Rattle.index_model.proofs.StageLaws.{closure}
 use Rattle.stage_lock.specs.declared.known.Known.{Known}
 use Rattle.stage_lock.specs.declared.known.Turn.TheVariants.{Without, Won, Out, Back}
 use Rattle.stage_lock.specs.Rule.{word_of}
 use Rattle.stage_lock.specs.Moves.{tries_turn, notes_stage, publishes, unlocks, in_hand}
 use Rattle.stage_lock.proofs.Seats.{St, M, Rule, lives, stage_at, turn_at, unmoved, moved}
-use Rattle.stage_lock.proofs.Stages.{reach_self, reach_on}
+use Rattle.stage_lock.proofs.Stages.{reach_self}
 use Rattle.stage_lock.proofs.Turns.{free}
 
 module _ {V X : Type 0} (stage_of : V → ℕ) (subject : V → X) (fits : X → ℕ → Type 0) (about : X) where
@@ -110,14 +111,14 @@ module _ {V X : Type 0} (stage_of : V → ℕ) (subject : V → X) (fits : X →
                 has_share = l.1.has_share;
                 fitting = fit';
                 reaches = reach_self (stage_of y);
-                olds = λ i d z. reach_on _ r.now (stage_of y) (l.1.olds i d z) on';
+                olds = λ i d z. closure.onwards _ r.now (stage_of y) (l.1.olds i d z) on';
                 marks = l.1.marks;
                 own = λ _. (refl, refl);
                 out = λ e. absurd (cc);
                 back = λ _. (y, ap in_hand carries, refl, refl);
               },
             )),
-        (refl, reach_on me.0.floor r.now (stage_of y) l.1.reaches on'),
+        (refl, closure.onwards me.0.floor r.now (stage_of y) l.1.reaches on'),
       )
 
   -- the same, as its caller has the facts

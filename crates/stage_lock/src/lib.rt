@@ -9,8 +9,6 @@ mod laws;
 mod lock;
 mod moves;
 mod pass;
-#[cfg(test)]
-mod tests;
 
 pub use laws::facts_hold_between_steps;
 pub use lock::StageLock;

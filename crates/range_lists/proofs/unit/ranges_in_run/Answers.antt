@@ -1,10 +1,10 @@
 use Rattle.std.proofs.Common.{List, Result, Vec, Global, sym, ap, subst, ◌∙◌}
+use Rattle.std.proofs.lemmas.Option.{same_Some}
 use Rattle.std.specs.Prelude.{option_and_then}
 use Rattle.std.specs.List.Sorted.{IsNonDecreasingBy}
 use Rattle.index_model.specs.declared.shard.Root.{Root}
 use Rattle.index_model.specs.declared.shard.Node.{Node}
 use Rattle.index_model.specs.Attributes.{as_address}
-use Rattle.index_model.proofs.Meanings.{same_some}
 use Rattle.ix_base.specs.declared.fault.Fault.{Fault}
 use Rattle.index_model.specs.declared.range.Range.{Range}
 use Rattle.index_model.specs.Gives.{Gives}
@@ -17,8 +17,8 @@ use Rattle.range_lists.proofs.unit.ranges_in_run.Goals as goal
 
 pub returns-clause-ranges : goal.returns-clause-ranges
 returns-clause-ranges c w k =
-    let header = same_some _ _ (sym c.in-Some-Some.is-0 ∙ c.header_of.ensures.value ∙ k.header) in
-    let root = same_some _ _ (sym c.in-Some-Some.is-1 ∙ c.root_in.ensures ∙ k.root) in
+    let header = same_Some _ _ (sym c.in-Some-Some.is-0 ∙ c.header_of.ensures.value ∙ k.header) in
+    let root = same_Some _ _ (sym c.in-Some-Some.is-1 ∙ c.root_in.ensures ∙ k.root) in
     let nodes = c.nodes_of-nodes.ensures (subst (λ (xs : List Node). IsNonDecreasingBy (λ n. n.unit) xs) (sym c.as_slice.ensures) k.nodes) ∙ ap (unit_nodes c.args.unit) c.as_slice.ensures in
     let low = c.first_low.ensures ∙ ap first_low nodes in
     let rise = subst EntriesRise (sym c.as_slice-2.ensures) k.entries in

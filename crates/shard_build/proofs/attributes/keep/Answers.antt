@@ -1,5 +1,5 @@
 use Rattle.std.proofs.Common.{◌<◌, length, option_map, refl, sym, ap, arith}
-use Rattle.form_reader.specs.Seen.{seen}
+use Rattle.index_model.specs.FormSeen.{seen}
 use Rattle.shard_build.proofs.KeepLaws.{puts}
 use Rattle.shard_build.proofs.attributes.keep.Goals as goal
 

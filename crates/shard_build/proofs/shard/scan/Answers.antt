@@ -1,12 +1,12 @@
 use Rattle.std.proofs.Common.{◌≡◌, ℕ, ◌-◌, List, take, Ok, ap, subst, ◌∙◌, arith}
 use Rattle.std.specs.Prelude.{codes, IsOkAnd}
 use Rattle.std.proofs.lemmas.Result.{err_from_is_err_and}
+use Rattle.std.proofs.lemmas.Option.{same_Some}
 use Rattle.index_model.specs.declared.unit.Unit.{Unit as UnitHeader}
 use Rattle.index_model.specs.Faults.{scanned}
 use Rattle.index_model.specs.Gives.{StopsAs}
 use Rattle.index_model.specs.Meaning.{each}
 use Rattle.index_model.specs.Sections.{Section, section_bytes}
-use Rattle.index_model.proofs.Meanings.{same_some}
 use Rattle.shard_build.specs.Runs.{HoldsOneMore, IsAtOffset}
 use Rattle.shard_build.proofs.RunEnds.{units_from, so_far_none, so_far_more, run_stops, table_stops, first_is}
 use Rattle.shard_build.proofs.shard.scan.Goals as goal
@@ -58,7 +58,7 @@ loop-number-preserved c =
     let more = subst (λ (ss : List Section). IsOkAnd (scanned ss (n, unit)) (λ w. HoldsOneMore ss old new w)) c.of-home.ensures.sections at_number in
     record {
       kept = so_far_more im.sections im.units c.args.first c.args.count c.requires n unit old new c.loop-number.auto.number c.loop-number-test.true c.of-home.ensures.unit c.loop-number.invariant.kept more;
-      hand = λ x e. subst (IsAtOffset c.get-section.result.now) (same_some table x e) c.in_ok-table.ensures.place;
+      hand = λ x e. subst (IsAtOffset c.get-section.result.now) (same_Some table x e) c.in_ok-table.ensures.place;
     }
 
 pub returns : goal.returns

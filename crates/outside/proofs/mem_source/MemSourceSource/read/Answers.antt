@@ -1,4 +1,4 @@
-use Rattle.std.proofs.Common.{sym, ap, ◌∙◌}
+use Rattle.std.proofs.Common.{sym, ap}
 use Rattle.outside.proofs.TakenLaws.{front_taken}
 use Rattle.outside.proofs.mem_source.MemSourceSource.read.Goals as goal
 

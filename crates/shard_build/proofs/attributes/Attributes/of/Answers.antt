@@ -1,4 +1,4 @@
-use Rattle.form_reader.specs.Seen.{seen}
+use Rattle.index_model.specs.FormSeen.{seen}
 use Rattle.shard_build.proofs.KeepLaws.{onwards, at_end}
 use Rattle.shard_build.proofs.attributes.Attributes.of.Goals as goal
 

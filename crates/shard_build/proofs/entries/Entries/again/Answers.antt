@@ -3,7 +3,7 @@ use Rattle.std.specs.Prelude.{slice_get, codes}
 use Rattle.index_model.specs.Faults.{program_of}
 use Rattle.index_model.specs.Program.{Program}
 use Rattle.index_model.specs.Sections.{Section, section_bytes}
-use Rattle.unit_headers.specs.Images.{image_of, unit_bytes}
+use Rattle.file_image.specs.Images.{image_of, unit_bytes}
 use Rattle.shard_build.specs.Entries.{EntriesOf}
 use Rattle.shard_build.specs.Found.{IsWithin}
 use Rattle.shard_build.proofs.FoundSpans.{span_number}

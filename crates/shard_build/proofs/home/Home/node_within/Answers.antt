@@ -8,6 +8,7 @@ use Rattle.index_model.specs.Strings.{Texts}
 use Rattle.index_model.specs.Walk.{Item}
 use Rattle.index_model.proofs.Meanings.{same_ok}
 use Rattle.index_model.proofs.Scans.{scanned_walked}
+use Rattle.index_model.proofs.Located.{at_home}
 use Rattle.entry_scan.specs.Inside.{walked_of}
 use Rattle.shard_build.specs.Again.{walk_by}
 use Rattle.shard_build.specs.Entries.{IsNodeIn}
@@ -15,7 +16,6 @@ use Rattle.shard_build.specs.Kept.{node_under}
 use Rattle.shard_build.specs.Texts.{HoldsTexts, texts_by, texts_seen}
 use Rattle.shard_build.proofs.AgainLaws.{holds_texts, texts_read, node_again}
 use Rattle.shard_build.proofs.FoundSpans.{in_span}
-use Rattle.shard_build.proofs.NodeLaws.{at_home}
 use Rattle.shard_build.proofs.home.Home.node_within.Goals as goal
 
 pub texts-requires : goal.texts-requires
