@@ -1,5 +1,6 @@
 -- What the members of a path give, as it is gathered member by member.
 use Rattle.std.proofs.Common.{◌≡◌, ℕ, ◌+◌, ◌<◌, min, List, [], ◌∷◌, ◌++◌, length, map, Option, Some, None, option_map, Result, Ok, Err, refl, sym, ap, ◌∙◌, arith}
+use Rattle.std.proofs.lemmas.List.{length-map}
 use Rattle.std.specs.Prelude.{Contains, IsOkAnd}
 use Rattle.std.specs.Borrow.{Bor}
 use Rattle.ix_base.specs.declared.code.TheConstants.{REFERENCE_CHAIN}
@@ -21,10 +22,6 @@ map_append : {A B : Type 0} (f : A → B) (xs ys : List A) → map f (xs ++ ys) 
 map_append f [] ys = refl
 map_append {B = B} f (x ∷ xs) ys = ap (λ (zs : List B). f x ∷ zs) (map_append f xs ys)
 
-map_length : {A B : Type 0} (f : A → B) (xs : List A) → length (map f xs) ≡ length xs
-map_length f [] = refl
-map_length f (x ∷ xs) = omega (arith, map_length f xs)
-
 -- some members of the path around d were passed, and these are the texts that they give
 pub record Gathered (p : Program) (d : Located) (texts : List (Option (Bor (List ℕ)))) (around : ℕ) : Type 0 where
   pub scope : Scope
@@ -38,7 +35,7 @@ none_gathered p d around c place = record { scope = record { steps = 0; length =
 module _ (p : Program) (d : Located) (texts : List (Option (Bor (List ℕ)))) (around : ℕ) (g : Gathered p d texts around) where
   -- as many members as texts
   pub as_many : g.scope.steps ≡ length texts
-  as_many = omega (arith, g.reached.scope.steps, map_length text texts, map_length component g.reached.passed, ap length g.are)
+  as_many = omega (arith, g.reached.scope.steps, length-map texts text, length-map g.reached.passed component, ap length g.are)
 
   module _ (m : Located) (up : scope_around g.reached.end ≡ Some m) where
     pub too_many : length texts ≡ MAX_PATH_STEPS → scope_path p d ≡ Err REFERENCE_CHAIN

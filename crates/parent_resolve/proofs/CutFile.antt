@@ -11,13 +11,13 @@ use Rattle.std.proofs.Math.Seq.{take-add, take-length}
 use Rattle.ix_base.specs.declared.fault.Fault.{Fault}
 use Rattle.index_model.specs.declared.shard.Shard.{Shard}
 use Rattle.index_model.specs.declared.unit.Unit.{Unit as UnitHeader}
-use Rattle.index_model.specs.Faults.{scanned, scan_of, program_of}
+use Rattle.index_model.specs.Faults.{scanned}
 use Rattle.index_model.specs.Meaning.{◌>>=◌, each}
 use Rattle.index_model.specs.Program.{Walked}
 use Rattle.index_model.specs.Shards.{StandsFor}
-use Rattle.unit_headers.specs.Images.{Image, image_of}
-use Rattle.unit_headers.proofs.Images.{parts_of}
+use Rattle.file_image.specs.Images.{Image, image_of}
 use Rattle.shard_build.specs.Entries.{AreShardsOfFile}
+use Rattle.shard_build.proofs.WholeFile.{program_is}
 
 abbrev Numbered : Type 0
 Numbered = ℕ × UnitHeader
@@ -41,7 +41,7 @@ module _ {A B : Type 0} (g : A → Result B Fault) where
       by (Ok y) (Ok fs) (Err e) both is = rw is refl
       by (Ok y) (Ok fs) (Ok bs) both is = rw is refl
 
-  each_of_two : (xs ys : List A) (front back : List B) → each g xs ≡ Ok front → each g ys ≡ Ok back → each g (xs ++ ys) ≡ Ok (front ++ back)
+  pub each_of_two : (xs ys : List A) (front back : List B) → each g xs ≡ Ok front → each g ys ≡ Ok back → each g (xs ++ ys) ≡ Ok (front ++ back)
   each_of_two xs ys front back is more = rw (each-append xs ys, is, more) refl
 
 zip_more : {A B : Type 0} (R : A → B → Type 0) (xs : List A) (ys : List B) (x : A) (y : B) → AllZip R xs ys → R x y → AllZip R (xs ++ x ∷ []) (ys ++ y ∷ [])
@@ -99,10 +99,6 @@ first_more im n k shards s h more = by_walks (each (scanned im.sections) (take k
           ∙ ap (λ (all : List Walked). Ok all) (sym (joined h.runs ws));
       stand = zip_more (StandsFor im.sections) shards h.runs s ws h.stand stands;
     }
-
-program_is : (im : Image) → image_of im.file ≡ Ok im → (ws : List Walked) → each (scanned im.sections) (enumerate_from 0 im.units) ≡ Ok ws → program_of im.file ≡ Ok (record { sections = im.sections; walks = ws })
-unfolding program_of scan_of
-program_is im image ws is = let p = parts_of im.file im image in rw (p.sections, p.units, is) refl
 
 -- shards that stand for all units are those of the file
 pub cut_file : (im : Image) → image_of im.file ≡ Ok im → (n : ℕ) → n ≡ length im.units → (shards : List Shard) → StandForFirst im n shards → AreShardsOfFile im shards

@@ -1,63 +1,23 @@
 -- The entries of a program: an offset is that of one entry.
-use Rattle.std.proofs.Common.{◌≡◌, ℕ, suc, ◌<◌, Bool, true, false, cond, eqb, List, [], ◌∷◌, flat_map, Option, Some, None, Ok, option_map, refl, sym, ap, subst, ◌∙◌, arith, ⊎_elim}
+use Rattle.std.proofs.Common.{◌≡◌, ℕ, ◌<◌, Bool, true, false, cond, eqb, List, [], ◌∷◌, flat_map, Option, Some, None, Ok, option_map, refl, sym, ap, subst, ◌∙◌, arith, ⊎_elim}
 use Rattle.std.specs.Prelude.{Contains, find}
-use Rattle.std.proofs.lemmas.List.Elements.{Contains-append_left, Contains-append_right}
 use Rattle.std.proofs.lemmas.Bool.{eqb-true, eq-eqb, ne_eqb, cases_eq}
+use Rattle.std.proofs.lemmas.Option.{same_Some}
+use Rattle.common_laws.proofs.Members.{contains_here, contains_later, contains_cases, to_map, of_flat_map, to_flat_map}
 use Rattle.index_model.specs.Faults.{program_of}
 use Rattle.index_model.specs.Program.{Walked, Program, Located, items_of, located, scope_around, item_with_offset}
 use Rattle.index_model.specs.Walk.{Item, parent_of}
 use Rattle.index_model.specs.Sections.{Section}
 use Rattle.index_model.specs.LawsOrder.{IsInOrder}
-use Rattle.index_model.proofs.Meanings.{contains_here, contains_later, contains_cases, same_some}
-use Rattle.index_model.proofs.Pairs.{Pairs, of_map, to_map, of_flat_map, pairs_append, pairs_map}
-use Rattle.index_model.proofs.ParentLaws.{Rise, rise_below}
-use Rattle.index_model.proofs.OrderLaws.{walks_in_order, walk_rises}
-use Rattle.index_model.proofs.UnitsApart.{Apart, IsWalk, AreApart, program_apart}
+use Rattle.index_model.proofs.Pairs.{Pairs}
+use Rattle.index_model.proofs.OrderLaws.{walks_in_order}
+use Rattle.index_model.proofs.UnitsApart.{IsWalk, program_apart}
+use Rattle.index_model.proofs.Located.{Before, at_home, of_located, located_before}
 use Rattle.parent_resolve.specs.Followed.{all_entries}
 
--- ---- offsets rise
-
--- the second entry stands behind the first
-abbrev pub Below : Located → Located → Type 0
-Below d e = d.item.at < e.item.at
-
-abbrev pub at_home : Walked → Item → Located
-at_home w d = record { home = w; item = d }
-
-abbrev ItemsRise : Item → Item → Type 0
-ItemsRise d e = d.at < e.at
-
-items_rise : (n : ℕ) (ds : List Item) → Rise n ds → Pairs ItemsRise ds
-items_rise n [] r = tt
-items_rise n (d ∷ ds) r = (λ e c. rise_below (suc d.at) ds e r.1 c, items_rise (suc d.at) ds r.1)
-
--- an entry of a unit, and its item
-pub in_unit : (w : Walked) (d : Located) → Contains (located w) d → (d.home ≡ w) × Contains (items_of w) d.item
-in_unit w d c =
-    let m = of_map (at_home w) (items_of w) d c in
-    (ap (λ (x : Located). x.home) (sym m.2), subst (λ (x : Located). Contains (items_of w) x.item) m.2 m.1)
-
 module _ (ss : List Section) where
-  unit_rises : (w : Walked) → IsWalk ss w → Pairs Below (located w)
-  unit_rises w walk = let r = walk_rises ss walk.0 w walk.1 in pairs_map Below (at_home w) (items_of w) (items_rise r.0 (items_of w) r.1)
-
   pub order : (w : Walked) → IsWalk ss w → IsInOrder w
   order w walk = walks_in_order ss walk.0 w walk.1
-
-  between : (v w : Walked) → IsWalk ss v → IsWalk ss w → Apart v w → (d e : Located) → Contains (located v) d → Contains (located w) e → Below d e
-  between v w vw ww apart d e dc ec =
-      let a = (order v vw).inside d.item (in_unit v d dc).1 in
-      let b = (order w ww).inside e.item (in_unit w e ec).1 in
-      omega (arith, a.some, a.ends, b.begins, apart.1)
-
-  pub runs_rise : (ws : List Walked) → AreApart ss ws → Pairs Below (flat_map located ws)
-  runs_rise [] a = tt
-  runs_rise (w ∷ ws) a = pairs_append Below (located w) (flat_map located ws)
-      (unit_rises w (a.walks w (contains_here w ws)))
-      (runs_rise ws (record { apart = a.apart.1; walks = λ v c. a.walks v (contains_later w ws v c) }))
-      (λ d e dc ec.
-      let m = of_flat_map located ws e ec in
-      between w m.0 (a.walks w (contains_here w ws)) (a.walks m.0 (contains_later w ws m.0 m.1)) (a.apart.0 m.0 m.1) d e dc m.2)
 
 -- ---- an entry by its offset
 
@@ -68,7 +28,7 @@ abbrev some_entry : Located → Option Located
 some_entry d = Some d
 
 -- of entries that rise each is found at its offset
-pub found_at : (ds : List Located) → Pairs Below ds → (d : Located) → Contains ds d → find (with_offset d.item.at) ds ≡ Some d
+pub found_at : (ds : List Located) → Pairs Before ds → (d : Located) → Contains ds d → find (with_offset d.item.at) ds ≡ Some d
 found_at [] rise d c = absurd (omega (arith, c.1))
 found_at (x ∷ xs) rise d c =
     let rest : Option Located = find (with_offset d.item.at) xs in
@@ -85,23 +45,16 @@ found_has o [] d is = absurd cc
 found_has o (x ∷ xs) d is =
     elim (eqb x.item.at o) as (λ b. eqb x.item.at o ≡ b → cond b (Some x) (find (with_offset o) xs) ≡ Some d → Contains (x ∷ xs) d × (d.item.at ≡ o)) [
       | true ↦ λ yes h.
-          let same : x ≡ d = same_some x d h in
+          let same : x ≡ d = same_Some x d h in
           (subst (Contains (x ∷ xs)) same (contains_here x xs), subst (λ (e : Located). e.item.at ≡ o) same (eqb-true x.item.at o yes))
       | false ↦ λ no h. let r = found_has o xs d h in (contains_later x xs d r.0, r.1)
     ] refl is
-
-pub to_flat_map : {A B : Type 0} (f : A → List B) (xs : List A) (x : A) (y : B) → Contains xs x → Contains (f x) y → Contains (flat_map f xs) y
-to_flat_map f [] x y c m = absurd (omega (arith, c.1))
-to_flat_map f (z ∷ zs) x y c m = ⊎_elim
-    (λ (same : z ≡ x). Contains-append_left (f z) (flat_map f zs) y (subst (λ a. Contains (f a) y) (sym same) m))
-    (λ (later : Contains zs x). Contains-append_right (f z) (flat_map f zs) y (to_flat_map f zs x y later m))
-    (contains_cases z zs x c)
 
 -- the unit of an entry of these units
 pub home_of : (ws : List Walked) (d : Located) → Contains (flat_map located ws) d → Contains ws d.home × Contains (items_of d.home) d.item
 home_of ws d c =
     let m = of_flat_map located ws d c in
-    let u = in_unit m.0 d m.2 in
+    let u = of_located m.0 d m.2 in
     (subst (Contains ws) (sym u.0) m.1, subst (λ (w : Walked). Contains (items_of w) d.item) (sym u.0) u.1)
 
 -- the unit of an entry
@@ -133,7 +86,7 @@ above w o d c e is = ⊎_elim
     (λ (below : d.depth ≡ 0 → ⊥).
     let deep : 0 < d.depth = omega (arith, below) in
     let m = o.parents d c deep in
-    let same : m.parent ≡ e = same_some m.parent e (sym m.is ∙ is) in
+    let same : m.parent ≡ e = same_Some m.parent e (sym m.is ∙ is) in
     record { member = subst (Contains (items_of w)) same m.member; earlier = subst (λ (x : Item). x.at < d.at) same m.earlier; below = deep })
     (cases_eq d.depth 0)
 
@@ -145,8 +98,8 @@ top w o d c is = ⊎_elim
     (cases_eq d.depth 0)
 
 module _ (f : List ℕ) (p : Program) (file : program_of f ≡ Ok p) where
-  pub entries_rise : Pairs Below (all_entries p)
-  entries_rise = runs_rise p.sections p.walks (program_apart f p file)
+  pub entries_rise : Pairs Before (all_entries p)
+  entries_rise = located_before p.sections p.walks (program_apart f p file)
 
   -- an entry of the program is found at its own offset
   pub entry_found : (d : Located) → Contains (all_entries p) d → item_with_offset p d.item.at ≡ Some d
@@ -155,7 +108,7 @@ module _ (f : List ℕ) (p : Program) (file : program_of f ≡ Ok p) where
 
   -- two entries with one offset are one
   pub entry_once : (d e : Located) → Contains (all_entries p) d → Contains (all_entries p) e → d.item.at ≡ e.item.at → d ≡ e
-  entry_once d e dc ec same = same_some d e (sym (entry_found d dc) ∙ ap (item_with_offset p) same ∙ entry_found e ec)
+  entry_once d e dc ec same = same_Some d e (sym (entry_found d dc) ∙ ap (item_with_offset p) same ∙ entry_found e ec)
 
   pub unit_in_order : (w : Walked) → Contains p.walks w → IsInOrder w
   unit_in_order w c = order p.sections w ((program_apart f p file).walks w c)
@@ -170,5 +123,5 @@ module _ (f : List ℕ) (p : Program) (file : program_of f ≡ Ok p) where
       by : (o : Option Item) → parent_of (items_of d.home) d.item ≡ o → option_map (at_home d.home) o ≡ Some m → Contains (all_entries p) m × (m.home ≡ d.home)
       by None e h = absurd cc
       by (Some x) e h =
-          let same : at_home d.home x ≡ m = same_some (at_home d.home x) m h in
+          let same : at_home d.home x ≡ m = same_Some (at_home d.home x) m h in
           (subst (Contains (all_entries p)) same (entry_in p d.home x (home_in p d c).0 (parent_in d c x e)), ap (λ (l : Located). l.home) (sym same))

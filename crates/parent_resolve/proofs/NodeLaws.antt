@@ -4,14 +4,14 @@ use Rattle.std.specs.Prelude.{Contains}
 use Rattle.std.specs.List.{AllZip}
 use Rattle.std.specs.List.Sorted.{IsNonDecreasingBy}
 use Rattle.std.proofs.lemmas.Bool.{cases_lt}
+use Rattle.common_laws.proofs.Members.{contains_here, contains_later, contains_cases}
 use Rattle.index_model.specs.declared.shard.Node.{Node}
 use Rattle.index_model.specs.Program.{Walked, Located, items_of, scope_around}
 use Rattle.index_model.specs.Sections.{Section}
 use Rattle.index_model.specs.ShardParts.{IsNodeOf, node_facts}
 use Rattle.index_model.specs.Walk.{Item, parent_of}
-use Rattle.index_model.proofs.Meanings.{contains_here, contains_later, contains_cases}
 use Rattle.index_model.proofs.Pairs.{Pairs, all_pairs}
-use Rattle.parent_resolve.proofs.Entries.{Below, at_home}
+use Rattle.index_model.proofs.Located.{Before, at_home}
 
 pub node_parts : (ss : List Section) (n : Node) (d : Located) → IsNodeOf ss n d → (n.offset ≡ d.item.at) × (n.parent ≡ option_map (λ e. e.item.at) (scope_around d)) × (n.tag ≡ d.item.tag)
 unfolding node_facts
@@ -63,7 +63,7 @@ module _ (ss : List Section) where
       (λ (l : Contains ms n). let r = node_of ms ds z.1 n l in (r.0, contains_later d ds r.0 r.1, r.2))
       (contains_cases m ms n c)
 
-  pub nodes_below : (ns : List Node) (ds : List Located) → AllZip (IsNodeOf ss) ns ds → Pairs Below ds → Pairs NodesBelow ns
+  pub nodes_below : (ns : List Node) (ds : List Located) → AllZip (IsNodeOf ss) ns ds → Pairs Before ds → Pairs NodesBelow ns
   nodes_below [] [] z h = tt
   nodes_below [] (d ∷ ds) z h = absurd z
   nodes_below (m ∷ ms) [] z h = absurd z

@@ -1,8 +1,10 @@
 -- The link of one node, and the links of nodes in their order.
-use Rattle.std.proofs.Common.{◌≡◌, Bool, true, false, cond, ◌&&◌, List, [], ◌∷◌, ◌++◌, flat_map, Option, Some, None, Result, Ok, Err, refl, sym, ap, subst, ◌∙◌}
+use Rattle.std.proofs.Common.{◌≡◌, Bool, true, false, cond, ◌&&◌, List, [], ◌∷◌, ◌++◌, flat_map, Option, Some, None, Result, Ok, Err, sym, ap, subst, ◌∙◌}
 use Rattle.std.specs.Prelude.{Contains, IsOkAnd}
 use Rattle.std.specs.List.{AllZip}
 use Rattle.std.proofs.lemmas.List.Elements.{Contains-append_left, Contains-append_right}
+use Rattle.std.proofs.lemmas.Bool.{and_right}
+use Rattle.common_laws.proofs.Members.{to_map, of_filter, to_flat_map}
 use Rattle.ix_base.specs.declared.fault.Fault.{Fault}
 use Rattle.ix_base.specs.declared.fault.Stop.{Stop}
 use Rattle.ix_base.specs.declared.fault.Stop.TheVariants as stops
@@ -15,11 +17,11 @@ use Rattle.index_model.specs.Program.{Walked, Program, Located, items_of, locate
 use Rattle.index_model.specs.Rules.{is_in_table, is_visited, is_ada}
 use Rattle.index_model.specs.Shards.{IsLinkedEntryOf, IsRunOf}
 use Rattle.index_model.specs.ShardParts.{is_kept, kept_in}
-use Rattle.index_model.proofs.Pairs.{of_filter, to_map}
+use Rattle.index_model.proofs.Located.{at_home}
 use Rattle.parent_resolve.specs.Followed.{all_entries}
 use Rattle.parent_resolve.specs.EntryLinks.{IsEntryOf}
 use Rattle.parent_resolve.specs.Runs.{is_followed, links_at, IsLinkedNode}
-use Rattle.parent_resolve.proofs.Entries.{at_home, home_of, to_flat_map}
+use Rattle.parent_resolve.proofs.Entries.{home_of}
 
 -- ---- one node
 
@@ -51,15 +53,11 @@ module _ (p : Program) (d : Located) where
   pub follows : is_followed p d ≡ true → (result : Result (Option LinkedEntry) Stop) → GivesFor (IsEntryOf p) result placed → GivesFor (IsLinkedNode p) result (links_at p (d ∷ []))
   follows on result h = subst (λ (r : Result (List Link) Fault). GivesFor (IsLinkedNode p) result r) (sym (one_link on)) (gives_alone result h)
 
-  not_both : (a b : Bool) → b ≡ false → (a && b) ≡ false
-  not_both true b e = e
-  not_both false b e = refl
-
   pub not_in_table : is_in_table d.item.tag ≡ false → is_followed p d ≡ false
   not_in_table off = ap (λ (b : Bool). b && is_visited (is_ada (class_of_unit p d.home)) (items_of d.home) d.item) off
 
   pub not_visited : is_visited (is_ada (class_of_unit p d.home)) (items_of d.home) d.item ≡ false → is_followed p d ≡ false
-  not_visited off = not_both (is_in_table d.item.tag) _ off
+  not_visited off = and_right (is_in_table d.item.tag) _ off
 
   pub both : is_in_table d.item.tag ≡ true → is_visited (is_ada (class_of_unit p d.home)) (items_of d.home) d.item ≡ true → is_followed p d ≡ true
   both table visited = ap (λ (b : Bool). b && is_visited (is_ada (class_of_unit p d.home)) (items_of d.home) d.item) table ∙ visited

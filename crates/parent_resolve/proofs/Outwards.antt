@@ -2,6 +2,7 @@
 use Rattle.std.proofs.Common.{◌≡◌, ℕ, suc, ◌+◌, ◌-◌, ◌<◌, ◌≤◌, min, List, [], ◌∷◌, ◌++◌, append_assoc, length, length-append, Option, Some, None, option_map, Result, Ok, Err, refl, sym, ap, subst, ◌∙◌, arith, inl, inr}
 use Rattle.std.specs.Prelude.{Contains, IsOkAnd}
 use Rattle.std.proofs.lemmas.Bool.Decides.{leb_tells}
+use Rattle.std.proofs.lemmas.Option.{same_Some}
 use Rattle.ix_base.specs.declared.code.TheConstants.{REFERENCE_CHAIN}
 use Rattle.ix_base.specs.declared.limits.TheConstants.{MAX_PATH_STEPS}
 use Rattle.ix_base.specs.declared.fault.Fault.{Fault}
@@ -13,7 +14,6 @@ use Rattle.index_model.specs.Faults.{program_of}
 use Rattle.index_model.specs.Parents.{parent_offset}
 use Rattle.index_model.specs.Program.{Program, Located, scope_around, item_with_offset}
 use Rattle.index_model.specs.Names.{Member, component, step, path_from, scope_path}
-use Rattle.index_model.proofs.Meanings.{same_some}
 use Rattle.parent_resolve.specs.declared.scope.Scope.{Scope}
 use Rattle.parent_resolve.specs.declared.members.Step.{Step}
 use Rattle.parent_resolve.specs.Followed.{all_entries}
@@ -103,7 +103,7 @@ parent_found f p file e around c place = by (scope_around e) refl place
     by : (o : Option Located) → scope_around e ≡ o → option_map (λ (m : Located). m.item.at) o ≡ Some around → (m : Located) × (scope_around e ≡ Some m) × (item_with_offset p around ≡ Some m)
     by None is h = absurd cc
     by (Some m) is h =
-        let same = same_some m.item.at around h in
+        let same = same_Some m.item.at around h in
         (m, is, ap (item_with_offset p) (sym same) ∙ entry_found f p file m (scope_there f p file e c m is).0)
 
 pub no_parent : (e : Located) → parent_offset e ≡ None → scope_around e ≡ None

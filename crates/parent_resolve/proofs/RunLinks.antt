@@ -1,13 +1,16 @@
 -- The links of a shard's run, node by node.
-use Rattle.std.proofs.Common.{◌≡◌, ℕ, zero, suc, ◌<◌, ◌≤◌, List, [], ◌∷◌, ◌++◌, append_assoc, get_or, length, take, map, filter, unwrap_or, Option, Some, None, Result, Ok, Err, refl, sym, ap, subst, ◌∙◌, arith}
+use Rattle.std.proofs.Common.{◌≡◌, ℕ, zero, suc, ◌<◌, ◌≤◌, List, [], ◌∷◌, ◌++◌, append_assoc, get_or, length, take, filter, unwrap_or, Option, Some, None, Result, Ok, Err, refl, sym, ap, subst, ◌∙◌, arith}
 use Rattle.std.specs.Prelude.{Contains, IsOkAnd, option_to_list, slice_get}
 use Rattle.std.specs.List.{AllZip}
 use Rattle.std.proofs.lemmas.List.Elements.{filter-append}
 use Rattle.std.proofs.lemmas.List.{append-nil, take_all}
+use Rattle.std.proofs.lemmas.Option.{same_Some}
+use Rattle.common_laws.proofs.Members.{contains_here, contains_later}
+use Rattle.common_laws.proofs.Lists.{all_zip_append}
 use Rattle.ix_base.specs.declared.fault.Fault.{Fault}
 use Rattle.ix_base.specs.declared.fault.Stop.{Stop}
 use Rattle.ix_base.specs.declared.fault.Stop.TheVariants as stops
-use Rattle.unit_headers.specs.Images.{Image}
+use Rattle.file_image.specs.Images.{Image}
 use Rattle.index_model.specs.declared.shard.LinkedEntry.{LinkedEntry}
 use Rattle.index_model.specs.declared.shard.Linked.{Linked}
 use Rattle.index_model.specs.declared.shard.Shard.{Shard}
@@ -19,10 +22,9 @@ use Rattle.index_model.specs.Program.{Walked, Program, Located}
 use Rattle.index_model.specs.Sections.{Section}
 use Rattle.index_model.specs.Shards.{AreShardsOf, IsLinked, IsLinkedEntryOf, IsRunOf, StandsFor}
 use Rattle.index_model.specs.ShardParts.{kept_in}
-use Rattle.index_model.proofs.Meanings.{contains_here, contains_later, same_some}
 use Rattle.index_model.proofs.ShardRoots.{joined}
 use Rattle.parent_resolve.specs.Runs.{is_followed, links_at, IsLinkedNode}
-use Rattle.parent_resolve.proofs.KeptLaws.{all_followed}
+use Rattle.parent_resolve.proofs.KeptLaws.{kept_followed}
 
 -- whatever program the shards are of, and whatever run of it this one stands for
 abbrev pub ForStanding : Image → List Shard → Shard → (Program → List Walked → Type 0) → Type 0
@@ -59,12 +61,6 @@ module _ {A B : Type 0} (f : A → Result B Fault) where
       by more (Ok y) = ap (λ (r : Result (List B) Fault). r >>= λ others. Ok (y ∷ others)) more ∙ again y (each f xs)
       by more (Err e) = refl
 
-zip_append : {A B : Type 0} (R : A → B → Type 0) (xs : List A) (ys : List B) (us : List A) (vs : List B) → AllZip R xs ys → AllZip R us vs → AllZip R (xs ++ us) (ys ++ vs)
-zip_append R [] [] us vs h k = k
-zip_append R [] (y ∷ ys) us vs h k = absurd h
-zip_append R (x ∷ xs) [] us vs h k = absurd h
-zip_append R (x ∷ xs) (y ∷ ys) us vs h k = (h.0, zip_append R xs ys us vs h.1 k)
-
 -- the pair at a place, and the second list up to it and behind it
 pub record Paired {A B : Type 0} (R : A → B → Type 0) (ys : List B) (k : ℕ) (x : A) : Type 0 where
   pub at : B
@@ -96,11 +92,6 @@ take_whole R (x ∷ xs) [] k h le = absurd h
 take_whole R (x ∷ xs) (y ∷ ys) zero h le = absurd (omega (arith, le))
 take_whole {B = B} R (x ∷ xs) (y ∷ ys) (suc k) h le = ap (λ (ws : List B). y ∷ ws) (take_whole R xs ys k h.1 (omega (arith, le)))
 
-pub slice_map : {A B : Type 0} (f : A → B) (xs : List A) (k : ℕ) (d : A) → k < length xs → slice_get (map f xs) k ≡ Some (f (get_or xs k d))
-slice_map f [] k d lt = absurd (omega arith)
-slice_map f (x ∷ xs) zero d lt = refl
-slice_map f (x ∷ xs) (suc k) d lt = slice_map f xs k d (omega (arith, lt))
-
 -- a list with one more item, if there is one
 pub grown_some : {A : Type 0} (xs : List A) (o : Option A) (x : A) (ys : List A) → o ≡ Some x → ys ≡ xs ++ x ∷ [] → ys ≡ xs ++ option_to_list o
 grown_some {A = A} xs o x ys is own = own ∙ ap (λ (r : Option A). xs ++ option_to_list r) (sym is)
@@ -128,7 +119,7 @@ record Part (ss : List Section) (runs : List (List Walked)) (k : ℕ) (s : Shard
 part_at : (ss : List Section) (shards : List Shard) (runs : List (List Walked)) → AllZip (StandsFor ss) shards runs → (k : ℕ) (s : Shard) → slice_get shards k ≡ Some s → Part ss runs k s
 part_at ss [] runs z k s is = absurd cc
 part_at ss (t ∷ shards) [] z k s is = absurd z
-part_at ss (t ∷ shards) (run ∷ runs) z zero s is = record { run = run; is = refl; stands = subst (λ (x : Shard). StandsFor ss x run) (same_some t s is) z.0; before = []; after = joined runs; whole = refl }
+part_at ss (t ∷ shards) (run ∷ runs) z zero s is = record { run = run; is = refl; stands = subst (λ (x : Shard). StandsFor ss x run) (same_Some t s is) z.0; before = []; after = joined runs; whole = refl }
 part_at ss (t ∷ shards) (run ∷ runs) z (suc k) s is =
     let more = part_at ss shards runs z.1 k s is in
     record {
@@ -161,7 +152,7 @@ module _ (p : Program) where
   -- what the links of a run give, by its nodes
   pub of_run : (runs : List (List Walked)) (k : ℕ) (run : List Walked) → slice_get runs k ≡ Some run → links_at p (kept_in run) ≡ links_in p (unwrap_or (slice_get runs k) [])
   unfolding links_in
-  of_run runs k run is = ap (each one) (sym (all_followed p run)) ∙ ap (λ (o : Option (List Walked)). links_in p (unwrap_or o [])) (sym is)
+  of_run runs k run is = ap (each one) (sym (kept_followed p run)) ∙ ap (λ (o : Option (List Walked)). links_in p (unwrap_or o [])) (sym is)
 
   module _ (run : List Walked) (n : ℕ) (es : List LinkedEntry) (taken : IsTaken p run n es) (d : Located) where
     before : (ks : List Link) × (links_at p (take n (kept_in run)) ≡ Ok ks) × AllZip (IsLinkedEntryOf p) es (indexed_in ks)
@@ -177,7 +168,7 @@ module _ (p : Program) where
         ap (λ (r : Result (List Link) Fault). r >>= λ front. with_front one front (links_at p (d ∷ []))) b.1 ∙ ap (with_front one b.0) e.1 in
         let zipped : AllZip (IsLinkedEntryOf p) all (indexed_in (b.0 ++ e.0)) =
         subst (λ (xs : List LinkedEntry). AllZip (IsLinkedEntryOf p) xs (indexed_in (b.0 ++ e.0))) (sym longer)
-        (subst (λ (ys : List Link). AllZip (IsLinkedEntryOf p) (es ++ option_to_list o) ys) (sym (filter-append is_link_indexed b.0 e.0)) (zip_append (IsLinkedEntryOf p) es (indexed_in b.0) (option_to_list o) (indexed_in e.0) b.2 e.2)) in
+        (subst (λ (ys : List Link). AllZip (IsLinkedEntryOf p) (es ++ option_to_list o) ys) (sym (filter-append is_link_indexed b.0 e.0)) (all_zip_append (IsLinkedEntryOf p) es (indexed_in b.0) (option_to_list o) (indexed_in e.0) b.2 e.2)) in
         subst (λ (r : Result (List Link) Fault). IsOkAnd r (λ ks. AllZip (IsLinkedEntryOf p) all (indexed_in ks))) (sym both) zipped
 
     -- the first fault is the run's

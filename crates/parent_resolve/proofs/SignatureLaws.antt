@@ -2,6 +2,7 @@
 use Rattle.std.proofs.Common.{◌≡◌, ℕ, ◌+◌, Bool, true, false, cond, eqb, ◌&&◌, List, [], ◌∷◌, Option, Some, None, Result, Ok, Err, refl, sym, ap, subst, ◌∙◌}
 use Rattle.std.specs.Prelude.{Contains, find, filter_map}
 use Rattle.std.specs.List.{enumerate_from, cons_option}
+use Rattle.common_laws.proofs.Members.{contains_here, contains_later}
 use Rattle.ix_base.specs.declared.code.TheConstants.{BAD_REFERENCE}
 use Rattle.index_model.specs.declared.unit.Unit.{Unit as UnitHeader}
 use Rattle.index_model.specs.Attributes.{Reference, signature_of}
@@ -13,11 +14,11 @@ use Rattle.index_model.specs.References.{entry_named}
 use Rattle.index_model.specs.Sections.{Section}
 use Rattle.index_model.specs.Units.{units_of}
 use Rattle.index_model.specs.Strings.{own_name}
-use Rattle.index_model.proofs.Meanings.{contains_here, contains_later, same_ok}
+use Rattle.index_model.proofs.Meanings.{same_ok}
 use Rattle.index_model.proofs.Scans.{AreScans, scanned_walked, program_parts}
 use Rattle.index_model.proofs.UnitsApart.{walk_parts}
-use Rattle.unit_headers.specs.Images.{Image, image_of}
-use Rattle.unit_headers.proofs.Images.{parts_of}
+use Rattle.file_image.specs.Images.{Image, image_of}
+use Rattle.file_image.proofs.Images.{parts_of}
 use Rattle.shard_build.specs.Entries.{entry_meant}
 use Rattle.parent_resolve.specs.declared.signatures.TypeUnit.{TypeUnit}
 use Rattle.parent_resolve.specs.Signed.{as_type_unit, type_units, first_signed}

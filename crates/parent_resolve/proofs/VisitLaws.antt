@@ -6,6 +6,8 @@ use Rattle.std.specs.List.Sorted.{IsNonDecreasingBy}
 use Rattle.std.proofs.lemmas.Bool.{eq-eqb, ne_eqb, cases_lt, true≢false, false≢true}
 use Rattle.std.proofs.lemmas.List.{get_or_default, get_or-take, length-take}
 use Rattle.std.proofs.lemmas.List.Sorted.{IsNonDecreasingBy-take}
+use Rattle.std.proofs.lemmas.Option.{same_Some}
+use Rattle.common_laws.proofs.Members.{of_filter, to_filter}
 use Rattle.index_model.specs.declared.shard.Node.{Node}
 use Rattle.index_model.specs.declared.shard.Shard.{Shard}
 use Rattle.index_model.specs.declared.rules.Parent.TheVariants.{Root, Other, Seen}
@@ -19,13 +21,13 @@ use Rattle.index_model.specs.ShardParts.{IsNodeOf, is_kept, kept_in, may_be_ada,
 use Rattle.index_model.specs.ShardLanguages.{root_in}
 use Rattle.index_model.specs.Shards.{IsRunOf, StandsFor}
 use Rattle.index_model.specs.Walk.{Item, parent_of}
-use Rattle.index_model.proofs.Meanings.{same_some}
-use Rattle.index_model.proofs.Pairs.{Pairs, pairs_filter, of_filter, to_filter}
+use Rattle.index_model.proofs.Pairs.{Pairs, pairs_filter}
 use Rattle.index_model.proofs.ShardRoots.{Numbered, program_numbered, numbered_front, numbered_back, find_number, root_is}
 use Rattle.index_model.proofs.UnitsApart.{AreApart, run_apart}
 use Rattle.index_model.proofs.VisitedLaws.{visited_by_parent}
+use Rattle.index_model.proofs.Located.{Before, at_home, located_before}
 use Rattle.parent_resolve.specs.Visits.{IsVisitedBy, MayBeVisitedBy, takes_importers_class, IsNodeAt, HasNoneAt}
-use Rattle.parent_resolve.proofs.Entries.{Below, at_home, runs_rise, order, home_of, entry_of, found_at, above, top, IsAbove}
+use Rattle.parent_resolve.proofs.Entries.{order, home_of, entry_of, found_at, above, top, IsAbove}
 use Rattle.parent_resolve.proofs.NodeLaws.{node_parts, node_unit, node_parent, offset_in, of_node, to_node, nodes_below, nodes_rise}
 use Rattle.parent_resolve.proofs.AdaLaws.{known_class, may_be_visited}
 
@@ -65,7 +67,7 @@ no_offset (Some e) h = absurd cc
 
 offset_there : (o : Option Item) (at : ℕ) → Some at ≡ offset_in o → (e : Item) × (o ≡ Some e) × (e.at ≡ at)
 offset_there None at h = absurd cc
-offset_there (Some e) at h = (e, refl, same_some e.at at (sym h))
+offset_there (Some e) at h = (e, refl, same_Some e.at at (sym h))
 
 module _ (s : Shard) (node : Node) (ada : Bool) (d : Located) (h : IsEntryIn s node ada d) where
   abbrev w : Walked
@@ -83,8 +85,8 @@ module _ (s : Shard) (node : Node) (ada : Bool) (d : Located) (h : IsEntryIn s n
   apart : AreApart ss h.run
   apart = run_apart h.file h.p h.run h.of_file h.is_run
 
-  below : Pairs Below entries
-  below = runs_rise ss h.run apart
+  below : Pairs Before entries
+  below = located_before ss h.run apart
 
   home : Contains h.run w × Contains ds d.item
   home = home_of h.run d h.member
@@ -93,7 +95,7 @@ module _ (s : Shard) (node : Node) (ada : Bool) (d : Located) (h : IsEntryIn s n
   ordered = order ss w (apart.walks w home.0)
 
   pub rising : IsNonDecreasingBy (λ n. n.offset) s.nodes
-  rising = nodes_rise s.nodes (nodes_below ss s.nodes (kept_in h.run) h.stands.nodes (pairs_filter Below (λ e. is_kept e.home e.item) entries below))
+  rising = nodes_rise s.nodes (nodes_below ss s.nodes (kept_in h.run) h.stands.nodes (pairs_filter Before (λ e. is_kept e.home e.item) entries below))
 
   pub start : Climbs ada s.nodes d node.parent (length s.nodes)
   start = record {
@@ -108,7 +110,7 @@ module _ (s : Shard) (node : Node) (ada : Bool) (d : Located) (h : IsEntryIn s n
   once : (x : Located) → Contains entries x → (m : Item) → Contains ds m → x.item.at ≡ m.at → x ≡ at_home w m
   once x xc m mc same =
       let there : Contains entries (at_home w m) = entry_of h.run w m home.0 mc in
-      same_some x (at_home w m) (sym (found_at entries below x xc) ∙ ap (λ (o : ℕ). find (λ e. eqb e.item.at o) entries) same ∙ found_at entries below (at_home w m) there)
+      same_Some x (at_home w m) (sym (found_at entries below x xc) ∙ ap (λ (o : ℕ). find (λ e. eqb e.item.at o) entries) same ∙ found_at entries below (at_home w m) there)
 
   -- ---- what is kept
 

@@ -2,7 +2,7 @@
 use Rattle.std.specs.Prelude.{◌≡◌, ℕ, Bool, ◌&&◌, List, [], filter, Contains, slice_get, unwrap_or, Option, option_to_list, Result, Ok}
 use Rattle.std.specs.List.{AllZip}
 use Rattle.ix_base.specs.declared.fault.Fault.{Fault}
-use Rattle.unit_headers.specs.Images.{Image}
+use Rattle.file_image.specs.Images.{Image}
 use Rattle.index_model.specs.declared.shard.LinkedEntry.{LinkedEntry}
 use Rattle.index_model.specs.declared.shard.Shard.{Shard}
 use Rattle.index_model.specs.declared.shard.Node.{Node}

@@ -4,7 +4,7 @@ use Rattle.std.specs.List.{enumerate_from}
 use Rattle.std.specs.List.Sorted.{IsNonDecreasingBy}
 use Rattle.index_model.specs.declared.unit.Unit.{Unit as UnitHeader}
 use Rattle.index_model.specs.Chains.{is_type_unit}
-use Rattle.unit_headers.specs.Images.{Image, image_of}
+use Rattle.file_image.specs.Images.{Image, image_of}
 use Rattle.parent_resolve.specs.declared.signatures.TypeUnit.{TypeUnit}
 
 -- what is kept of a unit with its number, if it is a type unit

@@ -7,18 +7,16 @@ mod classes;
 mod components;
 mod entry;
 mod followed;
+mod languages;
 mod links;
 mod members;
 mod paths;
 mod references;
-#[cfg(test)]
-mod rows;
 mod scope;
 mod signatures;
-#[cfg(test)]
-mod tests;
 mod visits;
 
 pub use followed::Followed;
+pub use languages::Languages;
 pub use links::link;
 pub use references::References;

@@ -8,16 +8,17 @@ ghost use Rattle.index_model.specs.Shards.{IsLinked};
 ghost use Rattle.shard_build.specs.Entries.{AreShardsOfFile};
 ghost use Rattle.parent_resolve.specs.Runs.{links_at, ForKept, ForRun, IsLinkedNode};
 
-use crate::classes::Classes;
+use crate::classes::class_of;
 use crate::entry::link_entry;
+use crate::languages::Languages;
 use crate::paths::Paths;
 use crate::visits::is_visited;
 use entry_rules::{Class, in_table};
+use file_image::Image;
 use index_model::{Linked, LinkedEntry, List, Node, Shard};
 use ix_base::Stop;
 use std::alloc::Global;
 use std::sync::Arc;
-use unit_headers::Image;
 
 /// What the references of the visited entries in shard `k` give: for each indexed entry, in section order, its name, its
 /// linkage name, whether it is external, and the length of its qualified name in bytes. The shards are those of consecutive
@@ -39,10 +40,10 @@ pub fn link<'f>(
 {
     let shard: &Shard<'f> = &shards[k];
     let mut paths = Paths::new(alloc, image, shards)?;
-    let mut classes = Classes::new(shards);
+    let mut languages = Languages::new(shards);
     let mut entries = Vec::new(alloc);
     for node in shard.nodes.as_slice() {
-        if let Some(entry) = link_node(alloc, shard, &mut classes, &mut paths, node)? {
+        if let Some(entry) = link_node(alloc, shard, &mut languages, &mut paths, node)? {
             entries.push(entry)?;
         }
     }
@@ -55,18 +56,18 @@ pub fn link<'f>(
 fn link_node<'f>(
     alloc: Global,
     shard: &Shard<'f>,
-    classes: &mut Classes<'_, 'f>,
+    languages: &mut Languages<'_, 'f>,
     paths: &mut Paths<'_, 'f>,
     node: &Node<'f>,
 ) -> Result<Option<LinkedEntry<'f>>, Stop>
-    ensures value { paths.old.shards ≡ classes.old → ForKept paths.old shard.now node.now (λ p d. GivesFor (IsLinkedNode p) result (links_at p (d ∷ []))) }
-    ensures classes { classes.new ≡ classes.old }
+    ensures value { paths.old.shards ≡ languages.old → ForKept paths.old shard.now node.now (λ p d. GivesFor (IsLinkedNode p) result (links_at p (d ∷ []))) }
+    ensures languages { languages.new ≡ languages.old }
     ensures paths { paths.new ≡ paths.old }
 {
     if !in_table(node.tag) {
         return Ok(None);
     }
-    let class = classes.of(node.unit);
+    let class = class_of(languages, node.unit);
     if !is_visited(shard, node, is_ada(class)) {
         return Ok(None);
     }

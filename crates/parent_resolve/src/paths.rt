@@ -20,13 +20,13 @@ use crate::followed::Followed;
 use crate::members::{step_at, too_long};
 use crate::references::References;
 use crate::scope::{Scope, part_length};
+use file_image::Image;
 use index_model::{Node, Shard};
 use indexmap::IndexMap;
 use ix_base::{MAX_PATH_STEPS, NoMemory, Stop};
 use std::alloc::Global;
 use std::marker::Model;
 use std::sync::Arc;
-use unit_headers::Image;
 
 /// The references of a file's entries, and the scopes that are known so far, each by the joint offset of the path's first
 /// member.

@@ -13,6 +13,7 @@ ghost use Rattle.parent_resolve.specs.Signed.{AreTypeUnitsOf};
 use crate::chain::chain_of;
 use crate::followed::Followed;
 use crate::signatures::Signatures;
+use file_image::Image;
 use index_model::{Next, Node, Shard};
 use ix_base::code::BAD_REFERENCE;
 use ix_base::{Fault, NoMemory, Stop};
@@ -20,7 +21,6 @@ use shard_build::Entries;
 use std::alloc::Global;
 use std::marker::Model;
 use std::sync::Arc;
-use unit_headers::Image;
 
 /// The references of a file's entries, by its image and by the shards of all its units.
 #[derive(Drop)]

@@ -87,36 +87,3 @@ fn node_at<'s, 'f>(nodes: &'s [Node<'f>], offset: u64) -> Option<(usize, &'s Nod
         None
     }
 }
-
-#[cfg(test)]
-mod tests {
-    use super::*;
-    use crate::rows::NESTED_IN_A_PARTIAL_UNIT;
-    use ix_base::Stop;
-    use shard_build::scan;
-    use std::test::Fail;
-    use unit_headers::Image;
-
-    // Whether the node at the offset is that of an entry which is visited.
-    fn is_visited_at(shard: &Shard<'_>, offset: u64, ada: bool) -> Option<bool> {
-        let (_place, node) = node_at(shard.nodes.as_slice(), offset)?;
-        Some(is_visited(shard, node, ada))
-    }
-
-    // The partial unit has a subprogram, which has another.
-    #[test]
-    fn an_entry_in_a_subprogram_is_visited_in_ada(rt: HostRuntime) -> Result<(), Fail> {
-        let image = Image::open(rt.alloc(), &NESTED_IN_A_PARTIAL_UNIT)?;
-        let whole = image.units().len() == 2;
-        if !whole {
-            return Err(Fail::from("other units"));
-        }
-        let shard = scan(rt.alloc(), &image, 0, 2)?;
-        for ada in [false, true] {
-            assert_eq!(rt; is_visited_at(&shard, 0x0c, ada), Some(false));
-            assert_eq!(rt; is_visited_at(&shard, 0x0d, ada), Some(true));
-            assert_eq!(rt; is_visited_at(&shard, 0x1f, ada), Some(ada));
-        }
-        Ok(())
-    }
-}

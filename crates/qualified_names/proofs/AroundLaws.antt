@@ -1,5 +1,6 @@
 -- Entries with one lexical parent have one scope path.
 use Rattle.std.proofs.Common.{◌≡◌, ℕ, zero, suc, List, [], map, Option, Some, None, option_map, Result, Ok, Err, refl, sym, ap, subst, ◌∙◌}
+use Rattle.std.proofs.lemmas.Option.{same_Some}
 use Rattle.std.specs.Prelude.{Contains, IsOkAnd}
 use Rattle.std.specs.Borrow.{Bor}
 use Rattle.ix_base.specs.declared.code.TheConstants.{REFERENCE_CHAIN}
@@ -10,7 +11,7 @@ use Rattle.index_model.specs.Parents.{parent_offset}
 use Rattle.index_model.specs.Program.{Program, Located, scope_around}
 use Rattle.index_model.specs.declared.shard.Node.{Node}
 use Rattle.index_model.specs.ShardParts.{IsNodeOf}
-use Rattle.index_model.proofs.Meanings.{same_ok, same_some}
+use Rattle.index_model.proofs.Meanings.{same_ok}
 use Rattle.shard_build.specs.Entries.{EntriesOf}
 use Rattle.parent_resolve.specs.Followed.{all_entries}
 use Rattle.parent_resolve.proofs.NodeLaws.{node_parts}
@@ -30,7 +31,7 @@ module _ (f : List ℕ) (p : Program) (file : program_of f ≡ Ok p) where
   same_scope d e dc ec (Some o) hd he =
       let a = parent_found f p file d o dc hd in
       let b = parent_found f p file e o ec he in
-      a.1 ∙ ap {B = Option Located} (λ (m : Located). Some m) (same_some a.0 b.0 (sym a.2 ∙ b.2)) ∙ sym b.1
+      a.1 ∙ ap {B = Option Located} (λ (m : Located). Some m) (same_Some a.0 b.0 (sym a.2 ∙ b.2)) ∙ sym b.1
 
   pub same_path : (d e : Located) → Contains (all_entries p) d → Contains (all_entries p) e → parent_offset d ≡ parent_offset e → scope_path p d ≡ scope_path p e
   same_path d e dc ec same = by_scope p MAX_PATH_STEPS d e (same_scope d e dc ec (parent_offset e) same refl)

@@ -3,7 +3,8 @@ use Rattle.std.proofs.Common.{◌≡◌, ℕ, zero, suc, ◌≤◌, Bool, true, 
 use Rattle.std.specs.Prelude.{slice_get, codes, bytes_eq}
 use Rattle.std.specs.Option.{option_or}
 use Rattle.std.specs.List.{AllZip}
-use Rattle.std.proofs.lemmas.Bool.{true≢false, eqb-true}
+use Rattle.std.proofs.lemmas.Bool.{true≢false, eqb-true, and_right}
+use Rattle.std.proofs.lemmas.Option.{same_Some}
 use Rattle.index_model.specs.declared.answer.Main.{Main}
 use Rattle.index_model.specs.declared.shard.Linked.{Linked}
 use Rattle.index_model.specs.declared.shard.Shard.{Shard}
@@ -19,7 +20,6 @@ use Rattle.index_model.specs.ShardLanguages.{IsLanguageAt}
 use Rattle.index_model.specs.ShardParts.{IsNodeOf, node_facts}
 use Rattle.index_model.specs.Shards.{AreShardsOf}
 use Rattle.index_model.specs.Tags.{subprogram}
-use Rattle.index_model.proofs.Meanings.{same_some}
 use Rattle.parent_resolve.proofs.Entries.{home_in}
 use Rattle.qualified_names.specs.declared.indexed.Indexed.{Indexed}
 use Rattle.qualified_names.specs.declared.sought.Sought.TheVariants.{Said, Named}
@@ -56,10 +56,6 @@ no_language n is = rw (eqb-true n 0 is) refl
 
 -- ---- one entry
 
-pub falls : (a b : Bool) → b ≡ false → (a && b) ≡ false
-falls true b e = e
-falls false b e = refl
-
 holds : (a b : Bool) → b ≡ true → a ≡ (a && b)
 holds true b e = sym e
 holds false b e = refl
@@ -95,7 +91,7 @@ module _ (p : Program) (k : Link) (language : ℕ) (here : language ≡ language
       by : (c : Bool) → is_c_or_cxx k.class ≡ c → (z : Bool) → eqb language 0 ≡ z → (has && may) ≡ (not (eqb (language_of p k.entry.home) 0) && is_named_main k)
       by false off z e =
           let right : is_named_main k ≡ false = ap (λ (c : Bool). ((eqb k.entry.item.tag subprogram && c) && not (is_link_static k)) && bytes_eq (full_name k) (codes "main")) off ∙ none (eqb k.entry.item.tag subprogram) (not (is_link_static k)) (bytes_eq (full_name k) (codes "main")) in
-          falls has may (m ∙ ap (λ (c : Bool). c && not (is_link_static k)) off) ∙ sym (falls (not (eqb (language_of p k.entry.home) 0)) (is_named_main k) right)
+          and_right has may (m ∙ ap (λ (c : Bool). c && not (is_link_static k)) off) ∙ sym (and_right (not (eqb (language_of p k.entry.home) 0)) (is_named_main k) right)
       by true on true e = absurd (true≢false (sym on ∙ ap is_c_or_cxx (sym class) ∙ no_language language e))
       by true on false e =
           let has_one : not (eqb (language_of p k.entry.home) 0) ≡ true = ap (λ (n : ℕ). not (eqb n 0)) (sym here) ∙ ap not e in
@@ -209,7 +205,7 @@ module _ (p : Program) where
 
 pub drop_next : {A : Type 0} (xs : List A) (k : ℕ) (x : A) → slice_get xs k ≡ Some x → drop k xs ≡ x ∷ drop (suc k) xs
 drop_next [] k x is = absurd cc
-drop_next (y ∷ ys) zero x is = ap (λ a. a ∷ ys) (same_some y x is)
+drop_next (y ∷ ys) zero x is = ap (λ a. a ∷ ys) (same_Some y x is)
 drop_next (y ∷ ys) (suc k) x is = drop_next ys k x is
 
 pub drop_all : {A : Type 0} (xs : List A) (k : ℕ) → length xs ≤ k → drop k xs ≡ []

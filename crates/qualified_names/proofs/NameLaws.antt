@@ -3,8 +3,9 @@ use Rattle.std.proofs.Common.{◌≡◌, ℕ, Bool, true, false, ◌&&◌, ◌||
 use Rattle.std.specs.Prelude.{codes, bytes_eq}
 use Rattle.std.specs.Borrow.{Bor}
 use Rattle.std.specs.List.{cons_option, list_any}
-use Rattle.std.proofs.lemmas.Bool.{true≢false, false≢true, and_parts, eqb-true, eq-eqb}
+use Rattle.std.proofs.lemmas.Bool.{true≢false, false≢true, and_parts, eqb-true, eq-eqb, and_from, or_right}
 use Rattle.std.proofs.lemmas.Slice.Eq.{bytes_eq-Decides}
+use Rattle.common_laws.proofs.Booleans.{same_each_way}
 use Rattle.index_model.specs.declared.rules.Class.{Class}
 use Rattle.index_model.specs.declared.rules.Class.TheVariants.{C, Cxx, Ada, Plain}
 use Rattle.index_model.specs.AdaNames.{decoded}
@@ -71,11 +72,7 @@ has_colon = list_any (λ b. eqb b 58)
 
 colon_back : (xs ys : List ℕ) → has_colon ys ≡ true → has_colon (xs ++ ys) ≡ true
 colon_back [] ys h = h
-colon_back (x ∷ xs) ys h = either (eqb x 58) (colon_back xs ys h)
-  where
-    either : (a : Bool) {b : Bool} → b ≡ true → (a || b) ≡ true
-    either true e = refl
-    either false e = e
+colon_back (x ∷ xs) ys h = or_right (eqb x 58) _ (colon_back xs ys h)
 
 colon_front : (xs ys : List ℕ) → has_colon xs ≡ true → has_colon (xs ++ ys) ≡ true
 colon_front [] ys h = absurd (false≢true h)
@@ -102,22 +99,11 @@ main_alone Cxx path name on is =
     let whole = sym (scoped_is path name) ∙ is in
     sym (ap (λ (xs : List ℕ). xs ++ name) (colons (reverse (filter_map component path)) name whole)) ∙ whole
 
-each_way : (a b : Bool) → (a ≡ true → b ≡ true) → (b ≡ true → a ≡ true) → a ≡ b
-each_way true true f g = refl
-each_way true false f g = sym (f refl)
-each_way false true f g = g refl
-each_way false false f g = refl
-
-both : (a b : Bool) → a ≡ true → b ≡ true → (a && b) ≡ true
-both true true h g = refl
-both true false h g = g
-both false b h g = h
-
 -- the name is `main` and isn't longer with its components: then its qualified name is `main`, and the other way round
 pub main_by_length : (class : Class) (path : List Member) (name : List ℕ) (n : ℕ) → n ≡ length (qualified_name class path name) → is_c_or_cxx class ≡ true → (eqb n 4 && bytes_eq name (codes "main")) ≡ bytes_eq (qualified_name class path name) (codes "main")
 main_by_length class path name n is on =
     let q = qualified_name class path name in
-    each_way (eqb n 4 && bytes_eq name (codes "main")) (bytes_eq q (codes "main"))
+    same_each_way (eqb n 4 && bytes_eq name (codes "main")) (bytes_eq q (codes "main"))
     (λ h.
     let a = and_parts (eqb n 4) (bytes_eq name (codes "main")) h in
     let own : name ≡ codes "main" = (bytes_eq-Decides name (codes "main")).0 a.1 in
@@ -126,4 +112,4 @@ main_by_length class path name n is on =
     (λ h.
     let main = (bytes_eq-Decides q (codes "main")).0 h in
     let four : n ≡ 4 = omega (arith, is, ap length main) in
-    both (eqb n 4) (bytes_eq name (codes "main")) (eq-eqb n 4 four) ((bytes_eq-Decides name (codes "main")).1 (main_alone class path name on main)))
+    and_from (eqb n 4) (bytes_eq name (codes "main")) (eq-eqb n 4 four) ((bytes_eq-Decides name (codes "main")).1 (main_alone class path name on main)))

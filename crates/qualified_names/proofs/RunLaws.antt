@@ -4,7 +4,7 @@ use Rattle.std.specs.Prelude.{slice_get, IsOkAnd}
 use Rattle.std.specs.List.{AllZip}
 use Rattle.std.proofs.lemmas.List.Concat.{flat_map-append}
 use Rattle.ix_base.specs.declared.fault.Fault.{Fault}
-use Rattle.unit_headers.specs.Images.{Image}
+use Rattle.file_image.specs.Images.{Image}
 use Rattle.index_model.specs.declared.entry.Entry.{Entry}
 use Rattle.index_model.specs.declared.shard.Linked.{Linked}
 use Rattle.index_model.specs.declared.shard.Shard.{Shard}

@@ -5,6 +5,9 @@ use Rattle.std.specs.List.{AllZip}
 use Rattle.std.proofs.lemmas.Bool.{eq-eqb, ne_eqb}
 use Rattle.std.proofs.lemmas.List.Concat.{flat_map-append}
 use Rattle.std.proofs.lemmas.List.Elements.{filter-append}
+use Rattle.std.proofs.lemmas.Option.{same_Some}
+use Rattle.common_laws.proofs.Members.{contains_here, contains_later, to_map, of_filter}
+use Rattle.common_laws.proofs.Lists.{all_zip_append}
 use Rattle.ix_base.specs.declared.fault.Fault.{Fault}
 use Rattle.index_model.specs.declared.shard.Linked.{Linked}
 use Rattle.index_model.specs.declared.shard.LinkedEntry.{LinkedEntry}
@@ -17,18 +20,18 @@ use Rattle.index_model.specs.Program.{Walked, Program, Located, located}
 use Rattle.index_model.specs.ShardParts.{is_kept, kept_in, IsNodeOf}
 use Rattle.index_model.specs.Shards.{IsLinkedEntryOf, IsRunOf, StandsFor}
 use Rattle.index_model.proofs.EachLaws.{in_two}
-use Rattle.index_model.proofs.Meanings.{bind_ok, contains_here, contains_later, same_ok, same_some}
-use Rattle.index_model.proofs.Pairs.{Pairs, of_filter, pairs_filter, to_map}
+use Rattle.index_model.proofs.Meanings.{bind_ok, same_ok}
+use Rattle.index_model.proofs.Pairs.{Pairs, pairs_filter}
 use Rattle.index_model.proofs.ShardRoots.{joined}
 use Rattle.index_model.proofs.UnitsApart.{run_apart}
 use Rattle.parent_resolve.specs.Followed.{all_entries}
 use Rattle.parent_resolve.specs.Runs.{is_followed}
-use Rattle.parent_resolve.proofs.Entries.{Below, runs_rise}
-use Rattle.parent_resolve.proofs.KeptLaws.{all_followed}
+use Rattle.parent_resolve.proofs.KeptLaws.{kept_followed}
 use Rattle.parent_resolve.proofs.NodeLaws.{node_parts}
 use Rattle.parent_resolve.proofs.NodeLinks.{kept_there}
 use Rattle.range_lists.specs.Units.{IsLinkedRun}
-use Rattle.range_lists.proofs.Followed.{links_are}
+use Rattle.index_model.proofs.Followed.{links_are}
+use Rattle.index_model.proofs.Located.{Before, located_before}
 use Rattle.qualified_names.specs.declared.indexed.Indexed.{Indexed}
 use Rattle.qualified_names.specs.Indexed.{IsIndexed}
 use Rattle.qualified_names.specs.Nodes.{all_indexed, from_offset, indexed_nodes}
@@ -40,16 +43,10 @@ zip_none : {A B C : Type 0} (R : A → C → Type 0) (S : B → C → Type 0) (y
 zip_none R S [] z = tt
 zip_none R S (y ∷ ys) z = absurd z
 
-zip_append : {A B : Type 0} (R : A → B → Type 0) (xs : List A) (ys : List B) (us : List A) (vs : List B) → AllZip R xs ys → AllZip R us vs → AllZip R (xs ++ us) (ys ++ vs)
-zip_append R [] [] us vs h k = k
-zip_append R [] (y ∷ ys) us vs h k = absurd h
-zip_append R (x ∷ xs) [] us vs h k = absurd h
-zip_append R (x ∷ xs) (y ∷ ys) us vs h k = (h.0, zip_append R xs ys us vs h.1 k)
-
 pub zip_at : {A B : Type 0} (R : A → B → Type 0) (xs : List A) (ys : List B) → AllZip R xs ys → (k : ℕ) (x : A) (y : B) → slice_get xs k ≡ Some x → slice_get ys k ≡ Some y → R x y
 zip_at R [] ys z k x y hx hy = absurd cc
 zip_at R (u ∷ us) [] z k x y hx hy = absurd cc
-zip_at R (u ∷ us) (v ∷ vs) z zero x y hx hy = subst (R x) (same_some v y hy) (subst (λ a. R a v) (same_some u x hx) z.0)
+zip_at R (u ∷ us) (v ∷ vs) z zero x y hx hy = subst (R x) (same_Some v y hy) (subst (λ a. R a v) (same_Some u x hx) z.0)
 zip_at R (u ∷ us) (v ∷ vs) z (suc k) x y hx hy = zip_at R us vs z.1 k x y hx hy
 
 -- the first of a zipped list has a partner
@@ -91,7 +88,7 @@ module _ (p : Program) where
       let a = links_are p (filter (is_followed p) ds) ks is in
       (of_filter (is_followed p) ds k.entry (subst (λ (xs : List Located). Contains xs k.entry) a.entries (to_map (λ (l : Link). l.entry) ks k own))).0
 
-  module _ (d : Located) (ds : List Located) (n : Node) (ns : List Node) (node : IsNodeOf p.sections n d) (later : (e : Located) → Contains ds e → Below d e) (there : Contains (all_entries p) d) (again : Given ds ns) where
+  module _ (d : Located) (ds : List Located) (n : Node) (ns : List Node) (node : IsNodeOf p.sections n d) (later : (e : Located) → Contains ds e → Before d e) (there : Contains (all_entries p) d) (again : Given ds ns) where
     -- the node's entry isn't indexed
     passed_over : (es : List LinkedEntry) (ks : List Link) → AreTold ds ks es → AllZip (IsIndexed p) (indexed_nodes (n ∷ ns) es) (indexed_in ks)
     passed_over [] ks told = zip_none (IsLinkedEntryOf p) (IsIndexed p) (indexed_in ks) told.1
@@ -142,7 +139,7 @@ module _ (p : Program) where
         by true on = followed_one on
         by false off = unfollowed off
 
-  side_by_side : (ds : List Located) (ns : List Node) → AllZip (IsNodeOf p.sections) ns ds → Pairs Below ds → ((d : Located) → Contains ds d → Contains (all_entries p) d) → Given ds ns
+  side_by_side : (ds : List Located) (ns : List Node) → AllZip (IsNodeOf p.sections) ns ds → Pairs Before ds → ((d : Located) → Contains ds d → Contains (all_entries p) d) → Given ds ns
   side_by_side [] [] z rise there es ks told = subst (λ (xs : List Link). AllZip (IsIndexed p) [] (indexed_in xs)) (same_ok [] ks told.0) tt
   side_by_side [] (n ∷ ns) z rise there es ks told = absurd z
   side_by_side (d ∷ ds) [] z rise there es ks told = absurd z
@@ -155,8 +152,8 @@ module _ (p : Program) where
     unfolding links_in
     of_run run r s l stands ks is z =
         let ds = kept_in run in
-        let rise = pairs_filter Below (λ d. is_kept d.home d.item) (flat_map located run) (runs_rise p.sections run (run_apart f p run file r)) in
-        side_by_side ds s.nodes stands.nodes rise (λ d c. (kept_there p run r d c).2) l.entries ks (ap (each one) (sym (all_followed p run)) ∙ is, z)
+        let rise = pairs_filter Before (λ d. is_kept d.home d.item) (flat_map located run) (located_before p.sections run (run_apart f p run file r)) in
+        side_by_side ds s.nodes stands.nodes rise (λ d c. (kept_there p run r d c).2) l.entries ks (ap (each one) (sym (kept_followed p run)) ∙ is, z)
 
     -- and those of all shards are those of all links
     pub all_of : (shards : List Shard) (linked : List Linked) (runs : List (List Walked)) → AllZip (StandsFor p.sections) shards runs → AllZip (IsLinkedRun p) linked runs → (before : List Walked) → p.walks ≡ before ++ joined runs → (ks : List Link) → each one (flat_map (followed p) (joined runs)) ≡ Ok ks → AllZip (IsIndexed p) (all_indexed shards linked) (indexed_in ks)
@@ -174,7 +171,7 @@ module _ (p : Program) where
         let rest = all_of shards linked runs z.1 y.1 (before ++ run) (whole ∙ sym (append_assoc before run (joined runs))) t.back t.back_is in
         subst (λ (xs : List Link). AllZip (IsIndexed p) (indexed_nodes s.nodes l.entries ++ all_indexed shards linked) (indexed_in xs)) t.whole
         (subst (λ (xs : List Link). AllZip (IsIndexed p) (indexed_nodes s.nodes l.entries ++ all_indexed shards linked) xs) (sym (filter-append is_link_indexed t.front t.back))
-        (zip_append (IsIndexed p) (indexed_nodes s.nodes l.entries) (indexed_in t.front) (all_indexed shards linked) (indexed_in t.back) first rest))
+        (all_zip_append (IsIndexed p) (indexed_nodes s.nodes l.entries) (indexed_in t.front) (all_indexed shards linked) (indexed_in t.back) first rest))
 
 -- ---- the next indexed entry
 

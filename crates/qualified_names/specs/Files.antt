@@ -1,6 +1,6 @@
 -- A file's shards, and what the references of their runs give.
 use Rattle.std.specs.Prelude.{◌≡◌, ℕ, List, [], unwrap_or, slice_get, Ok}
-use Rattle.unit_headers.specs.Images.{Image}
+use Rattle.file_image.specs.Images.{Image}
 use Rattle.index_model.specs.declared.shard.Linked.{Linked}
 use Rattle.index_model.specs.declared.shard.Shard.{Shard}
 use Rattle.index_model.specs.Faults.{program_of, links_of}

@@ -3,17 +3,12 @@
 
 mod entry;
 mod indexed;
-mod languages;
 mod links;
 mod main_program;
 mod names;
 mod nodes;
-#[cfg(test)]
-mod rows;
 mod run;
 mod sought;
-#[cfg(test)]
-mod tests;
 
 pub use main_program::main_of;
 pub use name_forms::ada;

@@ -9,16 +9,16 @@ ghost use Rattle.qualified_names.specs.Nodes.{all_indexed};
 ghost use Rattle.qualified_names.specs.Sought.{ForAllCounted, is_main_by, IsFound};
 
 use crate::indexed::Indexed;
-use crate::languages::Languages;
 use crate::names::Names;
 use crate::nodes::IndexedNodes;
 use crate::sought::Sought;
 use entry_rules::class;
+use file_image::Image;
 use index_model::{Linked, Main, Shard};
 use ix_base::NoMemory;
+use parent_resolve::Languages;
 use std::alloc::Global;
 use std::sync::Arc;
-use unit_headers::Image;
 
 /// The main program, None where the file has none: of the indexed entries whose unit has a language other than 0 the first that
 /// says itself that it is main, else the first subprogram of C or C++ that isn't static and has the qualified name `main`. The

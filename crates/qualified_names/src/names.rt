@@ -9,17 +9,16 @@ ghost use Rattle.shard_build.specs.Entries.{AreShardsOfFile};
 ghost use Rattle.qualified_names.specs.Indexed.{ForLink, HasLink};
 
 use crate::indexed::Indexed;
-use crate::languages::Languages;
 use crate::links::{Around, end_of, go_around};
 use entry_rules::Class;
+use file_image::Image;
 use index_model::{Shard, Text};
 use ix_base::NoMemory;
 use name_forms::{ada, scoped};
-use parent_resolve::References;
+use parent_resolve::{Languages, References};
 use std::alloc::Global;
 use std::marker::Model;
 use std::sync::Arc;
-use unit_headers::Image;
 
 /// The names of a file's entries, and the languages of its units. The scope of the C++ entry that was named last is at hand.
 #[derive(Drop)]

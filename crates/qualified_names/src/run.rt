@@ -8,11 +8,11 @@ ghost use Rattle.qualified_names.specs.Files.{AreLinkedOfFile, ForLinkedRun};
 use crate::entry::push_entries;
 use crate::names::Names;
 use crate::nodes::IndexedNodes;
+use file_image::Image;
 use index_model::{Linked, List, Run, Shard};
 use ix_base::NoMemory;
 use std::alloc::Global;
 use std::sync::Arc;
-use unit_headers::Image;
 
 /// The entries of run `k`, in section order, each with its linkage entry behind it. The shards are those of consecutive runs
 /// that make up all units of the image's file, and the links are what the references of these runs give.

@@ -9,8 +9,8 @@ ghost use Rattle.qualified_names.specs.Sought.{ForCounted, is_main_by};
 ghost use Rattle.qualified_names.specs.declared.sought.Sought.TheVariants.{Said, Named};
 
 use crate::indexed::Indexed;
-use crate::languages::Languages;
 use entry_rules::{Class, class, is_static};
+use parent_resolve::Languages;
 
 // The tag of a subprogram (DWARF 5, section 7.5.3).
 const SUBPROGRAM: u64 = 0x2e;

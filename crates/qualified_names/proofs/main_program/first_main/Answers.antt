@@ -1,12 +1,13 @@
 use Rattle.std.proofs.Common.{◌≡◌, ◌+◌, ℕ, suc, List, drop, map, find, Option, Some, None, refl, sym, ap, subst, ◌∙◌, arith}
+use Rattle.std.proofs.lemmas.List.{length-map}
 use Rattle.std.specs.Arc.{arc_value}
 use Rattle.std.specs.List.{AllZip}
 use Rattle.std.specs.Option.{option_or}
+use Rattle.common_laws.proofs.Lists.{slice_of_map}
 use Rattle.index_model.specs.declared.shard.Linked.{Linked}
 use Rattle.index_model.specs.declared.shard.Shard.{Shard}
 use Rattle.index_model.specs.Links.{Link}
 use Rattle.index_model.specs.Shards.{AreShardsOf}
-use Rattle.range_lists.proofs.Runs.{map_length, slice_map}
 use Rattle.qualified_names.specs.declared.indexed.Indexed.{Indexed}
 use Rattle.qualified_names.specs.Indexed.{IsIndexed}
 use Rattle.qualified_names.specs.Nodes.{all_indexed, indexed_nodes}
@@ -27,8 +28,8 @@ returns-in-Some-clause-value c f p file are ks z =
     let k = c.loop-k.k in
     let s = c.deref.result.now in
     let l = c.deref-in-loop-k.result.now in
-    let si = slice_map arc_value c.args.shards.now k c.index-shards-k.result c.loop-k-test.true ∙ ap {B = Option Shard} (λ (x : Shard). Some x) (sym (c.deref.ensures ∙ ap arc_value c.index-shards-k.is)) in
-    let li = slice_map arc_value c.args.linked.now k c.index-linked-k.result (omega (arith, c.loop-k-test.true, c.requires)) ∙ ap {B = Option Linked} (λ (x : Linked). Some x) (sym (c.deref-in-loop-k.ensures ∙ ap arc_value c.index-linked-k.is)) in
+    let si = slice_of_map arc_value c.args.shards.now k c.index-shards-k.result c.loop-k-test.true ∙ ap {B = Option Shard} (λ (x : Shard). Some x) (sym (c.deref.ensures ∙ ap arc_value c.index-shards-k.is)) in
+    let li = slice_of_map arc_value c.args.linked.now k c.index-linked-k.result (omega (arith, c.loop-k-test.true, c.requires)) ∙ ap {B = Option Linked} (λ (x : Linked). Some x) (sym (c.deref-in-loop-k.ensures ∙ ap arc_value c.index-linked-k.is)) in
     let q = is_main_by p c.args.sought in
     let inv = c.loop-k.invariant in
     let fl = front_left p q ks (indexed_nodes s.nodes l.entries) (from_place S L (suc k)) (subst (Left p q ks) (next_place S L k s l si li) (inv.left f p file are ks z)) in
@@ -43,8 +44,8 @@ loop-k-preserved c =
     let k = c.loop-k.k in
     let s = c.deref.result.now in
     let l = c.deref-in-loop-k.result.now in
-    let si = slice_map arc_value c.args.shards.now k c.index-shards-k.result c.loop-k-test.true ∙ ap {B = Option Shard} (λ (x : Shard). Some x) (sym (c.deref.ensures ∙ ap arc_value c.index-shards-k.is)) in
-    let li = slice_map arc_value c.args.linked.now k c.index-linked-k.result (omega (arith, c.loop-k-test.true, c.requires)) ∙ ap {B = Option Linked} (λ (x : Linked). Some x) (sym (c.deref-in-loop-k.ensures ∙ ap arc_value c.index-linked-k.is)) in
+    let si = slice_of_map arc_value c.args.shards.now k c.index-shards-k.result c.loop-k-test.true ∙ ap {B = Option Shard} (λ (x : Shard). Some x) (sym (c.deref.ensures ∙ ap arc_value c.index-shards-k.is)) in
+    let li = slice_of_map arc_value c.args.linked.now k c.index-linked-k.result (omega (arith, c.loop-k-test.true, c.requires)) ∙ ap {B = Option Linked} (λ (x : Linked). Some x) (sym (c.deref-in-loop-k.ensures ∙ ap arc_value c.index-linked-k.is)) in
     let inv = c.loop-k.invariant in
     record {
       kept = c.in_default.ensures.kept ∙ inv.kept;
@@ -63,6 +64,6 @@ returns-clause-value c f p file are ks z =
     let L = map arc_value c.args.linked.now in
     let k = c.loop-k.k in
     let q = is_main_by p c.args.sought in
-    let over = drop_all S k (omega (arith, c.loop-k-test.false, map_length arc_value c.args.shards.now)) in
+    let over = drop_all S k (omega (arith, c.loop-k-test.false, length-map c.args.shards.now arc_value)) in
     let l = subst (Left p q ks) (ap (λ (ss : List Shard). all_indexed ss (drop k L)) over) (c.loop-k.invariant.left f p file are ks z) in
     subst (IsFound p None) (sym (none_left p q ks l)) tt

@@ -1,18 +1,18 @@
 use Rattle.std.proofs.Common.{map, sym, ap, subst, ◌∙◌, arith}
+use Rattle.std.proofs.lemmas.List.{length-map}
 use Rattle.std.specs.Arc.{arc_value}
 use Rattle.index_model.specs.Faults.{program_of}
 use Rattle.index_model.specs.Links.{indexed_in}
 use Rattle.index_model.specs.Program.{Program}
 use Rattle.index_model.specs.Shards.{AreShardsOf}
 use Rattle.shard_build.specs.Entries.{EntriesOf}
-use Rattle.range_lists.proofs.Runs.{map_length}
 use Rattle.qualified_names.proofs.Mains.{class_here, language_here, main_given, no_main, none_found, one_found}
 use Rattle.qualified_names.proofs.RunLaws.{as_many, file_links, file_zip}
 use Rattle.qualified_names.proofs.main_program.main_of.Goals as goal
 
 pub main_entry-requires : goal.main_entry-requires
 main_entry-requires c =
-    omega (arith, as_many c.args.image.now (map arc_value c.args.shards.now) (map arc_value c.args.linked.now) c.requires, map_length arc_value c.args.shards.now, map_length arc_value c.args.linked.now)
+    omega (arith, as_many c.args.image.now (map arc_value c.args.shards.now) (map arc_value c.args.linked.now) c.requires, length-map c.args.shards.now arc_value, length-map c.args.linked.now arc_value)
 
 pub qualified-requires : goal.qualified-requires
 qualified-requires c =

@@ -1,13 +1,14 @@
 use Rattle.std.proofs.Common.{List, length, map, Option, Some, sym, ap, subst, ◌∙◌, arith}
+use Rattle.std.proofs.lemmas.List.{length-map}
 use Rattle.std.specs.Arc.{arc_value}
 use Rattle.std.specs.List.{AllZip}
+use Rattle.common_laws.proofs.Lists.{slice_of_map}
 use Rattle.index_model.specs.declared.shard.Linked.{Linked}
 use Rattle.index_model.specs.declared.shard.Shard.{Shard}
 use Rattle.index_model.specs.Faults.{program_of}
 use Rattle.index_model.specs.Links.{indexed_in}
 use Rattle.index_model.specs.Shards.{AreShardsOf}
 use Rattle.shard_build.specs.Entries.{EntriesOf}
-use Rattle.range_lists.proofs.Runs.{map_length, slice_map}
 use Rattle.qualified_names.specs.declared.indexed.Indexed.{Indexed}
 use Rattle.qualified_names.specs.Indexed.{IsIndexed}
 use Rattle.qualified_names.proofs.RunLaws.{Written, all_written, as_many, entries_are, head_written, none_written, one_written, run_links, run_zip}
@@ -15,7 +16,7 @@ use Rattle.qualified_names.proofs.run.run_of.Goals as goal
 
 pub bounds-linked-k : goal.bounds-linked-k
 bounds-linked-k c =
-    omega (arith, c.requires.within, as_many c.args.image.now (map arc_value c.args.shards.now) (map arc_value c.args.linked.now) c.requires.of_file, map_length arc_value c.args.shards.now, map_length arc_value c.args.linked.now)
+    omega (arith, c.requires.within, as_many c.args.image.now (map arc_value c.args.shards.now) (map arc_value c.args.linked.now) c.requires.of_file, length-map c.args.shards.now arc_value, length-map c.args.linked.now arc_value)
 
 pub loop-indexed-init : goal.loop-indexed-init
 loop-indexed-init c =
@@ -25,8 +26,8 @@ loop-indexed-init c =
     let s = c.deref-2.result.now in
     let l = c.deref-3.result.now in
     let many = as_many c.args.image.now S L c.requires.of_file in
-    let si = slice_map arc_value c.args.shards.now k c.index-shards-k.result c.requires.within ∙ ap {B = Option Shard} (λ (x : Shard). Some x) (sym (c.deref-2.ensures ∙ ap arc_value c.index-shards-k.is)) in
-    let li = slice_map arc_value c.args.linked.now k c.index-linked-k.result (omega (arith, c.requires.within, many, map_length arc_value c.args.shards.now, map_length arc_value c.args.linked.now)) ∙ ap {B = Option Linked} (λ (x : Linked). Some x) (sym (c.deref-3.ensures ∙ ap arc_value c.index-linked-k.is)) in
+    let si = slice_of_map arc_value c.args.shards.now k c.index-shards-k.result c.requires.within ∙ ap {B = Option Shard} (λ (x : Shard). Some x) (sym (c.deref-2.ensures ∙ ap arc_value c.index-shards-k.is)) in
+    let li = slice_of_map arc_value c.args.linked.now k c.index-linked-k.result (omega (arith, c.requires.within, many, length-map c.args.shards.now arc_value, length-map c.args.linked.now arc_value)) ∙ ap {B = Option Linked} (λ (x : Linked). Some x) (sym (c.deref-3.ensures ∙ ap arc_value c.index-linked-k.is)) in
     record {
       names = c.in_ok-names.ensures;
       written = λ p file h own ks is.
@@ -41,8 +42,8 @@ push_entries-requires c =
     let s = c.deref-2.result.now in
     let l = c.deref-3.result.now in
     let many = as_many c.args.image.now S L c.requires.of_file in
-    let si = slice_map arc_value c.args.shards.now k c.index-shards-k.result c.requires.within ∙ ap {B = Option Shard} (λ (x : Shard). Some x) (sym (c.deref-2.ensures ∙ ap arc_value c.index-shards-k.is)) in
-    let li = slice_map arc_value c.args.linked.now k c.index-linked-k.result (omega (arith, c.requires.within, many, map_length arc_value c.args.shards.now, map_length arc_value c.args.linked.now)) ∙ ap {B = Option Linked} (λ (x : Linked). Some x) (sym (c.deref-3.ensures ∙ ap arc_value c.index-linked-k.is)) in
+    let si = slice_of_map arc_value c.args.shards.now k c.index-shards-k.result c.requires.within ∙ ap {B = Option Shard} (λ (x : Shard). Some x) (sym (c.deref-2.ensures ∙ ap arc_value c.index-shards-k.is)) in
+    let li = slice_of_map arc_value c.args.linked.now k c.index-linked-k.result (omega (arith, c.requires.within, many, length-map c.args.shards.now arc_value, length-map c.args.linked.now arc_value)) ∙ ap {B = Option Linked} (λ (x : Linked). Some x) (sym (c.deref-3.ensures ∙ ap arc_value c.index-linked-k.is)) in
     let r = c.requires.of_file in
     let inv = c.loop-indexed.invariant in
     let e = run_links c.args.image.now S L k s l si li r.program r.is r.are r.links in

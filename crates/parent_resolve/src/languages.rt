@@ -10,14 +10,14 @@ use std::sync::Arc;
 
 /// The language code of a unit.
 #[derive(Clone, Copy)]
-pub(crate) struct UnitLanguage {
-    pub(crate) unit: u32,
-    pub(crate) language: u16,
+struct UnitLanguage {
+    unit: u32,
+    language: u16,
 }
 
 /// The languages of the units of a file. That of the unit that was asked last is at hand.
 #[derive(Drop)]
-pub(crate) struct Languages<'s, 'f> {
+pub struct Languages<'s, 'f> {
     shards: &'s [Arc<Shard<'f>>],
     last: Option<UnitLanguage>,
 }
@@ -38,14 +38,14 @@ impl<'s, 'f> Model for Languages<'s, 'f> {
 
 impl<'s, 'f> Languages<'s, 'f> {
     /// The languages of the units of these shards.
-    pub(crate) fn new(shards: &'s [Arc<Shard<'f>>]) -> Languages<'s, 'f>
+    pub fn new(shards: &'s [Arc<Shard<'f>>]) -> Languages<'s, 'f>
         ensures { result ≡ map arc_value shards.now }
     {
         Languages { shards, last: None }
     }
 
     /// The language code of the unit with this number, 0 where it has none.
-    pub(crate) fn of(&mut self, unit: u32) -> u16
+    pub fn of(&mut self, unit: u32) -> u16
         ensures value { IsLanguageAt self.old unit result }
         ensures kept { self.new ≡ self.old }
     {
