@@ -2,17 +2,13 @@
 use Rattle.std.proofs.Common.{◌≡◌, ◌⊎◌, inl, inr, ℕ, ◌+◌, ◌-◌, ◌%◌, ◌<◌, ◌≤◌, Bool, true, false, ◌&&◌, eqb, ltb, leb, List, length, take, drop, get_or, refl, arith, ap, sym, subst, ◌∙◌}
 use Rattle.std.specs.Prelude.{slice_range}
 use Rattle.std.specs.List.{list_all}
-use Rattle.std.proofs.lemmas.Bool.{ltb-false, eq-eqb, ne_eqb, eqb-true, le-leb, leb-true, lt-ltb, ltb-true}
+use Rattle.std.proofs.lemmas.Bool.{ltb-false, eq-eqb, ne_eqb, eqb-true, le-leb, leb-true, lt-ltb, ltb-true, and_parts}
 use Rattle.std.proofs.lemmas.Option.{unwrap_or-slice_get}
 use Rattle.std.proofs.lemmas.List.{length-drop, length-take, get_or-take, get_or-drop}
 use Rattle.std.proofs.lemmas.List.Folds.{list_all_more, list_all_at}
 use Rattle.index_model.specs.Layout.{nth}
 use Rattle.index_model.specs.NameIndexRead.{is_in_bucket}
 use Rattle.index_model.specs.NameTables.{Tables}
-
-both : (a b : Bool) → (a && b) ≡ true → (a ≡ true) × (b ≡ true)
-both true b e = (refl, e)
-both false b e = absurd cc
 
 module _ (t : Tables) where
   -- how many buckets there are
@@ -48,8 +44,8 @@ module _ (t : Tables) where
 
   pub in_bucket : (k : ℕ) → is_in_bucket t k ≡ true → InBucket k
   in_bucket k e =
-      let a = both (ltb 0 (begin k) && leb (begin k) (k + 1)) (between k (begin k - 1)) (sym (is_tested k) ∙ e) in
-      let b = both (ltb 0 (begin k)) (leb (begin k) (k + 1)) a.0 in
+      let a = and_parts (ltb 0 (begin k) && leb (begin k) (k + 1)) (between k (begin k - 1)) (sym (is_tested k) ∙ e) in
+      let b = and_parts (ltb 0 (begin k)) (leb (begin k) (k + 1)) a.0 in
       record { some = ltb-true 0 (begin k) b.0; before = leb-true (begin k) (k + 1) b.1; alone = a.1 }
 
   by_parts : (k : ℕ) → InBucket k → is_in_bucket t k ≡ true

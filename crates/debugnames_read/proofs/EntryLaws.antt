@@ -6,10 +6,10 @@ use Rattle.ix_base.specs.Reading.{Input, ◌>>=◌}
 use Rattle.index_model.specs.NameAbbreviations.{Abbreviation, Attribute, values}
 use Rattle.index_model.specs.NameIndexRead.{NameHit, entry_with, hit}
 use Rattle.index_model.specs.NameTables.{Tables}
+use Rattle.index_model.proofs.Meanings.{bind_some}
 use Rattle.debugnames_read.specs.declared.entry.NameHit.{NameHit as ReadHit}
 use Rattle.debugnames_read.specs.Entries.{hit_by, hit_seen}
 use Rattle.debugnames_read.specs.Values.{Kept, first_values, kept_of}
-use Rattle.debugnames_read.proofs.Fuel.{bind_some}
 
 same_some : {A : Type 0} (x y : A) → Some x ≡ Some y → x ≡ y
 same_some x y e = cc

@@ -2,6 +2,7 @@
 use Rattle.std.proofs.Common.{◌≡◌, ℕ, zero, suc, ◌+◌, ◌-◌, ◌*◌, ◌^◌, ◌<◌, ◌≤◌, ℤ, Bool, true, false, cond, eqb, ltb, leb, List, [], ◌∷◌, length, drop, drop-drop, Option, Some, None, Result, Ok, refl, arith, ap, sym, subst, ◌∙◌}
 use Rattle.std.specs.Prelude.{find}
 use Rattle.std.proofs.lemmas.List.{length-drop}
+use Rattle.std.proofs.lemmas.Option.{cond_some}
 use Rattle.byteorder.specs.Endian.{little_number}
 use Rattle.ix_base.specs.declared.fault.Fault.{Fault}
 use Rattle.ix_base.specs.Reading.{Input, number, past, offset, unsigned_leb, leb64, signed_leb64, uleb, sleb, ◌>>=◌ as ◌>>=?◌}
@@ -10,13 +11,9 @@ use Rattle.index_model.specs.Meaning.{◌>>=◌, fault, some_or}
 use Rattle.index_model.specs.NameAbbreviations.{Abbreviation, Attribute, Reader, Spec, as_number, by, forms, values}
 use Rattle.index_model.specs.NameIndexRead.{NameHit, entries_at, entry_with, hit}
 use Rattle.index_model.specs.NameTables.{Tables}
-use Rattle.debugnames_read.proofs.NumberTables.{some_cond}
+use Rattle.index_model.proofs.Meanings.{bind_some}
 
 -- ---- what a reading leaves
-
-pub bind_some : {A B : Type 0} (r : Option A) (f : A → Option B) (y : B) → (r >>=? f) ≡ Some y → (x : A) × (r ≡ Some x) × (f x ≡ Some y)
-bind_some (Some x) f y e = (x, refl, e)
-bind_some None f y e = absurd cc
 
 -- a reading passes bytes
 abbrev pub Passes : {A : Type 0} → (Input → Option (A × Input)) → Type 0
@@ -46,7 +43,7 @@ same_left v w i j e = ap (left_of i) e
 
 number_passes : (n : ℕ) → Passes (number n)
 number_passes n i j v e =
-    let p = some_cond (leb n (length i.rest)) (little_number n i.rest, past n i) (v, j) e in
+    let p = cond_some (leb n (length i.rest)) (little_number n i.rest, past n i) (v, j) e in
     (n, sym (ap (λ (q : ℕ × Input). q.1) p.1))
 
 uleb_passes : Passes uleb
@@ -82,7 +79,7 @@ pub uleb_takes : (i j : Input) (v : ℕ) → uleb i ≡ Some (v, j) → length j
 uleb_takes i j v e =
     let b = bind_some (leb64 i.rest) (λ n. read_as n.0 (past n.1 i)) (v, j) e in
     let c = bind_some (unsigned_leb i.rest) (λ n. cond (ltb n.0 (2 ^ 64)) (Some n) None) b.0 b.1 in
-    let p = some_cond (ltb c.0.0 (2 ^ 64)) c.0 b.0 c.2 in
+    let p = cond_some (ltb c.0.0 (2 ^ 64)) c.0 b.0 c.2 in
     let t = takes_some i.rest c.0 c.1 in
     omega (arith, ap (λ (k : Input). length k.rest) (same_left b.0.0 v (past b.0.1 i) j b.2), length-drop b.0.1 i.rest, ap (λ (q : ℕ × ℕ). q.1) p.1, t.0, t.1)
 

@@ -5,6 +5,7 @@ use Rattle.std.specs.List.{enumerate_from, list_any, range_with_len}
 use Rattle.std.proofs.lemmas.Bool.{eq-eqb, eqb-true, leb-true, ltb-true, ltb-false, le-leb, lt-leb}
 use Rattle.std.proofs.lemmas.List.{length-drop}
 use Rattle.std.proofs.lemmas.Slice.Eq.{bytes_eq-Decides}
+use Rattle.common_laws.proofs.Ranges.{up_to_more, up_to_none}
 use Rattle.ix_base.specs.declared.fault.Fault.{Fault}
 use Rattle.ix_base.specs.Reading.{Input, past, ◌>>=◌ as ◌>>=?◌}
 use Rattle.index_model.specs.declared.index_code.TheConstants.{NAMES_BUCKET}
@@ -28,7 +29,7 @@ use Rattle.debugnames_read.specs.Tables.{tables_seen}
 use Rattle.debugnames_read.proofs.BucketLaws.{all_own, begin, in_bucket, own}
 use Rattle.debugnames_read.proofs.Counted.{bucket_total, hash_total}
 use Rattle.debugnames_read.proofs.Fuel.{same_entries}
-use Rattle.debugnames_read.proofs.NameLaws.{bucket_right, entries_right, fault_from, fault_from_all, hash_right, list_found, no_list, string_right, up_to_more, up_to_none}
+use Rattle.debugnames_read.proofs.NameLaws.{bucket_right, entries_right, fault_from, fault_from_all, hash_right, list_found, no_list, string_right}
 use Rattle.debugnames_read.proofs.NumberTables.{number_seen, length-seen}
 use Rattle.debugnames_read.proofs.Opened.{each_right, hits_are, name_right}
 

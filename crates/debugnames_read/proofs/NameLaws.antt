@@ -1,17 +1,18 @@
 -- A name: its string, its hash and its entries.
-use Rattle.std.proofs.Common.{◌≡◌, ℕ, suc, ◌+◌, ◌-◌, ◌<◌, ◌≤◌, Bool, true, false, ◌&&◌, cond, eqb, leb, List, [], ◌∷◌, length, drop, Option, Some, None, Result, Ok, Err, refl, arith, ap, sym, subst, ◌∙◌}
+use Rattle.std.proofs.Common.{◌≡◌, ℕ, ◌+◌, ◌-◌, ◌<◌, ◌≤◌, Bool, true, false, ◌&&◌, cond, eqb, leb, List, length, drop, Option, Some, None, Result, Ok, Err, refl, ap, sym, subst, ◌∙◌}
 use Rattle.std.specs.Prelude.{IsOk, is_ok}
-use Rattle.std.specs.List.{range_with_len}
 use Rattle.std.proofs.lemmas.Bool.{eq-eqb, ne_eqb, le-leb, lt-leb}
+use Rattle.common_laws.proofs.Ranges.{up_to_more, up_to_none, up_to_all}
 use Rattle.ix_base.specs.declared.fault.Fault.{Fault}
 use Rattle.ix_base.specs.Reading.{Input, before_zero, past, ◌>>=◌ as ◌>>=?◌}
 use Rattle.index_model.specs.declared.index_code.TheConstants.{NAMES_BUCKET, NAMES_HASH, NAMES_STRING_OFFSET, NAMES_ENTRY_POOL}
 use Rattle.index_model.specs.Layout.{below, nth}
-use Rattle.index_model.specs.Meaning.{◌>>=◌, ◌>>◌, each, fault, holds_or, some_or, value_of, wrong_in}
+use Rattle.index_model.specs.Meaning.{◌>>◌, each, fault, holds_or, some_or, value_of, wrong_in}
 use Rattle.index_model.specs.NameAbbreviations.{Abbreviation}
 use Rattle.index_model.specs.NameIndexRead.{NameHit, entries_at, entries_of_name, has_hash, is_hashed, is_in_bucket, name_at, place_in, string_of}
 use Rattle.index_model.specs.NameTables.{Tables}
 use Rattle.index_model.specs.Strings.{offset_size}
+use Rattle.index_model.proofs.FirstFaults.{then_none, then_some}
 use Rattle.debugnames_read.specs.Names.{list_at, string_at, up_to}
 use Rattle.debugnames_read.specs.Texts.{text_in}
 use Rattle.debugnames_read.proofs.Readings.{ok_is, is_ok_by}
@@ -194,37 +195,10 @@ module _ (t : Tables) (abbrevs : List Abbreviation) (strings : List ℕ) (base k
 
 -- ---- names one after the other
 
-pub up_to_more : (i n : ℕ) → i < n → up_to i n ≡ i ∷ up_to (i + 1) n
-up_to_more i n lt =
-    let e : n - i ≡ suc (n - (i + 1)) = omega (arith, lt) in
-    rw e refl
-
-pub up_to_none : (i n : ℕ) → n ≤ i → up_to i n ≡ []
-up_to_none i n le =
-    let e : n - i ≡ 0 = omega (arith, le) in
-    rw e refl
-
-pub up_to_all : (n : ℕ) → up_to 0 n ≡ below n
-up_to_all n =
-    let e : n - 0 ≡ n = omega arith in
-    ap (range_with_len 0) e
-
 module _ {B : Type 0} (f : ℕ → Result B Fault) where
-  abbrev with_first : Result B Fault → Result (List B) Fault → Result (List B) Fault
-  with_first r rest = r >>= λ y. rest >>= λ ys. Ok (y ∷ ys)
-
   -- the first fault of the numbers from i up to n
   abbrev pub fault_from : ℕ → ℕ → Option Fault
   fault_from i n = wrong_in (each f (up_to i n))
-
-  then_none : (r : Result B Fault) (rest : Result (List B) Fault) → wrong_in r ≡ None → wrong_in (with_first r rest) ≡ wrong_in rest
-  then_none (Ok y) (Ok ys) e = refl
-  then_none (Ok y) (Err d) e = refl
-  then_none (Err d) rest e = absurd cc
-
-  then_some : (r : Result B Fault) (rest : Result (List B) Fault) (d : Fault) → wrong_in r ≡ Some d → wrong_in (with_first r rest) ≡ Some d
-  then_some (Ok y) rest d e = absurd cc
-  then_some (Err x) rest d e = e
 
   abbrev at_numbers : List ℕ → Option Fault
   at_numbers ks = wrong_in (each f ks)

@@ -2,9 +2,11 @@
 use Rattle.std.proofs.Common.{◌≡◌, ℕ, zero, suc, ◌+◌, ◌*◌, ◌/◌, ◌<◌, ◌≤◌, Bool, true, false, leb, cond, List, ◌∷◌, length, take, drop, map, min, get_or, Option, Some, None, refl, arith, ap, sym, ◌∙◌}
 use Rattle.std.specs.List.{range_with_len}
 use Rattle.std.proofs.lemmas.Bool.{le-leb, leb-true, leb-false, lt-leb}
-use Rattle.std.proofs.lemmas.Option.{unwrap_or-slice_get}
+use Rattle.std.proofs.lemmas.Option.{unwrap_or-slice_get, cond_some}
 use Rattle.std.proofs.lemmas.List.{length-take, length-drop, get_or-take, get_or-drop, drop-drop}
 use Rattle.std.proofs.lemmas.List.FromFn.{length-map-range_with_len, get_or-map-range_with_len}
+use Rattle.common_laws.proofs.Options.{cond_none}
+use Rattle.common_laws.proofs.Lists.{map_agree}
 use Rattle.byteorder.specs.Endian.{little_from, little_number}
 use Rattle.ix_base.specs.Reading.{Input, bytes, past, ◌>>=◌}
 use Rattle.index_model.specs.Layout.{below, nth}
@@ -26,10 +28,6 @@ in_front size m k xs le = same_little size 0 (drop (size * k) (take m xs)) (drop
     get_or-drop (size * k) (take m xs) i 0
     ∙ get_or-take m xs (size * k + i) 0 (omega (arith, le, lt))
     ∙ sym (get_or-drop (size * k) xs i 0))
-
-same_map : {X : Type 0} (f g : ℕ → X) (a n : ℕ) → ((k : ℕ) → k < a + n → f k ≡ g k) → map f (range_with_len a n) ≡ map g (range_with_len a n)
-same_map f g a zero same = refl
-same_map f g a (suc n) same = rw (same a (omega arith), same_map f g (a + 1) n (λ k lt. same k (omega (arith, lt)))) refl
 
 -- ---- numbers of one size
 
@@ -100,14 +98,6 @@ count_of : (wide : Bool) (n m : ℕ) → m ≡ offset_size wide * n → m / offs
 count_of true n m e = omega (arith, e)
 count_of false n m e = omega (arith, e)
 
-pub some_cond : {A : Type 0} (b : Bool) (x y : A) → cond b (Some x) None ≡ Some y → (b ≡ true) × (x ≡ y)
-some_cond true x y e = (refl, cc)
-some_cond false x y e = absurd cc
-
-pub none_cond : {A : Type 0} (b : Bool) (x : A) → cond b (Some x) None ≡ None → b ≡ false
-none_cond true x e = absurd cc
-none_cond false x e = refl
-
 module _ (wide : Bool) (n : ℕ) (i : Input) where
   abbrev size : ℕ
   size = offset_size wide
@@ -119,11 +109,11 @@ module _ (wide : Bool) (n : ℕ) (i : Input) where
   by_length = ap at_place (all size (dist_of wide) i n)
 
   pub no_table : bytes (size * n) i ≡ None → table size n i ≡ None
-  no_table e = by_length ∙ rw (none_cond (leb (size * n) (length i.rest)) (take (size * n) i.rest, past (size * n) i) e) refl
+  no_table e = by_length ∙ rw (cond_none (leb (size * n) (length i.rest)) (take (size * n) i.rest, past (size * n) i) e) refl
 
   module _ (bs : List ℕ) (j : Input) (read : bytes (size * n) i ≡ Some (bs, j)) where
     parts : (leb (size * n) (length i.rest) ≡ true) × (◌≡◌ {A = List ℕ × Input} (take (size * n) i.rest, past (size * n) i) (bs, j))
-    parts = some_cond (leb (size * n) (length i.rest)) (take (size * n) i.rest, past (size * n) i) (bs, j) read
+    parts = cond_some (leb (size * n) (length i.rest)) (take (size * n) i.rest, past (size * n) i) (bs, j) read
 
     bytes_are : take (size * n) i.rest ≡ bs
     bytes_are = ap (λ (p : List ℕ × Input). p.0) parts.1
@@ -141,7 +131,7 @@ module _ (wide : Bool) (n : ℕ) (i : Input) where
 
     numbers_are : map (number_at size i.rest) (below n) ≡ map (number_at size bs) (below (number_count wide bs))
     numbers_are =
-        same_map (number_at size i.rest) (number_at size bs) 0 n (λ k lt. sym (in_front size (size * n) k i.rest (within_of wide k n (omega (arith, lt)))) ∙ ap (λ (xs : List ℕ). number_at size xs k) bytes_are)
+        map_agree (number_at size i.rest) (number_at size bs) 0 n (λ k lt. sym (in_front size (size * n) k i.rest (within_of wide k n (omega (arith, lt)))) ∙ ap (λ (xs : List ℕ). number_at size xs k) bytes_are)
         ∙ ap (λ (m : ℕ). map (number_at size bs) (below m)) (sym count_read)
 
     pub table_read : table size n i ≡ Some (record { at = i.at; numbers = map (number_at size bs) (below (number_count wide bs)) }, j)

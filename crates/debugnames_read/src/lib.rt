@@ -25,8 +25,6 @@ mod known;
 mod names;
 mod numbers;
 mod tables;
-#[cfg(test)]
-mod tests;
 
 pub use entry::{NameHit, Sort};
 pub use hits::NameHits;

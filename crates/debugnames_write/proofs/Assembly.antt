@@ -60,19 +60,19 @@ module _ (units : List UnitHeader) (rows : List IndexRow) (names : List Name) (p
   unfolding laid_out
   parts = λ i. joined (length_is i) (head_is i) (buckets_is i) (starts_is i)
 
-  pub assembled : (o0 o1 o2 o3 o4 o5 o6 o7 o8 o9 o10 : List ℕ) → o0 ≡ [] → o1 ≡ o0 ++ u32_bytes (size - 4) → o2 ≡ o1 ++ head_with places (length names) table → o3 ≡ o2 ++ unit_offsets false units → o4 ≡ o3 ++ unit_offsets true units
-      → o5 ≡ o4 ++ flat_map u32_bytes buckets → o6 ≡ o5 ++ hash_bytes names → o7 ≡ o6 ++ string_bytes names → o8 ≡ o7 ++ flat_map u32_bytes starts → o9 ≡ o8 ++ abbreviation_table rows → o10 ≡ o9 ++ pool_bytes rows names
-      → o10 ≡ laid_out units rows names
-  assembled o0 o1 o2 o3 o4 o5 o6 o7 o8 o9 o10 e0 e1 e2 e3 e4 e5 e6 e7 e8 e9 e10 =
-      let f1 : o1 ≡ u32_bytes (size - 4) = e1 ∙ ap (λ (w : List ℕ). w ++ u32_bytes (size - 4)) e0 in
-      let f2 = e2 ∙ ap (λ (w : List ℕ). w ++ head_with places (length names) table) f1 in
-      let f3 = e3 ∙ ap (λ (w : List ℕ). w ++ unit_offsets false units) f2 in
-      let f4 = e4 ∙ ap (λ (w : List ℕ). w ++ unit_offsets true units) f3 in
-      let f5 = e5 ∙ ap (λ (w : List ℕ). w ++ flat_map u32_bytes buckets) f4 in
-      let f6 = e6 ∙ ap (λ (w : List ℕ). w ++ hash_bytes names) f5 in
-      let f7 = e7 ∙ ap (λ (w : List ℕ). w ++ string_bytes names) f6 in
-      let f8 = e8 ∙ ap (λ (w : List ℕ). w ++ flat_map u32_bytes starts) f7 in
-      let f9 = e9 ∙ ap (λ (w : List ℕ). w ++ abbreviation_table rows) f8 in
-      let f10 = e10 ∙ ap (λ (w : List ℕ). w ++ pool_bytes rows names) f9 in
-      f10 ∙ pushed (u32_bytes (size - 4)) (head_with places (length names) table) (unit_offsets false units) (unit_offsets true units) (flat_map u32_bytes buckets) (hash_bytes names) (string_bytes names) (flat_map u32_bytes starts) (abbreviation_table rows) (pool_bytes rows names)
+  pub assembled : (o0 o1 o2 o3 o4 : List ℕ) → o0 ≡ []
+      → o1 ≡ (((o0 ++ u32_bytes (size - 4)) ++ head_with places (length names) table) ++ unit_offsets false units) ++ unit_offsets true units
+      → o2 ≡ (((o1 ++ flat_map u32_bytes buckets) ++ hash_bytes names) ++ string_bytes names) ++ flat_map u32_bytes starts
+      → o3 ≡ o2 ++ abbreviation_table rows → o4 ≡ o3 ++ pool_bytes rows names → o4 ≡ laid_out units rows names
+  assembled o0 o1 o2 o3 o4 e0 e1 e2 e3 e4 =
+      let f1 = e1 ∙ ap (λ (w : List ℕ). (((w ++ u32_bytes (size - 4)) ++ head_with places (length names) table) ++ unit_offsets false units) ++ unit_offsets true units) e0 in
+      let f2 = e2 ∙ ap (λ (w : List ℕ). (((w ++ flat_map u32_bytes buckets) ++ hash_bytes names) ++ string_bytes names) ++ flat_map u32_bytes starts) f1 in
+      let f3 = e3 ∙ ap (λ (w : List ℕ). w ++ abbreviation_table rows) f2 in
+      let f4 = e4 ∙ ap (λ (w : List ℕ). w ++ pool_bytes rows names) f3 in
+      f4 ∙ pushed (u32_bytes (size - 4)) (head_with places (length names) table) (unit_offsets false units) (unit_offsets true units) (flat_map u32_bytes buckets) (hash_bytes names) (string_bytes names) (flat_map u32_bytes starts) (abbreviation_table rows) (pool_bytes rows names)
       ∙ parts
+
+-- ---- four parts that were appended one after the other
+
+pub four : (o a b d e : List ℕ) {p q r s : List ℕ} → p ≡ o ++ a → q ≡ p ++ b → r ≡ q ++ d → s ≡ r ++ e → s ≡ (((o ++ a) ++ b) ++ d) ++ e
+four o a b d e e1 e2 e3 e4 = e4 ∙ ap (λ (x : List ℕ). x ++ e) (e3 ∙ ap (λ (x : List ℕ). x ++ d) (e2 ∙ ap (λ (x : List ℕ). x ++ b) e1))

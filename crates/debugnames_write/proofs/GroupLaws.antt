@@ -11,10 +11,11 @@ use Rattle.query_engine.proofs.TextOrder.{eq_from_same, eq_from_other, before_it
 use Rattle.debugnames_write.specs.declared.groups.Group.{Group}
 use Rattle.debugnames_write.specs.declared.item.Item.{Item}
 use Rattle.debugnames_write.specs.Groups.{item_names, name_at, AreSorted, GoesOnAt, IsGroupOf, AreGroupsOf, group_names, entries_named}
-use Rattle.debugnames_write.specs.Order.{Rises}
+use Rattle.index_model.specs.Order.{Rises}
 use Rattle.debugnames_write.specs.Seen.{item_seen, items_seen}
 use Rattle.debugnames_write.proofs.Lists.{map-map}
-use Rattle.debugnames_write.proofs.Orders.{bytes_order, lt_from_before, rises_from_pairs, ascending_is}
+use Rattle.index_model.proofs.Orders.{bytes_order, rises_from_pairs, ascending_is}
+use Rattle.debugnames_write.proofs.Orders.{lt_from_before}
 
 -- the name of a group
 abbrev pub group_at : List Group → ℕ → List ℕ

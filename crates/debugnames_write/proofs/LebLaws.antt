@@ -1,7 +1,7 @@
 -- LEB numbers, byte by byte.
-use Rattle.std.proofs.Common.{◌≡◌, ℕ, zero, suc, ◌+◌, ◌*◌, ◌/◌, ◌%◌, ◌^◌, ◌<◌, ◌≤◌, List, [], ◌∷◌, ◌++◌, length, refl, sym, ap, ◌∙◌, arith, append_assoc, lit≤}
-use native.Mathlib.Numerals.{unary_clauses}
+use Rattle.std.proofs.Common.{◌≡◌, ℕ, zero, suc, ◌+◌, ◌/◌, ◌%◌, ◌^◌, ◌<◌, ◌≤◌, List, [], ◌∷◌, ◌++◌, length, refl, sym, ap, ◌∙◌, arith, append_assoc, lit≤}
 use Rattle.std.proofs.lemmas.Bool.{lt-ltb, le-ltb}
+use Rattle.std.proofs.Math.Nat.{pow-suc}
 use Rattle.index_model.specs.NameIndex.{uleb_in, uleb_bytes}
 
 -- what is written, and what is left in so many bytes
@@ -10,9 +10,6 @@ pub record LeftOf (whole : List ℕ) (written : List ℕ) (rest : ℕ) : Type 0 
   pub few : left ≤ 9
   pub small : rest < 128 ^ (suc left)
   pub is : written ++ uleb_in (suc left) rest ≡ whole
-
-more : (p : ℕ) → 128 ^ suc p ≡ 128 ^ p * 128
-more p = simp unary_clauses
 
 pub leb_start : (old : List ℕ) (number : ℕ) → number < 2 ^ 64 → LeftOf (old ++ uleb_bytes number) old number
 leb_start old number lt = record { left = 9; few = omega arith; small = omega (arith, wide); is = refl }
@@ -41,7 +38,7 @@ leb_more whole written rest h le = by h.left h.few h.small h.is
     by (suc left) few small is = record {
       left = left;
       few = omega arith;
-      small = let p = more (suc left) in omega (arith, p);
+      small = let p = pow-suc 128 (suc left) in omega (arith, p);
       is = append_assoc written ((rest % 128 + 128) ∷ []) (uleb_in (suc left) (rest / 128)) ∙ ap (λ (w : List ℕ). written ++ w) (sym (next (suc left) rest le)) ∙ is;
     }
 
@@ -74,6 +71,6 @@ size_more whole size rest h le = by h.left h.few h.small h.is
     by (suc left) few small is = record {
       left = left;
       few = omega arith;
-      small = let p = more (suc left) in omega (arith, p);
+      small = let p = pow-suc 128 (suc left) in omega (arith, p);
       is = let n : length (uleb_in (suc (suc left)) rest) ≡ suc (length (uleb_in (suc left) (rest / 128))) = ap (λ (w : List ℕ). length w) (next (suc left) rest le) in omega (arith, is);
     }

@@ -16,10 +16,12 @@ use Rattle.index_model.specs.NameIndex.{name_lt, in_index_order, string_offset}
 use Rattle.index_model.specs.Ordered.{ascending, bytes_lt, place_of}
 use Rattle.query_engine.proofs.TextOrder.{eq_from_same}
 use Rattle.debugnames_write.specs.declared.name.Name.{Name}
-use Rattle.debugnames_write.specs.Order.{Rises}
+use Rattle.index_model.specs.Order.{Rises}
 use Rattle.debugnames_write.specs.Seen.{name_key, texts}
 use Rattle.debugnames_write.proofs.Lists.{around, position_at, flat_map-map}
-use Rattle.debugnames_write.proofs.Orders.{IsOrder, order_by, bytes_lt_is, rising_distinct, rises_from_pairs, ascending_is}
+use Rattle.index_model.proofs.Orders.{rises_from_pairs, ascending_is}
+use Rattle.index_model.proofs.IndexOrders.{index_key, name_order, by_index_key}
+use Rattle.debugnames_write.proofs.Orders.{bytes_lt_is, rising_distinct}
 
 -- ---- where things begin
 
@@ -49,19 +51,6 @@ module _ (strings : List (List ℕ)) (rises : Rises bytes_lt strings) (k : ℕ) 
   string_is old = ap (λ (p : ℕ). old + start_of (map ended strings) p) place_is ∙ ap (λ (n : ℕ). old + n) (start_is ended strings k)
 
 -- ---- the order of the index
-
-abbrev index_key : ℕ → List ℕ → List ℕ
-index_key n a = name_hash a % n ∷ name_hash a ∷ a
-
-one_name : (n : ℕ) (a b : List ℕ) → index_key n a ≡ index_key n b → a ≡ b
-one_name n a b e = cc
-
-by_index_key : (n : ℕ) (a b : List ℕ) → name_lt n a b ≡ bytes_lt (index_key n a) (index_key n b)
-unfolding bytes_lt
-by_index_key n a b = refl
-
-pub name_order : (n : ℕ) → IsOrder (name_lt n)
-name_order n = order_by (name_lt n) (index_key n) (one_name n) (by_index_key n)
 
 module _ (n : ℕ) (before after : List Name) (rises : Rises bytes_lt (texts before)) (many : length (texts before) ≡ n)
     (each : All (λ m. (m.hash ≡ name_hash m.text.now) × (m.bucket ≡ name_hash m.text.now % n)) before)

@@ -9,7 +9,7 @@ use Rattle.debugnames_write.specs.declared.groups.Group.{Group}
 use Rattle.debugnames_write.specs.declared.name.Name.{Name}
 use Rattle.debugnames_write.specs.Groups.{group_names}
 use Rattle.debugnames_write.specs.Names.{kept_of_name, kept_of_group, IsNameOf}
-use Rattle.debugnames_write.specs.Order.{Rises}
+use Rattle.index_model.specs.Order.{Rises}
 use Rattle.debugnames_write.proofs.NameLaws.{string_is}
 use Rattle.debugnames_write.proofs.PoolLaws.{flat_map_at, flat_map_up}
 

@@ -1,57 +1,21 @@
 -- The rows of the abbreviations, and the place of a row among them.
-use Rattle.std.proofs.Common.{◌≡◌, ◌≢◌, ℕ, zero, suc, ◌+◌, ◌<◌, ◌≤◌, Bool, true, false, cond, eqb, eq-eqb, List, [], ◌∷◌, ◌++◌, length, get_or, take, drop, map, Option, refl, sym, ap, ◌∙◌, subst, inl, inr, arith}
-use mathlib.Core.Bool.{not, ◌&&◌, ◌||◌, beq, true≢false}
-use Rattle.std.specs.Prelude.{Contains, nat_lt, nat_eq, position, unwrap_or, insert}
+use Rattle.std.proofs.Common.{◌≡◌, ◌≢◌, ℕ, zero, suc, ◌+◌, ◌<◌, ◌≤◌, Bool, true, false, eqb, eq-eqb, List, [], ◌∷◌, ◌++◌, length, get_or, take, drop, map, Option, refl, sym, ap, ◌∙◌, subst, inl, inr, arith}
+use mathlib.Core.Bool.{not, ◌&&◌, beq, true≢false}
+use Rattle.std.specs.Prelude.{Contains, position, unwrap_or, insert}
 use Rattle.std.specs.List.Sorted.{IsPartitionedBy, IsPartitionPoint}
 use Rattle.std.proofs.lemmas.Bool.{cases_lt, and_right}
 use Rattle.std.proofs.lemmas.List.{get_or-map, length-map, length-take-le, map-append, take-map, drop-map, get_or-take, take_more, take_all, get_or_default}
 use Rattle.std.proofs.lemmas.List.Elements.{Contains-push, Contains-push_cases, Contains-append_left}
 use Rattle.index_model.specs.NameIndex.{Row as IndexRow, row_lt, row_eq, rows_of, row_of}
-use Rattle.index_model.specs.Ordered.{with_item, ascending, bytes_lt, place_of}
+use Rattle.index_model.specs.Ordered.{with_item, ascending, place_of}
 use Rattle.debugnames_write.specs.declared.item.Item.{Item}
 use Rattle.debugnames_write.specs.declared.item.Row.{Row}
-use Rattle.debugnames_write.specs.Order.{Rises, Adds}
+use Rattle.index_model.specs.Order.{Rises, Adds}
 use Rattle.debugnames_write.specs.Rows.{row_seen}
 use Rattle.debugnames_write.specs.Seen.{item_seen, items_seen}
 use Rattle.debugnames_write.proofs.Lists.{around, position_at, map-map}
-use Rattle.debugnames_write.proofs.Orders.{IsOrder, order_by, pairs_from_rises, with_adds, with_rises, ascending_is}
-
--- ---- the order of rows
-
-abbrev bit : Bool → ℕ
-bit b = cond b 1 0
-
-abbrev row_key : IndexRow → List ℕ
-row_key r = r.0 ∷ bit r.1 ∷ []
-
-one_bit : (a b : Bool) → bit a ≡ bit b → a ≡ b
-one_bit true true e = refl
-one_bit false false e = refl
-one_bit true false e = absurd (omega arith)
-one_bit false true e = absurd (omega arith)
-
-one_row : (a b : IndexRow) → row_key a ≡ row_key b → a ≡ b
-one_row a b e =
-    let tag : a.0 ≡ b.0 = cc in
-    let types : a.1 ≡ b.1 = one_bit a.1 b.1 (cc) in
-    λ i. (tag i, types i)
-
-by_tags : (l e p q : Bool) → (l || ((e && not p) && q)) ≡ (l || (e && (nat_lt (bit p) (bit q) || (nat_eq (bit p) (bit q) && false))))
-by_tags l true true true = refl
-by_tags l true true false = refl
-by_tags l true false true = refl
-by_tags l true false false = refl
-by_tags l false true true = refl
-by_tags l false true false = refl
-by_tags l false false true = refl
-by_tags l false false false = refl
-
-row_by_key : (a b : IndexRow) → row_lt a b ≡ bytes_lt (row_key a) (row_key b)
-unfolding bytes_lt
-row_by_key a b = by_tags (nat_lt a.0 b.0) (nat_eq a.0 b.0) a.1 b.1
-
-pub row_order : IsOrder row_lt
-row_order = order_by row_lt row_key one_row row_by_key
+use Rattle.index_model.proofs.Orders.{IsOrder, pairs_from_rises, with_adds, with_rises, ascending_is}
+use Rattle.index_model.proofs.IndexOrders.{row_order}
 
 -- ---- an item at its place
 

@@ -4,13 +4,14 @@ use Rattle.std.specs.Prelude.{All, Contains, bytes_eq, flat_map}
 use Rattle.std.proofs.lemmas.List.{get_or-map, length-map}
 use Rattle.std.proofs.lemmas.List.Elements.{All-map, All-filter, All-contains_itself}
 use Rattle.std.proofs.lemmas.List.FromFn.{length-range_with_len}
+use Rattle.common_laws.proofs.Members.{contains_here, contains_later, contains_cases}
+use Rattle.common_laws.proofs.Lists.{length_of_fours}
 use Rattle.index_model.specs.declared.entry.Entry.{Entry}
 use Rattle.index_model.specs.declared.unit.Unit.{Unit as UnitHeader}
 use Rattle.index_model.specs.Hashes.{name_hash}
 use Rattle.index_model.specs.Layout.{below, u32_bytes, ended, start_of}
 use Rattle.index_model.specs.NameIndex.{Indexed, Row as IndexRow, all_indexed, names_in, in_index_order, row_of, row_lt, rows_of, entry_bytes, group, bucket, string_offset, units_of_sort, unit_offsets, abbreviation_table, name_index_bytes}
 use Rattle.index_model.specs.Ordered.{bytes_lt}
-use Rattle.index_model.proofs.Meanings.{contains_here, contains_later, contains_cases}
 use Rattle.query_engine.proofs.TextOrder.{same_from_eq, eq_from_same}
 use Rattle.debugnames_write.specs.declared.groups.Group.{Group}
 use Rattle.debugnames_write.specs.declared.item.Item.{Item}
@@ -21,9 +22,9 @@ use Rattle.debugnames_write.specs.Names.{Kept, kept_of_name, kept_of_group, IsNa
 use Rattle.debugnames_write.specs.Rows.{row_seen}
 use Rattle.debugnames_write.specs.Seen.{item_seen, items_seen, texts}
 use Rattle.debugnames_write.proofs.Lists.{flat_map_same, flat_map-map, map_same, map-map}
-use Rattle.debugnames_write.proofs.Orders.{bytes_order, ascending_is, ascending_rises, ascending_has, ascending_only}
+use Rattle.index_model.proofs.Orders.{bytes_order, ascending_is, ascending_rises, ascending_has, ascending_only}
+use Rattle.index_model.proofs.IndexOrders.{row_order}
 use Rattle.debugnames_write.proofs.PoolLaws.{name_bytes}
-use Rattle.debugnames_write.proofs.RowLaws.{row_order}
 
 -- ---- the names of entries
 
@@ -135,10 +136,6 @@ module _ (units : List UnitHeader) (old : ℕ) (entries : List Entry) (names : L
 
 -- ---- its length
 
-four_each : {X : Type 0} (f : X → List ℕ) (xs : List X) → ((x : X) → length (f x) ≡ 4) → length (flat_map f xs) ≡ length xs * 4
-four_each f [] four = refl
-four_each f (x ∷ xs) four = let rest = four_each f xs four in omega (arith, rest, length-append (f x) (flat_map f xs), four x)
-
 pub laid_size : (units : List UnitHeader) (rows : List IndexRow) (names : List Name) → length (laid_out units rows names) ≡
     36 + (length (units_of_sort false units) + length (units_of_sort true units)) * 4 + length names * 16 + length (abbreviation_table rows) + length (pool_bytes rows names)
 unfolding laid_out
@@ -147,17 +144,17 @@ laid_size units kinds names =
     let head_size : length head ≡ 32 = refl in
     let cus : List ℕ = unit_offsets false units in
     let tus : List ℕ = unit_offsets true units in
-    let cus_size : length cus ≡ length (units_of_sort false units) * 4 = four_each (λ (u : ℕ × UnitHeader). u32_bytes u.1.start) (units_of_sort false units) (λ u. refl) in
-    let tus_size : length tus ≡ length (units_of_sort true units) * 4 = four_each (λ (u : ℕ × UnitHeader). u32_bytes u.1.start) (units_of_sort true units) (λ u. refl) in
+    let cus_size : length cus ≡ length (units_of_sort false units) * 4 = length_of_fours (λ (u : ℕ × UnitHeader). u32_bytes u.1.start) (units_of_sort false units) (λ u. refl) in
+    let tus_size : length tus ≡ length (units_of_sort true units) * 4 = length_of_fours (λ (u : ℕ × UnitHeader). u32_bytes u.1.start) (units_of_sort true units) (λ u. refl) in
     let b : List ℕ = bucket_bytes names in
     let h : List ℕ = hash_bytes names in
     let s : List ℕ = string_bytes names in
     let t : List ℕ = start_bytes kinds names in
     let places : length (below (length names)) ≡ length names = length-range_with_len 0 (length names) in
-    let b_size : length b ≡ length names * 4 = four_each (λ (k : ℕ). u32_bytes (bucket (texts names) k)) (below (length names)) (λ k. refl) ∙ ap (λ (n : ℕ). n * 4) places in
-    let h_size : length h ≡ length names * 4 = four_each (λ (n : Name). u32_bytes n.hash) names (λ n. refl) in
-    let s_size : length s ≡ length names * 4 = four_each (λ (n : Name). u32_bytes n.string) names (λ n. refl) in
-    let t_size : length t ≡ length names * 4 = four_each (λ (k : ℕ). u32_bytes (start_of (groups_bytes kinds names) k)) (below (length names)) (λ k. refl) ∙ ap (λ (n : ℕ). n * 4) places in
+    let b_size : length b ≡ length names * 4 = length_of_fours (λ (k : ℕ). u32_bytes (bucket (texts names) k)) (below (length names)) (λ k. refl) ∙ ap (λ (n : ℕ). n * 4) places in
+    let h_size : length h ≡ length names * 4 = length_of_fours (λ (n : Name). u32_bytes n.hash) names (λ n. refl) in
+    let s_size : length s ≡ length names * 4 = length_of_fours (λ (n : Name). u32_bytes n.string) names (λ n. refl) in
+    let t_size : length t ≡ length names * 4 = length_of_fours (λ (k : ℕ). u32_bytes (start_of (groups_bytes kinds names) k)) (below (length names)) (λ k. refl) ∙ ap (λ (n : ℕ). n * 4) places in
     let table : List ℕ = abbreviation_table kinds in
     let pool : List ℕ = pool_bytes kinds names in
     let size : ℕ = 32 + (length (units_of_sort false units) + length (units_of_sort true units)) * 4 + length names * 16 + length table + length pool in

@@ -20,10 +20,10 @@ use Rattle.debugnames_write.specs.Conditions.{Fits}
 use Rattle.debugnames_write.specs.Groups.{SameByName, AreGroupsOf, group_names, entries_named}
 use Rattle.debugnames_write.specs.Laid.{laid_out}
 use Rattle.debugnames_write.specs.Names.{AreNamesOf, IsNameOf, HaveBuckets, HaveRows, StringsPass}
-use Rattle.debugnames_write.specs.Order.{Rises}
+use Rattle.index_model.specs.Order.{Rises}
 use Rattle.debugnames_write.specs.Seen.{items_seen, name_key, texts}
 use Rattle.debugnames_write.proofs.NameLaws.{index_order}
-use Rattle.debugnames_write.proofs.Orders.{bytes_order, ascending_rises}
+use Rattle.index_model.proofs.Orders.{bytes_order, ascending_rises}
 use Rattle.debugnames_write.proofs.Whole.{same_names, have_rows, kept_texts, kept_items, whole_is}
 
 -- each text takes a byte at least

@@ -3,7 +3,6 @@ pub mod Conditions
 pub mod Groups
 pub mod Laid
 pub mod Names
-pub mod Order
 pub mod Rows
 pub mod Seen
 pub mod Units

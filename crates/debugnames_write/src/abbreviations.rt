@@ -5,7 +5,7 @@ ghost use Rattle.std.specs.List.Sorted.{IsPartitionPoint};
 ghost use Rattle.index_model.specs.NameIndex.{rows_of, row_lt, row_eq, abbreviation_table, abbreviation_bytes};
 ghost use Rattle.index_model.specs.Ordered.{place_of};
 ghost use Rattle.debugnames_write.specs.Answers.{Answers};
-ghost use Rattle.debugnames_write.specs.Order.{Rises, Adds};
+ghost use Rattle.index_model.specs.Order.{Rises, Adds};
 ghost use Rattle.debugnames_write.specs.Rows.{row_seen};
 ghost use Rattle.debugnames_write.specs.Seen.{items_seen};
 
@@ -41,7 +41,7 @@ pub(crate) struct Abbreviations {
 impl Model for Abbreviations {
     ghost use Rattle.std.specs.Prelude.{List, map};
     ghost use Rattle.index_model.specs.NameIndex.{Row as IndexRow, row_lt};
-    ghost use Rattle.debugnames_write.specs.Order.{Rises};
+    ghost use Rattle.index_model.specs.Order.{Rises};
     ghost use Rattle.debugnames_write.specs.Rows.{row_seen};
 
     ghost Value = { List IndexRow };

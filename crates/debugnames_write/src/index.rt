@@ -1,6 +1,8 @@
 //! The bytes of the index (DWARF 5, section 6.1.1.4).
 
-ghost use Rattle.std.specs.Prelude.{◌≡◌, ◌<◌, ◌≤◌, ◌++◌, length, All, OnOk};
+ghost use Rattle.std.specs.Prelude.{◌≡◌, ◌<◌, ◌≤◌, ◌++◌, true, false, length, flat_map, All, OnOk};
+ghost use Rattle.index_model.specs.Layout.{u32_bytes};
+ghost use Rattle.index_model.specs.NameIndex.{unit_offsets};
 ghost use Rattle.debugnames_write.specs.Answers.{Answers};
 ghost use Rattle.debugnames_write.specs.Laid.{laid_out, head_with, hash_bytes, string_bytes};
 ghost use Rattle.debugnames_write.specs.Names.{HaveBuckets, HaveRows};
@@ -54,17 +56,48 @@ pub(crate) fn index_bytes(
     let size = grown(grown(front, table_size, MAX_INDEX)?, pool.size, MAX_INDEX)?;
     let buckets = buckets_of(alloc, names)?;
     let mut out = Vec::with_capacity(alloc, size as usize)?;
-    push_u32(&mut out, (size - LENGTH_SIZE) as u32)?;
-    push_counts(&mut out, places, names.len() as u32, table_size as u32)?;
-    push_unit_offsets(&mut out, units, false)?;
-    push_unit_offsets(&mut out, units, true)?;
-    push_u32s(&mut out, &buckets)?;
-    push_hashes(&mut out, names)?;
-    push_strings(&mut out, names)?;
-    push_u32s(&mut out, &pool.starts)?;
+    let length = (size - LENGTH_SIZE) as u32;
+    let count = names.len() as u32;
+    push_front(&mut out, length, units, places, count, table_size as u32)?;
+    push_names(&mut out, &buckets, names, &pool.starts)?;
     abbreviations.push(&mut out)?;
     push_pool(&mut out, abbreviations, names)?;
     Ok(out)
+}
+
+// Appends what stands before the names: the length, the counts, and where the units begin.
+fn push_front(
+    out: &mut Vec<u8>,
+    length: u32,
+    units: &[Unit],
+    places: &UnitPlaces,
+    names: u32,
+    table_size: u32,
+) -> Result<(), AllocError>
+    requires { All (λ u. u.start < 4294967296) units.now }
+    ensures { OnOk result (out.new.items ≡ (((out.old.items ++ u32_bytes length) ++ head_with places.now names table_size) ++ unit_offsets false units.now) ++ unit_offsets true units.now) }
+{
+    push_u32(out, length)?;
+    push_counts(out, places, names, table_size)?;
+    push_unit_offsets(out, units, false)?;
+    push_unit_offsets(out, units, true)?;
+    Ok(())
+}
+
+// Appends the tables of the names: the buckets, the hashes, and where their strings and their entries stand.
+fn push_names(
+    out: &mut Vec<u8>,
+    buckets: &[u32],
+    names: &[Name<'_>],
+    starts: &[u32],
+) -> Result<(), AllocError>
+    ensures { OnOk result (out.new.items ≡ (((out.old.items ++ flat_map u32_bytes buckets.now) ++ hash_bytes names.now) ++ string_bytes names.now) ++ flat_map u32_bytes starts.now) }
+{
+    push_u32s(out, buckets)?;
+    push_hashes(out, names)?;
+    push_strings(out, names)?;
+    push_u32s(out, starts)?;
+    Ok(())
 }
 
 // Appends version, padding and counts: of units, which aren't foreign, of buckets, of names, and of the bytes of the

@@ -17,8 +17,6 @@ mod name;
 mod numbers;
 mod pool;
 mod strings;
-#[cfg(test)]
-mod tests;
 mod units;
 mod writer;
 

@@ -8,7 +8,7 @@ ghost use Rattle.index_model.specs.Ordered.{bytes_lt};
 ghost use Rattle.debugnames_write.specs.Answers.{Answers};
 ghost use Rattle.debugnames_write.specs.Groups.{group_names};
 ghost use Rattle.debugnames_write.specs.Names.{AreNamesOf, StringsPass};
-ghost use Rattle.debugnames_write.specs.Order.{Rises};
+ghost use Rattle.index_model.specs.Order.{Rises};
 ghost use Rattle.debugnames_write.specs.Seen.{name_key};
 
 use crate::groups::Group;

@@ -1,42 +1,15 @@
 -- What a loop over numbered items has left to do.
-use Rattle.std.proofs.Common.{◌≡◌, ℕ, suc, ◌+◌, ◌-◌, ◌/◌, ◌<◌, ◌≤◌, Bool, true, false, cond, List, [], ◌∷◌, length, map, find, Option, Some, None, Result, Ok, Err, refl, arith, ap, sym, ◌∙◌}
+use Rattle.std.proofs.Common.{◌≡◌, ℕ, ◌+◌, ◌/◌, ◌<◌, ◌≤◌, Bool, true, false, cond, List, [], ◌∷◌, length, map, find, Option, Some, None, Result, Ok, Err, refl, ap, sym, ◌∙◌}
 use Rattle.std.specs.List.{range_with_len}
+use Rattle.common_laws.proofs.Ranges.{up_to, up_to_more, up_to_none, up_to_all}
 use Rattle.ix_base.specs.declared.fault.Fault.{Fault}
 use Rattle.ix_base.specs.Reading.{Input}
 use Rattle.index_model.specs.GdbAreas.{items}
 use Rattle.gdbindex_read.specs.Areas.{item}
 use Rattle.index_model.specs.Meaning.{◌>>=◌, each, wrong_in}
-
--- the numbers from i up to n
-abbrev pub up_to : ℕ → ℕ → List ℕ
-up_to i n = range_with_len i (n - i)
-
-pub up_to_more : (i n : ℕ) → i < n → up_to i n ≡ i ∷ up_to (i + 1) n
-up_to_more i n lt =
-    let e : n - i ≡ suc (n - (i + 1)) = omega arith in
-    rw e refl
-
-pub up_to_none : (i n : ℕ) → n ≤ i → up_to i n ≡ []
-up_to_none i n le =
-    let e : n - i ≡ 0 = omega arith in
-    rw e refl
-
-pub up_to_all : (n : ℕ) → up_to 0 n ≡ range_with_len 0 n
-up_to_all n =
-    let e : n - 0 ≡ n = omega arith in
-    ap (range_with_len 0) e
+use Rattle.index_model.proofs.FirstFaults.{then_none, then_some}
 
 -- ---- a fault of one of them
-
-module _ {B : Type 0} where
-  then_none : (r : Result B Fault) (rest : Result (List B) Fault) → wrong_in r ≡ None → wrong_in (r >>= λ y. rest >>= λ ys. Ok (y ∷ ys)) ≡ wrong_in rest
-  then_none (Ok y) (Ok ys) e = refl
-  then_none (Ok y) (Err d) e = refl
-  then_none (Err d) rest e = absurd cc
-
-  then_some : (r : Result B Fault) (rest : Result (List B) Fault) (d : Fault) → wrong_in r ≡ Some d → wrong_in (r >>= λ y. rest >>= λ ys. Ok (y ∷ ys)) ≡ Some d
-  then_some (Ok y) rest d e = absurd cc
-  then_some (Err x) rest d e = e
 
 module _ {A B : Type 0} (f : A → Result B Fault) (g : ℕ → A) where
   -- the first fault of the items from i up to n

@@ -1,8 +1,9 @@
 -- The offsets of the areas, one after the other.
 use Rattle.std.proofs.Common.{◌≡◌, ◌⊎◌, inl, inr, subst, ℕ, ◌+◌, ◌-◌, ◌*◌, ◌<◌, ◌≤◌, Bool, true, false, ◌&&◌, leb, List, [], ◌∷◌, length, drop, map, Option, Some, None, Result, Ok, Err, refl, arith, ap, sym, ◌∙◌}
 use Rattle.std.specs.Prelude.{slice_range}
-use Rattle.std.proofs.lemmas.Bool.{leb-true, le-leb, lt-leb}
+use Rattle.std.proofs.lemmas.Bool.{leb-true, le-leb, lt-leb, and_parts}
 use Rattle.std.proofs.lemmas.List.{length-take}
+use Rattle.common_laws.proofs.Ranges.{up_to, up_to_more, up_to_none, up_to_all}
 use Rattle.ix_base.specs.declared.fault.Fault.{Fault}
 use Rattle.ix_base.specs.Reading.{Input}
 use Rattle.index_model.specs.declared.index_code.TheConstants.{GDB_OFFSETS}
@@ -11,16 +12,11 @@ use Rattle.index_model.specs.GdbAreas.{Areas, area_at, areas_at, offsets_from}
 use Rattle.gdbindex_read.specs.declared.header.Version.{Version}
 use Rattle.gdbindex_read.specs.declared.header.Version.TheVariants.{Eight, Nine}
 use Rattle.gdbindex_read.specs.Header.{version_number, header_length, offset_count, pool_field, offset_at, offsets, checked_offsets, AreInOrder}
-use Rattle.gdbindex_read.proofs.Loops.{up_to, up_to_more, up_to_none, up_to_all}
 
 -- none is less than the one before it or past the end
 abbrev pub AreAscending : ℕ → ℕ → List ℕ → Type 0
 AreAscending least end [] = Unit {0}
 AreAscending least end (o ∷ os) = (least ≤ o) × (o ≤ end) × AreAscending o end os
-
-both : (a b : Bool) → (a && b) ≡ true → (a ≡ true) × (b ≡ true)
-both true b e = (refl, e)
-both false b e = absurd cc
 
 -- the header has the version and its offsets
 pub header_is : (v : Version) → header_length v ≡ 4 * offset_count v + 4
@@ -90,7 +86,7 @@ module _ (bytes : List ℕ) where
       by false t more e = absurd cc
       by true t more e =
           let later = more (rest_none (offsets_from bytes (at + 4) o os) e) in
-          let parts = both (leb least o) (leb o (length bytes)) t in
+          let parts = and_parts (leb least o) (leb o (length bytes)) t in
           record { are = rw (t, later.are) refl; ascend = (leb-true least o parts.0, leb-true o (length bytes) parts.1, later.ascend) }
 
   -- the header is whole and its offsets have no fault

@@ -1,6 +1,6 @@
 -- Where the path of a name leads.
-use Rattle.std.proofs.Common.{◌≡◌, ℕ, ◌+◌, ◌*◌, ◌^◌, ◌%◌, ◌/◌, ◌<◌, ◌≤◌, max, Bool, true, false, not, ◌||◌, ◌&&◌, cond, eqb, List, [], ◌∷◌, length, map, find, Option, Some, None, refl, arith, ap, sym, subst, ◌∙◌, add_comm}
-use Rattle.std.specs.List.{list_any, list_all, range_with_len}
+use Rattle.std.proofs.Common.{◌≡◌, ℕ, ◌+◌, ◌*◌, ◌^◌, ◌%◌, ◌/◌, ◌<◌, ◌≤◌, max, Bool, true, false, not, ◌||◌, cond, eqb, List, [], ◌∷◌, length, map, find, Option, Some, None, refl, arith, ap, sym, subst, ◌∙◌, add_comm}
+use Rattle.std.specs.List.{list_any, range_with_len}
 use Rattle.std.specs.Option.{option_eq}
 use Rattle.std.specs.Str.{bytes_eq}
 use Rattle.std.proofs.lemmas.Bool.{eqb-true, eq-eqb}
@@ -11,9 +11,11 @@ use Rattle.std.proofs.lemmas.Slice.Eq.{bytes_eq-Decides}
 use lib.Bits.{bit_or, or_step, or_zero_r}
 use Rattle.index_model.specs.Layout.{below}
 use Rattle.index_model.specs.Hashes.{gdb_hash, odd, path, slot_on_path}
-use Rattle.index_model.specs.GdbIndexRead.{Slot, elements_of, is_found, is_other, is_table_size, places_before, slot_or_none}
+use Rattle.index_model.specs.GdbIndexRead.{Slot, elements_of, is_found, is_other, is_table_size, slot_or_none}
 use Rattle.index_model.specs.GdbPath.{elements_at, path_end}
 use Rattle.index_model.proofs.PathLaws.{path_has_each_slot}
+use Rattle.index_model.proofs.LookupLaws.{found_at}
+use Rattle.index_model.proofs.PassedOver.{passed_over}
 
 -- ---- one place after the other
 
@@ -85,37 +87,6 @@ module _ (slots : List (Option Slot)) (name : List ℕ) (k : ℕ) (end : path_en
 
 -- ---- a slot is found
 
-module _ (other : ℕ → Bool) (k : ℕ) where
-  both : (a b : Bool) → (a && b) ≡ true → (a ≡ true) × (b ≡ true)
-  both true b e = (refl, e)
-  both false b e = absurd cc
-
-  -- what stands on a list, behind nothing but others, is found
-  found_at : (xs : List ℕ) → list_any (λ o. eqb o k) xs ≡ true → other k ≡ false → list_all other (places_before k xs) ≡ true → find (λ o. not (other o)) xs ≡ Some k
-  unfolding places_before
-  found_at [] there is before = absurd cc
-  found_at (x ∷ xs) there is before =
-      elim (eqb x k) as (λ b. eqb x k ≡ b → (b || list_any (λ o. eqb o k) xs) ≡ true → list_all other (cond b [] (x ∷ places_before k xs)) ≡ true → cond (not (other x)) (Some x) (find (λ o. not (other o)) xs) ≡ Some k) [
-        | true ↦ λ same _ _. let e : x ≡ k = eqb-true x k same in let o : other x ≡ false = ap other e ∙ is in rw o (ap (λ (x : ℕ). Some x) e)
-        | false ↦ λ _ more before.
-            let parts = both (other x) (list_all other (places_before k xs)) before in
-            rw parts.0 (found_at xs more is parts.1)
-      ] refl there before
-
-  -- what is found stands behind nothing but others
-  others_before : (xs : List ℕ) → find (λ o. not (other o)) xs ≡ Some k → list_all other (places_before k xs) ≡ true
-  unfolding places_before
-  others_before [] e = absurd cc
-  others_before (x ∷ xs) e =
-      elim (other x) as (λ b. other x ≡ b → cond (not b) (Some x) (find (λ o. not (other o)) xs) ≡ Some k → list_all other (cond (eqb x k) [] (x ∷ places_before k xs)) ≡ true) [
-        | true ↦ λ is h. later (eqb x k) is (others_before xs h)
-        | false ↦ λ _ h. let same : x ≡ k = cc in rw (eq-eqb x k same) refl
-      ] refl e
-    where
-      later : (b : Bool) → other x ≡ true → list_all other (places_before k xs) ≡ true → list_all other (cond b [] (x ∷ places_before k xs)) ≡ true
-      later true is h = refl
-      later false is h = rw is h
-
 power_size : (n k : ℕ) → is_table_size n ≡ true → k < n → (j : ℕ) × (n ≡ 2 ^ j)
 unfolding is_table_size
 power_size n k e lt = elim (eqb n 0) as (λ b. eqb n 0 ≡ b → (b || list_any (λ j. eqb n (2 ^ j)) (below 32)) ≡ true → (j : ℕ) × (n ≡ 2 ^ j)) [
@@ -150,11 +121,11 @@ module _ (slots : List (Option Slot)) (k : ℕ) (slot : Slot) (size : is_table_s
   -- the path of its name ends at a slot, where it is found
   pub ends_there : is_found slots k slot ≡ true → path_end slots slot.name ≡ Some k
   unfolding is_found
-  ends_there e = found_at others k (path (length slots) slot.name) on_path own e
+  ends_there e = found_at others k (path (length slots) slot.name) on_path e own
 
   pub is_found_there : path_end slots slot.name ≡ Some k → is_found slots k slot ≡ true
   unfolding is_found
-  is_found_there e = others_before others k (path (length slots) slot.name) e
+  is_found_there e = passed_over others others k (path (length slots) slot.name) e (λ s passed. passed)
 
   -- a slot is found exactly where the path of its name ends at it
   pub found_is : (end : Option ℕ) → end ≡ path_end slots slot.name → option_eq eqb end (Some k) ≡ is_found slots k slot

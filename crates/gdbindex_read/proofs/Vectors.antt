@@ -1,10 +1,13 @@
 -- Numbers of 4 bytes that stand one after the other, and the vectors that are made of them.
-use Rattle.std.proofs.Common.{◌≡◌, ℕ, zero, suc, ◌+◌, ◌-◌, ◌*◌, ◌/◌, ◌%◌, ◌^◌, ◌<◌, ◌≤◌, bit_and, Bool, true, false, ◌&&◌, leb, ltb, cond, List, length, take, drop, map, min, get_or, Some, None, refl, arith, ap, sym, ◌∙◌}
-use Rattle.std.specs.List.{range_with_len, list_all}
-use Rattle.std.proofs.lemmas.Bool.{le-leb, leb-true, leb-false, lt-leb, lt-ltb, le-ltb}
+use Rattle.std.proofs.Common.{◌≡◌, ℕ, ◌+◌, ◌-◌, ◌*◌, ◌/◌, ◌%◌, ◌^◌, ◌<◌, ◌≤◌, bit_and, Bool, true, false, ◌&&◌, leb, ltb, cond, List, length, take, drop, map, min, get_or, Some, None, refl, arith, ap, sym, ◌∙◌}
+use Rattle.std.specs.List.{list_all}
+use Rattle.std.proofs.lemmas.Bool.{le-leb, leb-true, leb-false, lt-leb, lt-ltb, le-ltb, and_right}
 use Rattle.std.proofs.lemmas.List.{length-take, length-drop, get_or-take, get_or-drop, drop-drop, drop_more, drop_all}
 use Rattle.std.proofs.lemmas.List.FromFn.{length-map-range_with_len, get_or-map-range_with_len}
 use Rattle.std.proofs.lemmas.Nat.{and_mask}
+use Rattle.std.proofs.lemmas.Option.{cond_some}
+use Rattle.common_laws.proofs.Options.{cond_none}
+use Rattle.common_laws.proofs.Lists.{map_agree}
 use Rattle.byteorder.specs.Endian.{little_number}
 use Rattle.ix_base.specs.Reading.{Input, bytes, number, past, input}
 use Rattle.index_model.specs.Layout.{below, field}
@@ -27,23 +30,7 @@ in_part xs from size k le = four (drop (4 * k) (take size (drop from xs))) (drop
     shift : (i : ℕ) → from + (4 * k + i) ≡ from + 4 * k + i
     shift i = omega arith
 
-same_map : {X : Type 0} (f g : ℕ → X) (a n : ℕ) → ((k : ℕ) → k < a + n → f k ≡ g k) → map f (range_with_len a n) ≡ map g (range_with_len a n)
-same_map f g a zero same = refl
-same_map f g a (suc n) same = rw (same a (omega arith), same_map f g (a + 1) n (λ k lt. same k (omega (arith, lt)))) refl
-
 -- ---- a vector
-
-some_cond : {A : Type 0} (b : Bool) (x y : A) → cond b (Some x) None ≡ Some y → (b ≡ true) × (x ≡ y)
-some_cond true x y e = (refl, cc)
-some_cond false x y e = absurd cc
-
-none_cond : {A : Type 0} (b : Bool) (x : A) → cond b (Some x) None ≡ None → b ≡ false
-none_cond true x e = absurd cc
-none_cond false x e = refl
-
-both_false : (a b : Bool) → b ≡ false → (a && b) ≡ false
-both_false true b e = e
-both_false false b e = refl
 
 module _ (pool : List ℕ) (offset : ℕ) where
   -- what a vector of so many elements is
@@ -61,12 +48,12 @@ module _ (pool : List ℕ) (offset : ℕ) where
 
   pub no_count : offset ≤ length pool → number 4 (input pool offset) ≡ None → vector_in pool offset ≡ None
   no_count le e =
-      let short = leb-false 4 (length (drop offset pool)) (none_cond (leb 4 (length (drop offset pool))) (little_number 4 (drop offset pool), past 4 (input pool offset)) e) in
+      let short = leb-false 4 (length (drop offset pool)) (cond_none (leb 4 (length (drop offset pool))) (little_number 4 (drop offset pool), past 4 (input pool offset)) e) in
       unfit (rw (lt-leb (offset + 4) (length pool) (omega (arith, short, length-drop offset pool, le))) refl)
 
   module _ (le : offset ≤ length pool) (count : ℕ) (i : Input) (read : number 4 (input pool offset) ≡ Some (count, i)) where
     parts : (leb 4 (length (drop offset pool)) ≡ true) × (◌≡◌ {A = ℕ × Input} (little_number 4 (drop offset pool), past 4 (input pool offset)) (count, i))
-    parts = some_cond (leb 4 (length (drop offset pool))) (little_number 4 (drop offset pool), past 4 (input pool offset)) (count, i) read
+    parts = cond_some (leb 4 (length (drop offset pool))) (little_number 4 (drop offset pool), past 4 (input pool offset)) (count, i) read
 
     count_is : field 4 offset pool ≡ count
     count_is = ap (λ (p : ℕ × Input). p.0) parts.1
@@ -82,13 +69,13 @@ module _ (pool : List ℕ) (offset : ℕ) where
 
     pub no_elements : bytes (4 * count) i ≡ None → vector_in pool offset ≡ None
     no_elements e =
-        let short = leb-false (4 * count) (length i.rest) (none_cond (leb (4 * count) (length i.rest)) (take (4 * count) i.rest, past (4 * count) i) e) in
+        let short = leb-false (4 * count) (length i.rest) (cond_none (leb (4 * count) (length i.rest)) (take (4 * count) i.rest, past (4 * count) i) e) in
         let out : leb (offset + 4 + 4 * count) (length pool) ≡ false = lt-leb (offset + 4 + 4 * count) (length pool) (omega (arith, short, length-rest, long)) in
-        unfit (both_false (leb (offset + 4) (length pool)) _ (ap (λ (n : ℕ). leb (offset + 4 + 4 * n) (length pool)) count_is ∙ out))
+        unfit (and_right (leb (offset + 4) (length pool)) _ (ap (λ (n : ℕ). leb (offset + 4 + 4 * n) (length pool)) count_is ∙ out))
 
     module _ (bs : List ℕ) (j : Input) (taken : bytes (4 * count) i ≡ Some (bs, j)) where
       some : (leb (4 * count) (length i.rest) ≡ true) × (◌≡◌ {A = List ℕ × Input} (take (4 * count) i.rest, past (4 * count) i) (bs, j))
-      some = some_cond (leb (4 * count) (length i.rest)) (take (4 * count) i.rest, past (4 * count) i) (bs, j) taken
+      some = cond_some (leb (4 * count) (length i.rest)) (take (4 * count) i.rest, past (4 * count) i) (bs, j) taken
 
       fits : 4 * count ≤ length i.rest
       fits = leb-true (4 * count) (length i.rest) some.0
@@ -115,7 +102,7 @@ module _ (pool : List ℕ) (offset : ℕ) where
           let first : leb (offset + 4) (length pool) ≡ true = le-leb (offset + 4) (length pool) long in
           let last : leb (offset + 4 + 4 * count) (length pool) ≡ true = le-leb (offset + 4 + 4 * count) (length pool) (omega (arith, fits, length-rest, long)) in
           let few : leb (4 * count) (length pool) ≡ true = le-leb (4 * count) (length pool) (omega (arith, fits, length-rest, long)) in
-          let seen : elements_seen bs ≡ map (λ k. field 4 (offset + 4 + 4 * k) pool) (below count) = ap (λ (n : ℕ). map (λ k. field 4 (4 * k) bs) (below n)) count_of ∙ same_map (λ k. field 4 (4 * k) bs) (λ k. field 4 (offset + 4 + 4 * k) pool) 0 count same in
+          let seen : elements_seen bs ≡ map (λ k. field 4 (offset + 4 + 4 * k) pool) (below count) = ap (λ (n : ℕ). map (λ k. field 4 (4 * k) bs) (below n)) count_of ∙ map_agree (λ k. field 4 (4 * k) bs) (λ k. field 4 (offset + 4 + 4 * k) pool) 0 count same in
           rw (count_is, first, last, few) (ap (λ (xs : List ℕ). Some xs) (sym seen))
 
 -- ---- whether all elements pass

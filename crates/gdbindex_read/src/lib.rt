@@ -21,8 +21,6 @@ mod path;
 mod shortcut;
 mod slots;
 mod symbols;
-#[cfg(test)]
-mod tests;
 
 pub use elements::Elements;
 pub use index::GdbIndex;

@@ -6,14 +6,12 @@ use Rattle.std.specs.List.{list_any, position_or_len}
 use Rattle.std.proofs.lemmas.List.{append_assoc, append-nil}
 use Rattle.std.proofs.lemmas.List.Elements.{filter-append}
 use Rattle.std.proofs.lemmas.Cmp.{nat_list_eq_equiv}
+use Rattle.std.proofs.lemmas.Bool.{or_right, or_parts}
 use Rattle.query_engine.proofs.TextOrder.{same_from_eq, eq_from_same}
 use Rattle.index_model.specs.Ordered.{distinct, place_of}
 use Rattle.gdbindex_write.proofs.PositionLaws.{is_some_position}
 
 -- ---- one item more
-
-flip : (xs ys : List ℕ) → bytes_eq xs ys ≡ bytes_eq ys xs
-flip xs ys = nat_list_eq_equiv.symm xs ys
 
 -- whether an item stands among others
 abbrev pub is_in : List ℕ → List (List ℕ) → Bool
@@ -52,8 +50,8 @@ push_behind x y true ds es e = rw e (there (bytes_eq y x))
 push_behind x y false ds es e = rw e (by (bytes_eq y x) refl)
   where
     by : (b : Bool) → bytes_eq y x ≡ b → x ∷ others x (ds ++ y ∷ []) ≡ cond (b || false) (x ∷ others x ds) (x ∷ others x ds ++ y ∷ [])
-    by true f = let g : bytes_eq x y ≡ true = flip x y ∙ f in rw (filter-append (λ z. not (bytes_eq x z)) ds (y ∷ []), g) (ap (λ w. x ∷ w) (append-nil (others x ds)))
-    by false f = let g : bytes_eq x y ≡ false = flip x y ∙ f in rw (filter-append (λ z. not (bytes_eq x z)) ds (y ∷ []), g) refl
+    by true f = let g : bytes_eq x y ≡ true = nat_list_eq_equiv.symm x y ∙ f in rw (filter-append (λ z. not (bytes_eq x z)) ds (y ∷ []), g) (ap (λ w. x ∷ w) (append-nil (others x ds)))
+    by false f = let g : bytes_eq x y ≡ false = nat_list_eq_equiv.symm x y ∙ f in rw (filter-append (λ z. not (bytes_eq x z)) ds (y ∷ []), g) refl
 
 pub distinct_push : (xs : List (List ℕ)) (y : List ℕ) → distinct bytes_eq (xs ++ y ∷ []) ≡ cond (is_in y xs) (distinct bytes_eq xs) (distinct bytes_eq xs ++ y ∷ [])
 unfolding distinct
@@ -102,21 +100,9 @@ module _ (p : List ℕ → Bool) where
 itself : (y : List ℕ) → bytes_eq y y ≡ true
 itself y = eq_from_same y y refl
 
-left_false : (a b : Bool) → (a || b) ≡ false → a ≡ false
-left_false true b e = absurd (true≢false e)
-left_false false b e = refl
-
-right_false : (a b : Bool) → (a || b) ≡ false → b ≡ false
-right_false true b e = absurd (true≢false e)
-right_false false b e = e
-
-or_true : (a b : Bool) → b ≡ true → (a || b) ≡ true
-or_true true b e = refl
-or_true false b e = e
-
 is_last : (xs : List (List ℕ)) (y : List ℕ) → is_in y (xs ++ y ∷ []) ≡ true
 is_last [] y = rw (itself y) refl
-is_last (x ∷ xs) y = or_true (bytes_eq y x) (is_in y (xs ++ y ∷ [])) (is_last xs y)
+is_last (x ∷ xs) y = or_right (bytes_eq y x) (is_in y (xs ++ y ∷ [])) (is_last xs y)
 
 -- the place that an item gets is the one that it has then
 pub insert_place : (xs : List (List ℕ)) (y : List ℕ) → position_or_len (bytes_eq y) xs ≡ position_or_len (bytes_eq y) (cond (is_in y xs) xs (xs ++ y ∷ []))
@@ -125,8 +111,8 @@ insert_place xs y = by (is_in y xs) refl
     last : (zs : List (List ℕ)) → is_in y zs ≡ false → position_or_len (bytes_eq y) zs ≡ position_or_len (bytes_eq y) (zs ++ y ∷ [])
     last [] none = rw (itself y) refl
     last (z ∷ zs) none =
-        let first : bytes_eq y z ≡ false = left_false (bytes_eq y z) (is_in y zs) none in
-        let rest : is_in y zs ≡ false = right_false (bytes_eq y z) (is_in y zs) none in
+        let first : bytes_eq y z ≡ false = (or_parts (bytes_eq y z) (is_in y zs) none).0 in
+        let rest : is_in y zs ≡ false = (or_parts (bytes_eq y z) (is_in y zs) none).1 in
         rw first (ap (λ n. 1 + n) (last zs rest))
 
     by : (b : Bool) → is_in y xs ≡ b → position_or_len (bytes_eq y) xs ≡ position_or_len (bytes_eq y) (cond b xs (xs ++ y ∷ []))
@@ -145,4 +131,4 @@ place_stays xs ys y =
   where
     in_all : (xs : List (List ℕ)) → is_in y (xs ++ y ∷ ys) ≡ true
     in_all [] = rw (itself y) refl
-    in_all (x ∷ xs) = or_true (bytes_eq y x) (is_in y (xs ++ y ∷ ys)) (in_all xs)
+    in_all (x ∷ xs) = or_right (bytes_eq y x) (is_in y (xs ++ y ∷ ys)) (in_all xs)

@@ -1,5 +1,5 @@
 -- The areas one after the other are the index.
-use Rattle.std.proofs.Common.{◌≡◌, ℕ, ◌+◌, ◌⊎◌, inl, inr, List, [], ◌∷◌, ◌++◌, length, Option, Some, None, refl, sym, ap, ◌∙◌, subst, arith}
+use Rattle.std.proofs.Common.{◌≡◌, ℕ, ◌+◌, ◌⊎◌, inl, inr, List, [], ◌∷◌, ◌++◌, length, Option, sym, ap, ◌∙◌, subst, arith}
 use Rattle.std.specs.Prelude.{flat_map, ◌==◌, if◌then◌else◌}
 use Rattle.std.proofs.lemmas.List.{append_assoc, append-nil, length-append}
 use Rattle.index_model.specs.declared.answer.Main.{Main}
@@ -8,6 +8,7 @@ use Rattle.index_model.specs.declared.range.UnitRange.{UnitRange}
 use Rattle.index_model.specs.declared.unit.Unit.{Unit as UnitHeader}
 use Rattle.index_model.specs.Layout.{u32_bytes, ended}
 use Rattle.index_model.specs.GdbIndex.{Pool, pool_of, cu_list, types_list, address_area, symbol_table, shortcut, pool_bytes, vector_bytes, with_header, gdb_index_bytes}
+use Rattle.index_model.proofs.IndexSizes.{shortcut_size}
 use Rattle.gdbindex_write.specs.declared.sizes.Sizes.{Sizes}
 use Rattle.gdbindex_write.specs.Sizes.{sizes_of, total}
 use Rattle.gdbindex_write.specs.Header.{offsets, area_sizes, header_bytes}
@@ -59,15 +60,11 @@ module _ (units : List UnitHeader) (pieces : List UnitRange) (main : Option Main
   abbrev sizes : Sizes
   sizes = sizes_of units pieces pool
 
-  short_length : (m : Option Main) → length (shortcut pool m) ≡ 8
-  short_length (Some m) = refl
-  short_length None = refl
-
   sizes_8 : area_sizes 8 sizes ≡ length cus ∷ length types ∷ length area ∷ length table ∷ length texts ∷ []
   sizes_8 = sym (λ i. cu_length units i ∷ types_length units i ∷ addresses_length units pieces i ∷ table_length units entries pool i ∷ pool_length pool i ∷ [])
 
   sizes_9 : area_sizes 9 sizes ≡ length cus ∷ length types ∷ length area ∷ length table ∷ length (shortcut pool main) ∷ length texts ∷ []
-  sizes_9 = sym (λ i. cu_length units i ∷ types_length units i ∷ addresses_length units pieces i ∷ table_length units entries pool i ∷ short_length main i ∷ pool_length pool i ∷ [])
+  sizes_9 = sym (λ i. cu_length units i ∷ types_length units i ∷ addresses_length units pieces i ∷ table_length units entries pool i ∷ shortcut_size pool main i ∷ pool_length pool i ∷ [])
 
   abbrev short : ℕ → List ℕ
   short version = if version == 9 then shortcut pool main else []
@@ -96,7 +93,7 @@ module _ (units : List UnitHeader) (pieces : List UnitRange) (main : Option Main
 
   length_9 : length (gdb_index_bytes units pieces main entries 9) ≡ total 9 sizes
   unfolding gdb_index_bytes
-  length_9 = length_6 cus types area table (shortcut pool main) texts 9 ∙ (λ i. 28 + cu_length units i + types_length units i + addresses_length units pieces i + table_length units entries pool i + short_length main i + pool_length pool i) ∙ omega arith
+  length_9 = length_6 cus types area table (shortcut pool main) texts 9 ∙ (λ i. 28 + cu_length units i + types_length units i + addresses_length units pieces i + table_length units entries pool i + shortcut_size pool main i + pool_length pool i) ∙ omega arith
 
   -- it has as many bytes as its areas
   pub length_is : (version : ℕ) → (version ≡ 8) ⊎ (version ≡ 9) → length (gdb_index_bytes units pieces main entries version) ≡ total version sizes

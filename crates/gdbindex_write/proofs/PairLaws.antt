@@ -103,9 +103,6 @@ keys_tie x y = sym (then_is (slice_cmp nat_cmp x.name.now y.name.now) (nat_cmp x
 
 -- ---- a group at the front
 
-flip : (xs ys : List ℕ) → bytes_eq xs ys ≡ bytes_eq ys xs
-flip xs ys = nat_list_eq_equiv.symm xs ys
-
 -- one pair less in front
 one_less : (j : ℕ) (p q : Pair) (qs : List Pair) → goes_on_at (p ∷ q ∷ qs) (suc (suc j)) ≡ goes_on_at (q ∷ qs) (suc j)
 one_less j p q qs =
@@ -134,7 +131,7 @@ unfolding groups onto_first
 first_group zero p [] within on off = refl
 first_group zero p (q ∷ qs) within on off =
     let f = first_name q qs in
-    let other : bytes_eq p.0 q.0 ≡ false = flip p.0 q.0 ∙ sym (second_is p q qs) ∙ off in
+    let other : bytes_eq p.0 q.0 ≡ false = nat_list_eq_equiv.symm p.0 q.0 ∙ sym (second_is p q qs) ∙ off in
     rw (f.is, other) refl
 first_group (suc k) p [] within on off = absurd (omega arith)
 first_group (suc k) p (q ∷ qs) within on off =

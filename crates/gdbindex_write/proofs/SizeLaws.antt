@@ -1,5 +1,5 @@
 -- How many bytes the areas have.
-use Rattle.std.proofs.Common.{◌≡◌, ℕ, ◌+◌, ◌*◌, not, List, [], ◌∷◌, ◌++◌, length, take, map, Option, Some, None, refl, ap, ◌∙◌, arith}
+use Rattle.std.proofs.Common.{◌≡◌, ℕ, ◌+◌, ◌*◌, not, List, [], ◌∷◌, ◌++◌, length, take, map, refl, ap, ◌∙◌, arith}
 use Rattle.std.specs.Prelude.{filter, flat_map, sum_by, count_by}
 use Rattle.std.proofs.lemmas.List.{length-append, take-map}
 use Rattle.std.proofs.lemmas.List.Concat.{length-flat_map}
@@ -12,6 +12,7 @@ use Rattle.index_model.specs.declared.unit.Unit.{Unit as UnitHeader}
 use Rattle.index_model.specs.Layout.{below, u32_bytes, u64_bytes, ended, start_of}
 use Rattle.index_model.specs.GdbSlots.{slot_count, slots_of}
 use Rattle.index_model.specs.GdbIndex.{Pool, cu_list, types_list, address_area, symbol_table, slot_bytes, name_in_slot, vector_bytes, pool_bytes, is_type_unit, start_in_section, index_number}
+use Rattle.index_model.proofs.IndexSizes.{size_4, slot_size}
 use Rattle.gdbindex_write.specs.Sizes.{names_size, vectors_size}
 
 -- ---- sums
@@ -35,14 +36,11 @@ module _ {X : Type 0} where
 
 -- ---- the areas
 
-four : (n : ℕ) → length (u32_bytes n) ≡ 4
-four n = refl
-
 pub ended_length : (name : List ℕ) → length (ended name) ≡ length name + 1
 ended_length name = length-append name (0 ∷ [])
 
 pub vector_length : (elements : List ℕ) → length (vector_bytes elements) ≡ 4 + 4 * length elements
-vector_length elements = length-append (u32_bytes (length elements)) (flat_map u32_bytes elements) ∙ ap (λ (n : ℕ). 4 + n) (each_length u32_bytes 4 four elements)
+vector_length elements = length-append (u32_bytes (length elements)) (flat_map u32_bytes elements) ∙ ap (λ (n : ℕ). 4 + n) (each_length u32_bytes 4 size_4 elements)
 
 pub vectors_length : (vectors : List (List ℕ)) → length (flat_map vector_bytes vectors) ≡ vectors_size vectors
 vectors_length = sum_length vector_bytes (λ (v : List ℕ). 4 + 4 * length v) vector_length
@@ -63,12 +61,8 @@ pub addresses_length : (units : List UnitHeader) (pieces : List UnitRange) → l
 addresses_length units pieces = each_length (λ (p : UnitRange). u64_bytes p.range.low ++ u64_bytes p.range.end ++ u32_bytes (index_number units p.unit)) 20 (λ p. refl) pieces
 
 module _ (units : List UnitHeader) (entries : List Entry) (pool : Pool) where
-  eight : (o : Option (List ℕ)) → length (slot_bytes units entries pool o) ≡ 8
-  eight (Some name) = refl
-  eight None = refl
-
   pub table_length : length (symbol_table units entries pool) ≡ 8 * slot_count (length pool.names)
   unfolding symbol_table
   table_length =
-      each_length (λ (slot : ℕ). slot_bytes units entries pool (name_in_slot pool.names (slots_of pool.names) slot)) 8 (λ slot. eight (name_in_slot pool.names (slots_of pool.names) slot)) (below (slot_count (length pool.names)))
+      each_length (λ (slot : ℕ). slot_bytes units entries pool (name_in_slot pool.names (slots_of pool.names) slot)) 8 (λ slot. slot_size units entries pool (name_in_slot pool.names (slots_of pool.names) slot)) (below (slot_count (length pool.names)))
       ∙ ap (λ (n : ℕ). 8 * n) (length-range_with_len 0 (slot_count (length pool.names)))

@@ -7,6 +7,7 @@ use Rattle.std.proofs.lemmas.List.{take_more, take_all, length-take-le, length-s
 use Rattle.std.proofs.lemmas.List.FromFn.{length-map-range_with_len, get_or-map-range_with_len, fill_by_all}
 use Rattle.std.proofs.lemmas.Nat.{mod_below}
 use Rattle.std.proofs.Math.Nat.{mod-add-mod}
+use Rattle.std.proofs.lemmas.Bool.{or_parts, le-leb, lt-leb}
 use Rattle.index_model.specs.Layout.{below}
 use Rattle.index_model.specs.Hashes.{path, gdb_hash, odd, slot_on_path}
 use Rattle.index_model.specs.GdbSlots.{slot_count, slots_of, slots_behind, free_slot, AreOwn}
@@ -49,14 +50,6 @@ slot_behind slots taken (n ∷ ns) (suc k) lt =
 
 -- ---- slots that no two names share
 
-left_false : (a b : Bool) → (a || b) ≡ false → a ≡ false
-left_false true b e = absurd (true≢false e)
-left_false false b e = refl
-
-right_false : (a b : Bool) → (a || b) ≡ false → b ≡ false
-right_false true b e = absurd (true≢false e)
-right_false false b e = e
-
 record Own (slots : ℕ) (taken ss : List ℕ) (k : ℕ) : Type 0 where
   pub within : get_or ss k 0 < slots
   pub free : list_any (eqb (get_or ss k 0)) taken ≡ false
@@ -68,8 +61,8 @@ own_at slots taken (s ∷ ss) zero own lt = record { within = own.0; free = own.
 own_at slots taken (s ∷ ss) (suc k) own lt =
     let rest = own_at slots (s ∷ taken) ss k own.2 (omega arith) in
     let x : ℕ = get_or ss k 0 in
-    let other : eqb x s ≡ false = left_false (eqb x s) (list_any (eqb x) taken) rest.free in
-    record { within = rest.within; free = right_false (eqb x s) (list_any (eqb x) taken) rest.free; apart = (λ i. other i || rest.apart i) }
+    let other : eqb x s ≡ false = (or_parts (eqb x s) (list_any (eqb x) taken) rest.free).0 in
+    record { within = rest.within; free = (or_parts (eqb x s) (list_any (eqb x) taken) rest.free).1; apart = (λ i. other i || rest.apart i) }
 
 -- ---- the table
 
@@ -170,14 +163,8 @@ no_numbers count = fill_by_all (λ (s : ℕ). position (eqb s) []) (replicate co
 pub count_of : (n doubled slots : ℕ) → 0 < n → doubled < 34 → slots ≡ 2 ^ doubled → ((j : ℕ) → j < doubled → 3 * 2 ^ j < 4 * n) → 4 * n ≤ 3 * slots → slots ≡ slot_count n
 count_of n doubled slots some lt is before enough =
     let own : 4 * n ≤ 3 * 2 ^ doubled = omega (arith, ap (λ (s : ℕ). 3 * s) is, enough) in
-    let passes : leb (4 * n) (3 * 2 ^ doubled) ≡ true = tested (4 * n) (3 * 2 ^ doubled) own in
-    is ∙ sym (count_is n doubled some (omega arith) (λ j less. untested (4 * n) (3 * 2 ^ j) (before j less)) passes)
-  where
-    tested : (a b : ℕ) → a ≤ b → leb a b ≡ true
-    tested a b le = grind (arith, nat_tests)
-
-    untested : (a b : ℕ) → b < a → leb a b ≡ false
-    untested a b less = grind (arith, nat_tests)
+    let passes : leb (4 * n) (3 * 2 ^ doubled) ≡ true = le-leb (4 * n) (3 * 2 ^ doubled) own in
+    is ∙ sym (count_is n doubled some (omega arith) (λ j less. lt-leb (4 * n) (3 * 2 ^ j) (before j less)) passes)
 
 pub no_slots : slot_count 0 ≡ 0
 unfolding slot_count

@@ -1,13 +1,13 @@
 -- What was prepared and written is the index.
-use Rattle.std.proofs.Common.{◌≡◌, ℕ, ◌+◌, ◌<◌, ◌≤◌, Bool, true, false, cond, nat_eq, List, [], ◌∷◌, ◌++◌, length, get_or, map, position, Option, Some, refl, sym, ap, ◌∙◌, subst, arith}
-use mathlib.Core.Bool.{true≢false}
+use Rattle.std.proofs.Common.{◌≡◌, ℕ, ◌+◌, ◌<◌, ◌≤◌, true, cond, nat_eq, List, [], ◌∷◌, ◌++◌, length, get_or, map, position, Option, Some, refl, sym, ap, ◌∙◌, subst, arith}
 use Rattle.std.specs.Prelude.{flat_map, bytes_eq, ◌==◌, All}
-use Rattle.std.specs.List.{list_any, position_or_len}
+use Rattle.std.specs.List.{list_any}
 use Rattle.std.proofs.lemmas.List.{get_or-map, length-map}
 use Rattle.std.proofs.lemmas.List.Folds.{list_any_at}
 use Rattle.std.proofs.lemmas.List.FromFn.{length-map-range_with_len, get_or-map-range_with_len}
 use Rattle.std.proofs.lemmas.List.Quantifiers.{position-Some}
 use Rattle.std.proofs.lemmas.List.Sums.{sum_by-cons}
+use Rattle.common_laws.proofs.Lists.{position_within}
 use Rattle.query_engine.proofs.TextOrder.{eq_from_same}
 use Rattle.index_model.specs.GdbSlots.{slot_count, slots_of}
 use Rattle.index_model.specs.declared.answer.Main.{Main}
@@ -39,11 +39,9 @@ use Rattle.gdbindex_write.proofs.PoolLaws.{pairs_are, own_names, own_pool, own_n
 use Rattle.gdbindex_write.proofs.PlaceLaws.{table_is, shortcut_is}
 use Rattle.gdbindex_write.proofs.IndexLaws.{written_is, length_is}
 
--- parts that were appended one after the other
-pub joined : (a b d e f g h k : List ℕ) {o p q r s t u v w : List ℕ} → o ≡ [] → p ≡ o ++ a → q ≡ p ++ b → r ≡ q ++ d → s ≡ r ++ e → t ≡ s ++ f → u ≡ t ++ g → v ≡ u ++ h → w ≡ v ++ k
-    → w ≡ ((((((([] ++ a) ++ b) ++ d) ++ e) ++ f) ++ g) ++ h) ++ k
-joined a b d e f g h k e0 e1 e2 e3 e4 e5 e6 e7 e8 =
-    e8 ∙ ap (λ (x : List ℕ). x ++ k) (e7 ∙ ap (λ (x : List ℕ). x ++ h) (e6 ∙ ap (λ (x : List ℕ). x ++ g) (e5 ∙ ap (λ (x : List ℕ). x ++ f) (e4 ∙ ap (λ (x : List ℕ). x ++ e) (e3 ∙ ap (λ (x : List ℕ). x ++ d) (e2 ∙ ap (λ (x : List ℕ). x ++ b) (e1 ∙ ap (λ (x : List ℕ). x ++ a) e0)))))))
+-- four parts that were appended one after the other
+pub joined : (o a b d e : List ℕ) {p q r s : List ℕ} → p ≡ o ++ a → q ≡ p ++ b → r ≡ q ++ d → s ≡ r ++ e → s ≡ (((o ++ a) ++ b) ++ d) ++ e
+joined o a b d e e1 e2 e3 e4 = e4 ∙ ap (λ (x : List ℕ). x ++ e) (e3 ∙ ap (λ (x : List ℕ). x ++ d) (e2 ∙ ap (λ (x : List ℕ). x ++ b) e1))
 
 module _ (units : List UnitHeader) (pieces : List UnitRange) (main : Option Main) (entries : List Entry) (version : ℕ) (writable : IsWritable units pieces main entries version)
     (numbers : List ℕ) (numbers_are : numbers ≡ map (index_number units) (below (length units)))
@@ -89,14 +87,6 @@ module _ (units : List UnitHeader) (pieces : List UnitRange) (main : Option Main
 
 -- ---- numbers that are in range
 
-place_below : (p : List ℕ → Bool) (xs : List (List ℕ)) → list_any p xs ≡ true → position_or_len p xs < length xs
-place_below p [] some = absurd (true≢false (sym some))
-place_below p (x ∷ xs) some = by (p x) refl (place_below p xs)
-  where
-    by : (b : Bool) → p x ≡ b → (list_any p xs ≡ true → position_or_len p xs < length xs) → position_or_len p (x ∷ xs) < length (x ∷ xs)
-    by true e rest = rw e (omega arith)
-    by false e rest = let more : list_any p xs ≡ true = rw e at some in let lt = rest more in rw e (omega (arith, lt))
-
 -- each number is that of a distinct vector
 pub numbers_within : (all : List (List ℕ)) (vectors : Vectors) → AreVectorsOf all vectors → All (λ n. n < length vectors.distinct.items) vectors.numbers.items
 numbers_within all vectors are = λ k d lt.
@@ -107,7 +97,7 @@ numbers_within all vectors are = λ k d lt.
     let at : get_or vectors.numbers.items k d ≡ place_of bytes_eq w ds = ap (λ (ns : List ℕ). get_or ns k d) are.numbers_are ∙ get_or-map (λ v. place_of bytes_eq v ds) all k [] d within in
     let some : list_any (bytes_eq w) ds ≡ true = in_distinct w all ∙ list_any_at (bytes_eq w) all k [] within (eq_from_same w w refl) in
     let count : length vectors.distinct.items ≡ length ds = sym (length-map vectors.distinct.items (λ v. v.now)) ∙ ap length are.distinct_are in
-    omega (arith, at, place_is (bytes_eq w) ds some, place_below (bytes_eq w) ds some, count)
+    omega (arith, at, place_is (bytes_eq w) ds some, position_within (bytes_eq w) ds some, count)
 
 -- each number in a slot is that of a name
 pub slots_within : (names : List (List ℕ)) (k n : ℕ) (d : Option ℕ) → k < length (numbers_in_slots names) → get_or (numbers_in_slots names) k d ≡ Some n → n < length names

@@ -6,18 +6,12 @@ ghost use Rattle.index_model.specs.Seen.{main_seen};
 ghost use Rattle.gdbindex_write.specs.Writable.{IsWritable};
 ghost use Rattle.gdbindex_write.specs.declared.stop.WriteStop.TheVariants.{TooLarge};
 
-use crate::addresses::put_address_area;
-use crate::header::put_header;
-use crate::names::put_names;
+use crate::areas::{put_symbols, put_units};
 use crate::numbers::index_numbers;
-use crate::places::places;
 use crate::sizes::Sizes;
-use crate::slots::numbers_in_slots;
 use crate::stop::WriteStop;
 use crate::symbols::Symbols;
-use crate::table::{put_shortcut, put_symbol_table};
-use crate::units::{put_cu_list, put_types_list};
-use crate::vectors::{Vectors, put_vectors};
+use crate::vectors::Vectors;
 use address_map::AddressMap;
 use index_model::{MainName, Unit};
 use query_engine::Table;
@@ -57,16 +51,16 @@ pub fn write(
     ) else {
         return Err(WriteStop::TooLarge);
     };
-    let places = places(alloc, &symbols.list, &vectors, sizes.vectors)?;
-    let slots = numbers_in_slots(alloc, &symbols.list)?;
     let mut out = Vec::with_capacity(alloc, sizes.total(version) as usize)?;
-    put_header(&mut out, version, &sizes)?;
-    put_cu_list(&mut out, units)?;
-    put_types_list(&mut out, units)?;
-    put_address_area(&mut out, &numbers, map.pieces())?;
-    put_symbol_table(&mut out, &slots, &places)?;
-    put_shortcut(&mut out, version, main, &symbols.list, &places)?;
-    put_vectors(&mut out, &vectors.distinct)?;
-    put_names(&mut out, &symbols.list)?;
+    put_units(&mut out, version, &sizes, units, &numbers, map.pieces())?;
+    put_symbols(
+        alloc,
+        &mut out,
+        version,
+        main,
+        &symbols.list,
+        &vectors,
+        sizes.vectors,
+    )?;
     Ok(out)
 }

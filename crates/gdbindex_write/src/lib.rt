@@ -6,6 +6,7 @@
 #![tactic(auto)]
 
 mod addresses;
+mod areas;
 mod header;
 mod index;
 mod keys;
@@ -18,8 +19,6 @@ mod slots;
 mod stop;
 mod symbols;
 mod table;
-#[cfg(test)]
-mod tests;
 mod units;
 mod vectors;
 

@@ -33,7 +33,6 @@ returns c =
     let same : c.push_pool.new.out.items ≡ laid_out c.args.units.now c.args.abbreviations.now c.args.names.now =
     assembled units rows names c.args.places.now c.in_ok-size.size c.in_ok-table_size.table_size c.deref.result.now c.deref-2.result.now c.requires.places c.in_ok-table_size.ensures.0 size
     (c.deref.ensures.value ∙ c.in_ok-buckets.ensures) (c.deref-2.ensures.value ∙ c.in_ok-pool.ensures.starts)
-    _ _ _ _ _ _ _ _ _ _ _ c.in_ok-out.ensures.items c.in_ok-push_u32.ensures c.in_ok-push_counts.ensures c.in_ok-push_unit_offsets.ensures c.in_ok-push_unit_offsets-2.ensures c.in_ok-push_u32s.ensures
-    c.in_ok-push_hashes.ensures c.in_ok-push_strings.ensures c.in_ok-push_u32s-2.ensures c.in_ok-push.ensures c.in_ok-push_pool.ensures in
+    _ _ _ _ _ c.in_ok-out.ensures.items c.in_ok-push_front.ensures c.in_ok-push_names.ensures c.in_ok-push.ensures c.in_ok-push_pool.ensures in
     let long = ap (λ w. length w) same in
     (same, omega (arith, long, size, c.in_ok-size.ensures.1))

@@ -2,7 +2,7 @@ use Rattle.std.proofs.Common.{◌≡◌, ◌+◌, ◌∙◌, ℕ, map, sym, ap}
 use Rattle.std.specs.Prelude.{Contains}
 use Rattle.index_model.specs.NameIndex.{row_lt, row_eq}
 use Rattle.index_model.specs.Ordered.{place_of}
-use Rattle.debugnames_write.specs.Order.{Rises}
+use Rattle.index_model.specs.Order.{Rises}
 use Rattle.debugnames_write.specs.Rows.{row_seen}
 use Rattle.debugnames_write.proofs.RowLaws.{row_place}
 use Rattle.debugnames_write.proofs.abbreviations.Abbreviations.code.Goals as goal

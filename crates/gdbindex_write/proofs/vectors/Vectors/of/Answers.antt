@@ -2,6 +2,7 @@ use Rattle.std.proofs.Common.{◌≡◌, ℕ, ◌<◌, Bool, true, false, not, r
 use Rattle.std.specs.Prelude.{slice_range, bytes_eq}
 use Rattle.std.specs.List.{list_any, position_or_len}
 use Rattle.std.proofs.lemmas.List.{get_or-map, length-map, map_push}
+use Rattle.std.proofs.lemmas.Bool.{not-true}
 use denote.Ref.{Bor}
 use Rattle.gdbindex_write.specs.declared.symbols.Symbol.{Symbol}
 use Rattle.gdbindex_write.specs.Pools.{vectors_seen}
@@ -10,10 +11,6 @@ use Rattle.gdbindex_write.proofs.PartLaws.{no_symbol}
 use Rattle.gdbindex_write.proofs.VectorLaws.{no_distinct, set_more, new_more, old_more, numbers_more}
 use Rattle.gdbindex_write.proofs.vectors.Vectors.of.Goals as goal
 use Rattle.gdbindex_write.proofs.vectors.Vectors.of.Goals.{then-is_new+in_ok-push, else-is_new}
-
-flipped : (b : Bool) → not b ≡ true → b ≡ false
-flipped true e = absurd cc
-flipped false e = refl
 
 kept : (b : Bool) → not b ≡ false → b ≡ true
 kept true e = refl
@@ -46,7 +43,7 @@ loop-symbol-preserved c =
       set = c.in_ok-number.ensures.set ∙ set_more all (vectors_seen c.loop-symbol.set.keys) i v lt is inv.set;
       made = elim c.if-is_new.branch [
         | then-is_new+in_ok-push w ↦ (
-            let none = flipped (list_any (bytes_eq v) (vectors_seen c.loop-symbol.set.keys)) (sym is_new ∙ w.if-is_new.true) in
+            let none = not-true (list_any (bytes_eq v) (vectors_seen c.loop-symbol.set.keys)) (sym is_new ∙ w.if-is_new.true) in
             let apart = ap (list_any (bytes_eq v)) both ∙ none in
             rw (w.distinct-is, w.in_ok-push.ensures.items, map_push (λ (b : Bor (List ℕ)). b.now) c.loop-symbol.distinct.items) (new_more all (vectors_seen c.loop-symbol.distinct.items) i v lt is inv.made apart))
         | else-is_new w ↦ (

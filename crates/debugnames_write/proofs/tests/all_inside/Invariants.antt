@@ -1,6 +1,0 @@
-use Rattle.std.proofs.Common.{All, take}
-use Rattle.debugnames_write.specs.Conditions.{IsInside}
-use Rattle.debugnames_write.proofs.tests.all_inside.Given as goal
-
-abbrev pub invariant-loop-entry : goal.invariant-loop-entry
-invariant-loop-entry l = All (IsInside l.units) (take l.entry-index l.entries)
