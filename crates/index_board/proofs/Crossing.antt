@@ -5,7 +5,7 @@ use Rattle.std.proofs.Crossing.{crosses}
 use Rattle.atomic_table.proofs.shared.Shared.TheSendSync as shared
 use Rattle.atomic_table.proofs.shared.Seat.TheSendSync as seat
 use Rattle.atomic_table.proofs.send_lease.SendLease.TheSendSync as lease
-use Rattle.unit_headers.specs.contracts.image.Image as Image
+use Rattle.file_image.specs.contracts.image.Image as Image
 use Rattle.stage_core.proofs.Crossing.{core_send, parts_held}
 use Rattle.index_board.specs.contracts.board.Board as Board
 use Rattle.index_board.specs.contracts.reader.Reader as Reader

@@ -1,9 +1,8 @@
 -- Published parts are what the file means, kept ones stay so, and replies by them are those of the file.
-use Rattle.std.proofs.Common.{◌≡◌, ◌<◌, ◌≤◌, ℕ, true, false, ltb, leb, List, Option, Some, None, Result, Ok, Err, IsSome, refl, ap, sym, subst, ◌∙◌, arith, ⊎_elim}
+use Rattle.std.proofs.Common.{◌≡◌, ◌<◌, ◌≤◌, ℕ, true, List, Option, Some, None, Result, Ok, Err, IsSome, refl, ap, sym, subst, ◌∙◌, arith, ⊎_elim}
 use Rattle.std.specs.Prelude.{option_map, is_some, IfSome, IsSomeAnd, IsOkAnd, OnOk}
 use Rattle.std.specs.Option.{option_or}
-use Rattle.std.proofs.lemmas.Bool.{or_cases, lt-ltb}
-use Rattle.std.proofs.lemmas.Bool.Decides.{nat_tests}
+use Rattle.std.proofs.lemmas.Bool.{or_cases, lt-ltb, le-ltb, lt-leb, le-leb}
 use mathlib.Core.Logic.{dite}
 use native.Mathlib.Decide.{dec_lt}
 use Rattle.ix_base.specs.declared.fault.Fault.{Fault}
@@ -24,6 +23,7 @@ use Rattle.index_model.specs.Queries.{Query, AskName, AskSimple, AskAddress, Ask
 use Rattle.index_model.specs.Ranges.{unit_at}
 use Rattle.index_model.specs.Stages.{IsReachable}
 use Rattle.index_model.proofs.StageLaws.{order, last}
+use Rattle.index_model.proofs.CoreRight.{no_fault, fault_is, at_built, need_low, need_high}
 use Rattle.stage_core.specs.Machines.{Machine, FitsFile, stage_of}
 use Rattle.index_board.specs.Kept.{AreOf, HasPublished, filled, answers}
 use Rattle.index_board.specs.Marks.{file_reply, IsReady}
@@ -61,14 +61,6 @@ module _ {A : Type 0} where
   ok_of : (r : Result A Fault) (P : A → Type 0) → IsOkAnd r P → (x : A) × (r ≡ Ok x)
   ok_of (Ok x) P h = (x, refl)
   ok_of (Err f) P h = absurd h
-
-  none_wrong : (r : Result A Fault) → wrong_in r ≡ None → (x : A) × (r ≡ Ok x)
-  none_wrong (Ok x) e = (x, refl)
-  none_wrong (Err f) e = absurd cc
-
-  wrong_is : (r : Result A Fault) (f : Fault) → wrong_in r ≡ Some f → r ≡ Err f
-  wrong_is (Ok x) f e = absurd cc
-  wrong_is (Err g) f e = let same : g ≡ f = cc in ap (λ (f : Fault). Err f) same
 
   not_both : (r : Result A Fault) (x : A) → r ≡ Ok x → IsSome (wrong_in r) → ⊥
   not_both (Ok y) x is some = absurd cc
@@ -142,21 +134,7 @@ filled_published n p q h = record {
 
 -- ---- where there is a reply by the parts
 
-need_low : (q : Query) → 1 ≤ need_of q
-need_low (AskName name) = omega arith
-need_low (AskSimple name) = omega arith
-need_low (AskAddress a) = omega arith
-need_low AskMain = omega arith
-need_low AskCache = omega arith
-
-need_high : (q : Query) → need_of q ≤ 3
-need_high (AskName name) = omega arith
-need_high (AskSimple name) = omega arith
-need_high (AskAddress a) = omega arith
-need_high AskMain = omega arith
-need_high AskCache = omega arith
-
--- a stage is below the need, 1 to 3, 4, or above
+-- a stage is below the need, 1 to 3, 4, or lt-leb
 by_stage : {R : Type 0} (q : Query) (n : ℕ) → (n < need_of q → R) → (need_of q ≤ n → n ≤ 3 → R) → (n ≡ 4 → R) → (4 < n → R) → R
 by_stage q n below answers refuses stops = dite (dec_lt n (need_of q)) below
     (λ (no : ¬ (n < need_of q)). dite (dec_lt 3 n)
@@ -233,31 +211,19 @@ module _ (s : Subject) where
       by_cache (Some c) h some = ok_of (built_of s.file) _ h
 
   module _ (b : Built) (is : built_of s.file ≡ Ok b) where
-    at_built : (P : Built → Type 0) → IsOkAnd (built_of s.file) P → P b
-    at_built P h = subst (λ (r : Result Built Fault). IsOkAnd r P) is h
-
     by_part : {X : Type 0} (o : Option X) (P : X → Type 0) (f : X → Answer) (goal : Answer) → IfSome o P → ((x : X) → P x → f x ≡ goal) → (a : Answer) → option_map f o ≡ Some a → a ≡ goal
     by_part None P f goal some gives a is = absurd cc
     by_part (Some x) P f goal some gives a is = sym (some_is (f x) a is) ∙ gives x some
 
     answers_as : (p : Parts) (q : Query) → AreOf s p → (a : Answer) → answer_by p q ≡ Some a → a ≡ answer_to b (size_of (cache_in s.cache b)) q
     unfolding answer_to
-    answers_as p (AskName name) h a e = by_part p.table (λ es. Makes s Merge (TableOf es)) _ _ h.table (λ es k. ap (λ (es : List Entry). Entries es (places (is_named name) es)) (at_built (λ b. es ≡ entries_in b) k)) a e
-    answers_as p (AskSimple name) h a e = by_part p.table (λ es. Makes s Merge (TableOf es)) _ _ h.table (λ es k. ap (λ (es : List Entry). Entries es (places (is_simply_named name) es)) (at_built (λ b. es ≡ entries_in b) k)) a e
-    answers_as p (AskAddress at) h a e = by_part p.summary (λ m. Makes s Main (SummaryOf m)) _ _ h.summary (λ m k. let here = at_built (λ b. (m.main ≡ main_of b.program b.links) × IsPieces b.ranges m.map) k in ap (λ (u : Option ℕ). InUnit u) (here.1.same at)) a e
-    answers_as p AskMain h a e = by_part p.summary (λ m. Makes s Main (SummaryOf m)) _ _ h.summary (λ m k. let here = at_built (λ b. (m.main ≡ main_of b.program b.links) × IsPieces b.ranges m.map) k in ap (λ (m : Option MainOf). MainIs m) here.0) a e
-    answers_as p AskCache h a e = by_part p.cache (λ c. Makes s Write (CacheOf c)) _ _ h.cache (λ c k. ap (λ (c : Cache). CacheIs (size_of c)) (at_built (λ b. c ≡ cache_in s.cache b) k)) a e
+    answers_as p (AskName name) h a e = by_part p.table (λ es. Makes s Merge (TableOf es)) _ _ h.table (λ es k. ap (λ (es : List Entry). Entries es (places (is_named name) es)) (at_built s b is (λ b. es ≡ entries_in b) k)) a e
+    answers_as p (AskSimple name) h a e = by_part p.table (λ es. Makes s Merge (TableOf es)) _ _ h.table (λ es k. ap (λ (es : List Entry). Entries es (places (is_simply_named name) es)) (at_built s b is (λ b. es ≡ entries_in b) k)) a e
+    answers_as p (AskAddress at) h a e = by_part p.summary (λ m. Makes s Main (SummaryOf m)) _ _ h.summary (λ m k. let here = at_built s b is (λ b. (m.main ≡ main_of b.program b.links) × IsPieces b.ranges m.map) k in ap (λ (u : Option ℕ). InUnit u) (here.1.same at)) a e
+    answers_as p AskMain h a e = by_part p.summary (λ m. Makes s Main (SummaryOf m)) _ _ h.summary (λ m k. let here = at_built s b is (λ b. (m.main ≡ main_of b.program b.links) × IsPieces b.ranges m.map) k in ap (λ (m : Option MainOf). MainIs m) here.0) a e
+    answers_as p AskCache h a e = by_part p.cache (λ c. Makes s Write (CacheOf c)) _ _ h.cache (λ c k. ap (λ (c : Cache). CacheIs (size_of c)) (at_built s b is (λ b. c ≡ cache_in s.cache b) k)) a e
 
 -- ---- the file's replies
-
-not_below : (n need : ℕ) → need ≤ n → ltb n need ≡ false
-not_below n need le = grind (arith, nat_tests)
-
-at_most : (n m : ℕ) → n ≤ m → leb n m ≡ true
-at_most n m le = grind (arith, nat_tests)
-
-above : (n m : ℕ) → m < n → leb n m ≡ false
-above n m lt = grind (arith, nat_tests)
 
 module _ (s : Subject) (q : Query) (n : ℕ) where
   file_pending : n < need_of q → file_reply s q n ≡ Pending
@@ -266,28 +232,28 @@ module _ (s : Subject) (q : Query) (n : ℕ) where
 
   file_answered : (b : Built) → built_of s.file ≡ Ok b → need_of q ≤ n → n ≤ 3 → file_reply s q n ≡ Answered (answer_to b (size_of (cache_in s.cache b)) q)
   unfolding reply_at size_in
-  file_answered b is need low = rw (not_below n (need_of q) need, at_most n 4 (omega (arith, low))) (ap (λ (r : Result Built Fault). reply_of r (size_in s.cache r) q) is)
+  file_answered b is need low = rw (le-ltb n (need_of q) need, le-leb n 4 (omega (arith, low))) (ap (λ (r : Result Built Fault). reply_of r (size_in s.cache r) q) is)
 
   file_refused : (f : Fault) → built_of s.file ≡ Err f → n ≡ 4 → file_reply s q n ≡ Refused f
   unfolding reply_at size_in
-  file_refused f is four = rw (not_below n (need_of q) (omega (arith, four, need_high q)), at_most n 4 (omega (arith, four))) (ap (λ (r : Result Built Fault). reply_of r (size_in s.cache r) q) is)
+  file_refused f is four = rw (le-ltb n (need_of q) (omega (arith, four, need_high q)), le-leb n 4 (omega (arith, four))) (ap (λ (r : Result Built Fault). reply_of r (size_in s.cache r) q) is)
 
   file_stopped : 4 < n → file_reply s q n ≡ Stopped
   unfolding reply_at
-  file_stopped lt = rw (not_below n (need_of q) (omega (arith, lt, need_high q)), above n 4 lt) refl
+  file_stopped lt = rw (le-ltb n (need_of q) (omega (arith, lt, need_high q)), lt-leb n 4 lt) refl
 
 -- a reply by kept parts is that of the file
 pub kept_replies : (s : Subject) (p : Parts) (q : Query) (n : ℕ) → AreOf s p → FitsFile s n → (r : Reply) → Some r ≡ reply_by p q n → r ≡ file_reply s q n
 kept_replies s p q n h fits r is = by_stage q n
     (λ lt. some_is r Pending (is ∙ sym (pending p q n lt)) ∙ sym (file_pending s q n lt))
     (λ need low.
-    let built = none_wrong (built_of s.file) (fits.accepted (omega (arith, need, need_low q)) low) in
+    let built = no_fault (built_of s.file) (fits.accepted (omega (arith, need, need_low q)) low) in
     let found = mapped Answered (answer_by p q) r (is ∙ sym (answered p q n need low (answer_by p q) refl)) in
     found.2 ∙ (ap (λ (a : Answer). Answered a) (answers_as s built.0 built.1 p q h found.0 found.1) ∙ sym (file_answered s q n built.0 built.1 need low)))
     (λ four.
     let found = mapped Refused p.fault r (is ∙ sym (refused p q n (omega (arith, four, need_high q)) four)) in
     let first : first_fault s.file ≡ Some found.0 = at_some p.fault (λ f. first_fault s.file ≡ Some f) found.0 h.fault found.1 in
-    found.2 ∙ sym (file_refused s q n found.0 (wrong_is (built_of s.file) found.0 first) four))
+    found.2 ∙ sym (file_refused s q n found.0 (fault_is (built_of s.file) found.0 first) four))
     (λ lt. some_is r Stopped (is ∙ sym (stopped p q n (omega (arith, lt, need_high q)) lt)) ∙ sym (file_stopped s q n lt))
 
 -- where kept parts answer a query, they have a reply at each stage that fits the file
@@ -300,7 +266,7 @@ kept_reply s p q n h fits some = ⊎_elim by_fault by_answer (or_cases (is_some 
 
     by_fault : is_some p.fault ≡ true → IsSome (reply_by p q n)
     by_fault there = by_stage q n (pending_there p q n)
-        (λ need low. let built = none_wrong (built_of s.file) (fits.accepted (omega (arith, need, need_low q)) low) in absurd (not_both (built_of s.file) built.0 built.1 (first p.fault h.fault there)))
+        (λ need low. let built = no_fault (built_of s.file) (fits.accepted (omega (arith, need, need_low q)) low) in absurd (not_both (built_of s.file) built.0 built.1 (first p.fault h.fault there)))
         (λ four. fault_there p q n four there) (stop_there p q n)
 
     by_answer : is_some (answer_by p q) ≡ true → IsSome (reply_by p q n)

@@ -1,17 +1,11 @@
 -- The reply by the parts, by the place of the stage.
-use Rattle.std.proofs.Common.{◌≡◌, ℕ, ◌<◌, ◌≤◌, false, ltb, leb, eqb, Option, Some, refl, ap, arith}
+use Rattle.std.proofs.Common.{◌≡◌, ℕ, ◌<◌, ◌≤◌, false, eqb, Option, Some, refl, ap, arith}
 use Rattle.std.specs.Prelude.{option_map}
-use Rattle.std.proofs.lemmas.Bool.{lt-ltb, le-leb, eq-eqb}
+use Rattle.std.proofs.lemmas.Bool.{lt-ltb, le-leb, eq-eqb, le-ltb, lt-leb}
 use Rattle.std.proofs.lemmas.Bool.Decides.{nat_tests}
 use Rattle.index_model.specs.Answers.{Answer, Answered, Pending, Refused, Stopped}
 use Rattle.index_model.specs.Parts.{Parts, answer_by, reply_by}
 use Rattle.index_model.specs.Queries.{Query, need_of}
-
-not_below : (n need : ℕ) → need ≤ n → ltb n need ≡ false
-not_below n need le = grind (arith, nat_tests)
-
-above : (n m : ℕ) → m < n → leb n m ≡ false
-above n m lt = grind (arith, nat_tests)
 
 apart : (n m : ℕ) → m < n → eqb n m ≡ false
 apart n m lt = grind (arith, nat_tests)
@@ -24,12 +18,12 @@ module _ (p : Parts) (q : Query) (stage : ℕ) where
   module _ (need : need_of q ≤ stage) where
     pub answered : stage ≤ 3 → (o : Option Answer) → o ≡ answer_by p q → option_map Answered o ≡ reply_by p q stage
     unfolding reply_by
-    answered le o is = rw (not_below stage (need_of q) need, le-leb stage 3 le) (ap (option_map Answered) is)
+    answered le o is = rw (le-ltb stage (need_of q) need, le-leb stage 3 le) (ap (option_map Answered) is)
 
     pub refused : stage ≡ 4 → option_map Refused p.fault ≡ reply_by p q stage
     unfolding reply_by
-    refused is = rw (not_below stage (need_of q) need, above stage 3 (omega (arith, is)), eq-eqb stage 4 is) refl
+    refused is = rw (le-ltb stage (need_of q) need, lt-leb stage 3 (omega (arith, is)), eq-eqb stage 4 is) refl
 
     pub stopped : 4 < stage → Some Stopped ≡ reply_by p q stage
     unfolding reply_by
-    stopped lt = rw (not_below stage (need_of q) need, above stage 3 (omega (arith, lt)), apart stage 4 lt) refl
+    stopped lt = rw (le-ltb stage (need_of q) need, lt-leb stage 3 (omega (arith, lt)), apart stage 4 lt) refl

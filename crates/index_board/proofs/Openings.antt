@@ -7,8 +7,8 @@ use Rattle.index_model.specs.Meaning.{◌>>=◌}
 use Rattle.index_model.specs.Sections.{Section, sections_of}
 use Rattle.index_model.specs.Units.{units_of}
 use Rattle.stage_core.specs.Cut.{HasUnits}
-use Rattle.unit_headers.specs.Images.{Image, image_of}
-use Rattle.unit_headers.proofs.Images.{parts_of}
+use Rattle.file_image.specs.Images.{Image, image_of}
+use Rattle.file_image.proofs.Images.{parts_of}
 
 module _ (file : List ℕ) (f : Fault) where
   abbrev made : List Section → List UnitHeader → Image

@@ -6,7 +6,7 @@ use Rattle.ix_base.specs.declared.fault.Fault.{Fault}
 use Rattle.index_model.specs.declared.unit.Unit.{Unit as UnitHeader}
 use Rattle.index_model.specs.Machine.{IsCut}
 use Rattle.index_model.specs.Stages.{initial, refused}
-use Rattle.unit_headers.specs.Images.{Image, image_of}
+use Rattle.file_image.specs.Images.{Image, image_of}
 
 -- the stage of a board without a turn: 4 where the sections or headers have a fault, else 0
 abbrev pub stage_at_start : Result Image Fault → ℕ

@@ -2,7 +2,7 @@
 
 ghost use Rattle.std.specs.Prelude.{◌≡◌, ◌<◌, ◌≤◌, ◌++◌, ◌∷◌, [], Bool, false, length, max, IfOk, IfSome, IsTrue, option_map};
 ghost use Rattle.ix_base.specs.declared.limits.TheConstants.{MAX_FILE_BYTES};
-ghost use Rattle.unit_headers.specs.Images.{image_of};
+ghost use Rattle.file_image.specs.Images.{image_of};
 ghost use Rattle.index_model.specs.Outputs.{IsOutputOf};
 ghost use Rattle.index_model.specs.Stages.{IsReachable, stopped};
 ghost use Rattle.stage_lock.specs.Seen.{IsPassOf, first_pass, parted_pass, split_pass};
@@ -15,6 +15,7 @@ ghost use Rattle.index_board.specs.Kept.{no_parts};
 ghost use Rattle.index_board.specs.Turns.{Turn, drawn, finished, next_task};
 
 use crate::reader::Reader;
+use file_image::Image;
 use index_model::{CacheKind, Job};
 use ix_base::{NoMemory, Stop};
 use stage_core::{Core, Output, Task};
@@ -22,7 +23,6 @@ use stage_lock::StageLock;
 use std::alloc::Global;
 use std::marker::Model;
 use std::sync::Wait;
-use unit_headers::Image;
 
 /// The right of one thread to step on a board. It has no bytes.
 pub type Pass<'f> = stage_lock::Pass<Core<'f>>;
@@ -42,7 +42,7 @@ impl<'f> Model for Board<'f> {
 
     ghost Value = { Lock Subject };
 
-    ghost use Rattle.unit_headers.specs.Images.{image_of};
+    ghost use Rattle.file_image.specs.Images.{image_of};
     ghost use Rattle.index_board.specs.Boards.{IsImage};
 
     ghost view = { λ b. b.lock };

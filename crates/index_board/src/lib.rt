@@ -10,8 +10,6 @@ mod kept;
 mod poll;
 mod reader;
 mod reply;
-#[cfg(test)]
-mod tests;
 
 pub use board::{Board, Pass};
 pub use poll::Poll;

@@ -3,6 +3,7 @@ use Rattle.std.proofs.Common.{◌≡◌, ℕ, ◌+◌, ◌<◌, List, [], ◌∷
 use Rattle.std.specs.Prelude.{All, Contains}
 use Rattle.std.specs.List.{enumerate_from}
 use Rattle.std.proofs.lemmas.List.Elements.{Contains-get_or}
+use Rattle.common_laws.proofs.Members.{contains_cases, of_map, of_filter}
 use Rattle.ix_base.specs.declared.fault.Fault.{Fault}
 use Rattle.index_model.specs.declared.answer.CacheSize.{CacheSize}
 use Rattle.index_model.specs.declared.entry.Entry.{Entry}
@@ -11,8 +12,6 @@ use Rattle.index_model.specs.Faults.{Built, built_of}
 use Rattle.index_model.specs.Cache.{size_in}
 use Rattle.index_model.specs.Outputs.{Subject}
 use Rattle.index_model.specs.Queries.{Query, AskName, AskSimple, AskAddress, AskMain, AskCache, need_of}
-use Rattle.index_model.proofs.Meanings.{contains_cases}
-use Rattle.index_model.proofs.Pairs.{of_map, of_filter}
 use Rattle.index_board.specs.Marks.{file_reply}
 use Rattle.query_text.specs.Places.{PlacesFit, PlacesFitAnswer}
 

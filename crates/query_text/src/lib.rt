@@ -17,8 +17,6 @@ mod query;
 mod reply;
 mod send;
 mod sessions;
-#[cfg(test)]
-mod tests;
 mod texts;
 mod waiting;
 

@@ -40,6 +40,15 @@ listed : {A : Type 0} (o : Option A) (xs : List A) → cons_option o xs ≡ opti
 listed None xs = refl
 listed (Some x) xs = refl
 
+-- what the next slot holds is added
+pub shared_more : {B : Type 0} (f : Made → Option B) (slots : List (Option Brought)) (i : ℕ) (slot : Option Brought) (old new : List B) (o : Option B) → i < length slots → slot ≡ get_or slots i slot → o ≡ made_as f slot →
+    new ≡ old ++ option_to_list o → new ++ filter_map f (made_of_slots (drop (i + 1) slots)) ≡ old ++ filter_map f (made_of_slots (drop i slots))
+shared_more f slots i slot old new o lt is made added =
+    let rest = filter_map f (made_of_slots (drop (i + 1) slots)) in
+    let next : filter_map f (made_of_slots (drop i slots)) ≡ option_to_list o ++ rest =
+    next_made f slots i slot lt is ∙ (listed (made_as f slot) rest ∙ ap (λ o. option_to_list o ++ rest) (sym made)) in
+    rw (added, next, append_assoc) refl
+
 pub moved_more : (slots : List (Option Brought)) (i : ℕ) (slot empty : Option Brought) (runs : List (List Entry)) (o : Option (List Entry)) → i < length slots → slot ≡ get_or slots i slot → o ≡ made_as run_in slot →
     (runs ++ option_to_list o) ++ filter_map run_in (made_of_slots (drop (i + 1) (slice_set slots i empty))) ≡ runs ++ filter_map run_in (made_of_slots (drop i slots))
 moved_more slots i slot empty runs o lt is made =

@@ -2,7 +2,7 @@
 use Rattle.std.proofs.Common.{◌≡◌, ◌<◌, ℕ, zero, suc, Bool, true, false, ◌&&◌, cond, ltb, eqb, List, [], ◌∷◌, length, Option, Some, None, IsSome, option_map, refl, ap, arith, add-zero}
 use Rattle.std.specs.Prelude.{slice_get, is_none}
 use Rattle.std.specs.List.{list_any}
-use Rattle.std.proofs.lemmas.Bool.{ltb-true}
+use Rattle.std.proofs.lemmas.Bool.{ltb-true, and_parts}
 use Rattle.ix_base.specs.declared.fault.Fault.{Fault}
 use Rattle.ix_base.specs.Reading.{◌>>=◌ as ◌>>=?◌}
 use Rattle.index_model.specs.declared.job.Job.{Job}
@@ -10,7 +10,7 @@ use Rattle.index_model.specs.declared.job.Job.TheVariants.{Scan, Link, Main, Nam
 use Rattle.index_model.specs.Machine.{Row, JobPlace, job_at, jobs_at, Output, State, End, Going, Stopped, Refused, is_going, is_stopped}
 use Rattle.index_model.specs.MachineEvents.{has_next, next_job, after_draw, is_running, is_open}
 use Rattle.index_model.specs.Outputs.{Subject, Made}
-use Rattle.index_model.proofs.MachineOnce.{both, open_not_done}
+use Rattle.index_model.proofs.MachineOnce.{open_not_done}
 use Rattle.stage_core.specs.Inputs.{handed}
 use Rattle.stage_core.specs.declared.stock.Stock.{Stock}
 use Rattle.stage_core.specs.declared.stock.Stock.TheVariants as stocks
@@ -47,12 +47,12 @@ module _ {A : Type 0} (f : Job → A) (plan : List Row) where
       by : (b : Bool) → has_next t ≡ b → option_map f (cond b (Some (record { kind = length t.closed; number = t.drawn })) None >>=? job_at plan) ≡ None → b ≡ false
       by false is e = refl
       by true is e =
-          let parts = both (is_going t.end) (ltb t.drawn (length t.brought)) is in
+          let parts = and_parts (is_going t.end) (ltb t.drawn (length t.brought)) is in
           let lt : t.drawn < length t.brought = ltb-true t.drawn (length t.brought) parts.1 in
           absurd (there (job_at plan (record { kind = length t.closed; number = t.drawn })) (row_there plan (record { kind = length t.closed; number = t.drawn }) (omega (arith, lt, slots parts.0))) e)
 
 pub next_within : (t : State Made) → has_next t ≡ true → t.drawn < length t.brought
-next_within t e = ltb-true t.drawn (length t.brought) (both (is_going t.end) (ltb t.drawn (length t.brought)) e).1
+next_within t e = ltb-true t.drawn (length t.brought) (and_parts (is_going t.end) (ltb t.drawn (length t.brought)) e).1
 
 pub draws : (t : State Made) → has_next t ≡ true → record t { drawn = suc t.drawn } ≡ after_draw t
 draws t e = rw e refl
@@ -90,7 +90,7 @@ pub record Runs (t : State Made) (place : JobPlace) : Type 0 where
 
 pub runs : (t : State Made) (place : JobPlace) → is_running t place ≡ true → Runs t place
 runs t place running =
-    let parts = both (eqb place.kind (length t.closed) && ltb place.number t.drawn) (is_open (slice_get t.brought place.number)) running in
+    let parts = and_parts (eqb place.kind (length t.closed) && ltb place.number t.drawn) (is_open (slice_get t.brought place.number)) running in
     let at = (open_not_done (slice_get t.brought place.number) parts.1).1 in
     record { slot = at; unfinished = any_none t.brought place.number at }
 

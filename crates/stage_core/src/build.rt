@@ -3,16 +3,18 @@
 ghost use Rattle.std.specs.Prelude.{◌≡◌, ◌<◌, true, false, is_none, length, option_map, IfOk, if◌then◌else◌};
 ghost use Rattle.std.specs.List.{list_any};
 ghost use Rattle.index_model.specs.Machine.{Refused, Stopped, place_of_job, is_going, level, stage, plan_for, machine_start, refused_start};
-ghost use Rattle.index_model.specs.MachineEvents.{after_draw, after_finish, decided, next_job};
+ghost use Rattle.index_model.specs.MachineEvents.{after_draw, after_finish, decided, is_running, next_job};
+ghost use Rattle.stage_core.specs.Brought.{brought_seen};
 ghost use Rattle.stage_core.specs.Build.{Fits, IsOpen, SameSubject, subject_of, plan_of_build};
 ghost use Rattle.stage_core.specs.Cut.{units_in};
 ghost use Rattle.stage_core.specs.Inputs.{handed};
 ghost use Rattle.stage_core.specs.Outputs.{output_seen};
+ghost use Rattle.stage_core.specs.Place.{place_seen};
 ghost use Rattle.stage_core.specs.Tasks.{task_seen};
 
 use crate::brought::Brought;
 use crate::output::{Output, Parts};
-use crate::place::place_of;
+use crate::place::{Place, place_of};
 use crate::progress::Progress;
 use crate::stock::Stock;
 use crate::task::Task;
@@ -140,7 +142,17 @@ impl<'f> Build<'f> {
         if !self.progress.is_running(place) {
             return false;
         }
-        let brought = Brought::share(alloc, output);
+        self.bring(alloc, place, Brought::share(alloc, output))
+    }
+
+    // Takes what a running job brought. Answers whether memory was refused here.
+    fn bring(&mut self, alloc: Global, place: Place, brought: Brought<'f>) -> bool
+        requires fits { Fits self.old }
+        requires running { is_running self.old.progress (place_seen place) ≡ true }
+        ensures state { self.new.progress ≡ after_finish (plan_of_build self.old) self.old.progress (place_seen place) (brought_seen brought.entry) result }
+        ensures fits { Fits self.new }
+        ensures subject { SameSubject self.old self.new }
+    {
         let lost = brought.is_lost();
         self.progress.bring(place.number, brought);
         if self.progress.is_stopped() {

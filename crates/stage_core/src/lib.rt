@@ -18,8 +18,6 @@ mod stages;
 mod stock;
 mod task;
 mod tasks;
-#[cfg(test)]
-mod tests;
 
 pub use machine::{Core, core_is_right};
 pub use output::{Cache, Output, Parts, Summary};

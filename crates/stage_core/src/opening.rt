@@ -8,11 +8,10 @@ ghost use Rattle.stage_core.specs.Inputs.{shard_in, linked_in as link_in, made_b
 ghost use Rattle.stage_core.specs.Tasks.{AreTasks};
 
 use crate::build::Build;
-use crate::output::share;
 use crate::slots::{cache_in, linked_in, move_runs, shards_in, summary_in, table_in};
 use crate::stock::Stock;
 use crate::task::{Input, Task};
-use crate::tasks::{Shards, Tasks, link_tasks, name_tasks, only_task, place_task};
+use crate::tasks::{Shards, Tasks, link_tasks, main_task, name_tasks, place_task, write_task};
 use index_model::Job;
 use std::alloc::{AllocError, Global};
 use std::collections::VecDeque;
@@ -70,9 +69,7 @@ impl<'f> Build<'f> {
         ensures same { OnErr result (self.new ≡ self.old) }
     {
         let linked = Arc::new(alloc, linked_in(alloc, self.progress.brought())?)?;
-        let input = Input::Links(Arc::try_clone(&shards)?, Arc::try_clone(&linked)?);
-        let job = Job::Main;
-        let tasks = only_task(alloc, Task { job, input })?;
+        let tasks = main_task(alloc, &shards, &linked)?;
         let _brought = self.progress.close(alloc, 1)?;
         self.tasks = tasks;
         self.stock = Stock::Main(shards, linked);
@@ -123,11 +120,7 @@ impl<'f> Build<'f> {
         ensures same { OnErr result (self.new ≡ self.old) }
     {
         let table = table_in(self.progress.brought())?;
-        let mut published = self.parts.share()?;
-        published.table = share(&table)?;
-        let job = Job::Write;
-        let input = Input::Published(published, self.cache);
-        let tasks = only_task(alloc, Task { job, input })?;
+        let tasks = write_task(alloc, &self.parts, &table, self.cache)?;
         let _brought = self.progress.close(alloc, 1)?;
         self.parts.table = table;
         self.tasks = tasks;

@@ -1,8 +1,9 @@
 //! What the jobs of a kind brought.
 
-ghost use Rattle.std.specs.Prelude.{◌≡◌, ◌≤◌, ◌+◌, ◌++◌, length, is_none, not, option_map, map, filter_map, slice_get, replicate, vec_len, vec_capacity, IfOk, None};
+ghost use Rattle.std.specs.Prelude.{◌≡◌, ◌≤◌, ◌+◌, ◌++◌, length, is_none, not, option_map, map, filter_map, slice_get, replicate, vec_len, vec_capacity, IfOk, OnOk, None};
 ghost use Rattle.std.specs.Arc.{arc_value};
 ghost use Rattle.std.specs.List.{list_any};
+ghost use Rattle.std.specs.Option.{option_to_list};
 ghost use Rattle.index_model.specs.MachineEvents.{least_fault as least_fault_of, fault_in as fault_of};
 ghost use Rattle.index_model.specs.Parts.{summary_in as summary_made, table_in as table_made, index_in as index_made};
 ghost use Rattle.stage_core.specs.Inputs.{shard_in, linked_in as link_in, run_in};
@@ -77,9 +78,7 @@ pub(crate) fn shards_in<'f>(
 {
     let mut shards = Vec::with_capacity(alloc, slots.len())?;
     for slot in slots {
-        if let Some(shard) = shard_of(slot) {
-            shards.push(Arc::try_clone(shard)?)?;
-        }
+        push_shared(&mut shards, shard_of(slot))?;
     }
     Ok(shards)
 }
@@ -94,11 +93,19 @@ pub(crate) fn linked_in<'f>(
 {
     let mut all = Vec::with_capacity(alloc, slots.len())?;
     for slot in slots {
-        if let Some(linked) = linked_of(slot) {
-            all.push(Arc::try_clone(linked)?)?;
-        }
+        push_shared(&mut all, linked_of(slot))?;
     }
     Ok(all)
+}
+
+// Adds what a job made, if it did, shared once more.
+fn push_shared<T: Drop>(all: &mut Vec<Arc<T>>, made: Option<&Arc<T>>) -> Result<(), AllocError>
+    ensures { OnOk result (map arc_value all.new.items ≡ map arc_value all.old.items ++ option_to_list (option_map (λ a. arc_value a.now) made.entry)) }
+{
+    if let Some(made) = made {
+        all.push(Arc::try_clone(made)?)?;
+    }
+    Ok(())
 }
 
 /// Moves the runs that jobs made behind others. There is room for them.

@@ -1,15 +1,18 @@
 //! The tasks of the kinds with many jobs.
 
-ghost use Rattle.std.specs.Prelude.{◌≡◌, ◌++◌, ◌∷◌, ◌<◌, ◌^◌, ℕ, List, [], length, take, flat_map, slice_get, unwrap_or, map, IfOk};
+ghost use Rattle.std.specs.Prelude.{◌≡◌, ◌+◌, ◌++◌, ◌∷◌, ◌<◌, ◌^◌, ℕ, List, [], length, take, flat_map, slice_get, unwrap_or, map, option_map, IfOk};
 ghost use Rattle.std.specs.Arc.{arc_value};
 ghost use Rattle.std.specs.VecDeque.{deque_len, deque_capacity};
 ghost use Rattle.index_model.specs.declared.unit.Unit.{Unit as UnitHeader};
 ghost use Rattle.stage_core.specs.Cut.{cut};
-ghost use Rattle.stage_core.specs.Inputs.{UnitsOf, ScansOf, LinksOf, Handed};
+ghost use Rattle.stage_core.specs.Inputs.{UnitsOf, ScansOf, LinksOf, PublishedOf, Handed};
+ghost use Rattle.stage_core.specs.Outputs.{parts_seen};
 ghost use Rattle.stage_core.specs.Tasks.{AreTasks, task_seen};
 
+use crate::output::{Parts, share};
 use crate::task::{Input, Task};
-use index_model::{Job, Linked, Shard};
+use index_model::{CacheKind, Job, Linked, Shard};
+use query_engine::Table;
 use std::alloc::{AllocError, Global};
 use std::collections::VecDeque;
 use std::sync::Arc;
@@ -23,19 +26,21 @@ pub(crate) type Shards<'f> = Arc<Vec<Arc<Shard<'f>>>>;
 /// Links, shared as one list.
 pub(crate) type Links<'f> = Arc<Vec<Arc<Linked<'f>>>>;
 
-/// One task.
-pub(crate) fn only_task<'f>(alloc: Global, task: Task<'f>) -> Result<Tasks<'f>, AllocError>
+// One task.
+fn only_task<'f>(alloc: Global, task: Task<'f>) -> Result<Tasks<'f>, AllocError>
     ensures { IfOk result (λ tasks. AreTasks tasks.items 1 (λ _. task_seen task.entry)) }
 {
     let mut tasks = VecDeque::with_capacity(alloc, 1)?;
-    tasks.push_back(task)?;
+    place_task(&mut tasks, task);
     Ok(tasks)
 }
 
 /// Places a task behind the others. There is room for it.
 pub(crate) fn place_task<'f>(tasks: &mut Tasks<'f>, task: Task<'f>)
     requires { deque_len tasks.old < deque_capacity tasks.old }
-    ensures { tasks.new.items ≡ tasks.old.items ++ task.entry ∷ [] }
+    ensures placed { tasks.new.items ≡ tasks.old.items ++ task.entry ∷ [] }
+    ensures size { deque_len tasks.new ≡ deque_len tasks.old + 1 }
+    ensures room { deque_capacity tasks.new ≡ deque_capacity tasks.old }
 {
     let _ = tasks.push_back(task);
 }
@@ -69,10 +74,9 @@ pub(crate) fn link_tasks<'f>(
 {
     let mut tasks = VecDeque::with_capacity(alloc, runs as usize)?;
     for run in 0..runs {
-        tasks.push_back(Task {
-            job: Job::Link(run),
-            input: Input::Scans(Arc::try_clone(shards)?),
-        })?;
+        let job = Job::Link(run);
+        let input = Input::Scans(Arc::try_clone(shards)?);
+        place_task(&mut tasks, Task { job, input });
     }
     Ok(tasks)
 }
@@ -89,10 +93,40 @@ pub(crate) fn name_tasks<'f>(
 {
     let mut tasks = VecDeque::with_capacity(alloc, runs as usize)?;
     for run in 0..runs {
-        tasks.push_back(Task {
-            job: Job::Name(run),
-            input: Input::Links(Arc::try_clone(shards)?, Arc::try_clone(linked)?),
-        })?;
+        let job = Job::Name(run);
+        let input = Input::Links(Arc::try_clone(shards)?, Arc::try_clone(linked)?);
+        place_task(&mut tasks, Task { job, input });
     }
     Ok(tasks)
+}
+
+/// The task of the Main job.
+pub(crate) fn main_task<'f>(
+    alloc: Global,
+    shards: &Shards<'f>,
+    linked: &Links<'f>,
+) -> Result<Tasks<'f>, AllocError>
+    ensures { IfOk result (λ tasks. AreTasks tasks.items 1
+        (λ _. record { job = Job.Main; given = LinksOf (map arc_value (arc_value shards.now).items) (map arc_value (arc_value linked.now).items) })) }
+{
+    let job = Job::Main;
+    let input = Input::Links(Arc::try_clone(shards)?, Arc::try_clone(linked)?);
+    only_task(alloc, Task { job, input })
+}
+
+/// The task of the Write job, which is given what has been published, with this table.
+pub(crate) fn write_task<'f>(
+    alloc: Global,
+    parts: &Parts<'f>,
+    table: &Option<Arc<Table<'f>>>,
+    cache: CacheKind,
+) -> Result<Tasks<'f>, AllocError>
+    ensures { IfOk result (λ tasks. AreTasks tasks.items 1
+        (λ _. record { job = Job.Write; given = PublishedOf (record (parts_seen parts.now) { table = option_map arc_value table.now }) cache })) }
+{
+    let mut published = parts.share()?;
+    published.table = share(table)?;
+    let job = Job::Write;
+    let input = Input::Published(published, cache);
+    only_task(alloc, Task { job, input })
 }

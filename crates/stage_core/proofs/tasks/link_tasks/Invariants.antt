@@ -1,4 +1,4 @@
-use Rattle.std.proofs.Common.{map}
+use Rattle.std.proofs.Common.{◌≡◌, ◌≤◌, map, deque_len, deque_capacity}
 use Rattle.std.specs.Arc.{arc_value}
 use Rattle.index_model.specs.declared.job.Job.TheVariants.{Link}
 use Rattle.stage_core.specs.Inputs.{ScansOf}
@@ -6,4 +6,8 @@ use Rattle.stage_core.specs.Tasks.{AreTasks}
 use Rattle.stage_core.proofs.tasks.link_tasks.Given as goal
 
 abbrev pub invariant-loop-run : goal.invariant-loop-run
-invariant-loop-run l = AreTasks l.tasks.items l.run (λ k. record { job = Link k; given = ScansOf (map arc_value (arc_value l.shards).items) })
+invariant-loop-run l = record {
+  so_far : AreTasks l.tasks.items l.run (λ k. record { job = Link k; given = ScansOf (map arc_value (arc_value l.shards).items) });
+  size : deque_len l.tasks ≡ l.run;
+  room : l.runs ≤ deque_capacity l.tasks;
+}

@@ -1,7 +1,7 @@
 use Rattle.std.proofs.Common.{◌≡◌, Err, subst}
 use Rattle.ix_base.specs.declared.fault.Stop.{Stop}
 use Rattle.index_model.specs.Gives.{StopsAs}
-use Rattle.unit_headers.specs.Images.{image_of}
+use Rattle.file_image.specs.Images.{image_of}
 use Rattle.index_board.proofs.Openings.{image_fault}
 use Rattle.index_board.proofs.board.Board.open.Goals as goal
 

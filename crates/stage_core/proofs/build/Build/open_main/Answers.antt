@@ -3,12 +3,10 @@ use Rattle.std.specs.Prelude.{slice_get}
 use Rattle.index_model.specs.Machine.{Output}
 use Rattle.index_model.specs.MachineEvents.{made_in}
 use Rattle.index_model.specs.Outputs.{Made}
-use Rattle.index_model.specs.declared.job.Job.TheVariants.{Main}
 use Rattle.index_model.specs.declared.shard.Linked.{Linked}
 use Rattle.index_model.specs.declared.shard.Shard.{Shard}
 use Rattle.std.specs.Arc.{arc_value}
-use Rattle.stage_core.specs.Inputs.{LinksOf, shard_in, linked_in}
-use Rattle.stage_core.proofs.OpeningLaws.{other_tasks}
+use Rattle.stage_core.specs.Inputs.{shard_in, linked_in}
 use Rattle.stage_core.specs.declared.build.Build.{Build}
 use Rattle.stage_core.specs.declared.stock.Stock.TheVariants as stocks
 use Rattle.stage_core.specs.Build.{subject_of, IsStock}
@@ -27,9 +25,5 @@ returns-clause-opens c =
     let shards : List Shard = map arc_value (arc_value c.args.shards).items in
     let linked : List Linked = map arc_value (arc_value c.in_ok-linked.linked).items in
     let linked_is : linked ≡ filter_map linked_in ms = ap (λ v. map arc_value v.items) c.in_ok-linked.ensures.ok ∙ (c.in_ok-linked_in.ensures ∙ ap (λ (xs : List Made). filter_map linked_in xs) made) in
-    let tasks =
-    other_tasks c.in_ok-tasks.tasks.items 1 _ (λ _. record { job = Main; given = LinksOf shards linked })
-    (λ i. ap (λ v. record { job = Main; given = LinksOf (map arc_value v.items) (map arc_value (arc_value c.in_ok-try_clone-2.field-0).items) }) c.in_ok-try_clone.ensures ∙ ap (λ v. record { job = Main; given = LinksOf shards (map arc_value v.items) }) c.in_ok-try_clone-2.ensures)
-    c.in_ok-tasks.ensures in
     let kept : (scans : List Made) → a.progress.closed ≡ scans ∷ [] → IsStock (fresh (scans ∷ ms ∷ []) 1) stock = λ scans is. (refl, c.requires.shards ∙ ap (λ (closed : List (List Made)). filter_map shard_in (unwrap_or (slice_get closed 0) [])) is, linked_is) in
-    opens_next a b 1 c.requires.open c.in_ok-_brought.ensures.closed (main_opens (subject_of a) a.runs ms b a.progress.closed shards linked c.requires.kind c.requires.shards linked_is tasks (c.requires.open.fits.parts ∙ parts_going a.progress c.requires.open.going) kept)
+    opens_next a b 1 c.requires.open c.in_ok-_brought.ensures.closed (main_opens (subject_of a) a.runs ms b a.progress.closed shards linked c.requires.kind c.requires.shards linked_is c.in_ok-tasks.ensures (c.requires.open.fits.parts ∙ parts_going a.progress c.requires.open.going) kept)

@@ -31,5 +31,5 @@ returns-clause-opens c =
     let task : Task = record { job = Merge; input = inputs.Runs c.move_runs.new.runs } in
     let tasks =
     other_tasks c.place_task.new.tasks.items 1 _ (λ _. record { job = Merge; given = RunsOf (filter_map run_in ms) }) (λ i. ap (λ (rs : List (List Entry)). record { job = Merge; given = RunsOf rs }) moved)
-    (one_task c.place_task.new.tasks.items task (c.place_task.ensures ∙ ap (λ (ts : List Task). ts ++ task ∷ []) c.in_ok-tasks.ensures.items)) in
+    (one_task c.place_task.new.tasks.items task (c.place_task.ensures.placed ∙ ap (λ (ts : List Task). ts ++ task ∷ []) c.in_ok-tasks.ensures.items)) in
     opens_next a b 1 c.requires.open c.in_ok-brought.ensures.closed (merge_opens (subject_of a) a.runs ms b a.progress.closed c.requires.kind tasks (c.requires.open.fits.parts ∙ parts_going a.progress c.requires.open.going) (omega (arith, length-append a.progress.closed (ms ∷ []), c.requires.kind)))

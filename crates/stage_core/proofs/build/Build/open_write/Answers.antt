@@ -31,10 +31,7 @@ returns-clause-opens c =
     let published =
     ap (λ (o : Option (List Entry)). record (parts_seen a.parts) { table = o }) table ∙
     ap (λ (p : Parts). record p { table = table_in (slice_get ms 0) }) before in
-    let handed_out =
-    ap (λ (o : Option (List Entry)). record (parts_seen c.in_ok-published.published) { table = o }) (c.in_ok-published-2.ensures ∙ table) ∙
-    ap (λ (p : Parts). record p { table = table_in (slice_get ms 0) }) (c.in_ok-published.ensures ∙ before) in
     let tasks =
-    other_tasks c.in_ok-tasks.tasks.items 1 _ (λ _. record { job = Write; given = PublishedOf new a.cache }) (λ i. ap (λ (p : Parts). record { job = Write; given = PublishedOf p a.cache }) handed_out)
+    other_tasks c.in_ok-tasks.tasks.items 1 _ (λ _. record { job = Write; given = PublishedOf new a.cache }) (λ i. ap (λ (p : Parts). record { job = Write; given = PublishedOf p a.cache }) published)
     c.in_ok-tasks.ensures in
     opens_next a b 1 c.requires.open c.in_ok-_brought.ensures.closed (write_opens (subject_of a) a.runs ms b a.progress.closed c.requires.kind tasks published (omega (arith, length-append a.progress.closed (ms ∷ []), c.requires.kind)))
