@@ -7,7 +7,7 @@ ghost use Rattle.stage_lock.specs.Seen.{IsPassOf};
 ghost use Rattle.index_pool.specs.Ends.{stage_at_end, IsLast};
 
 use crate::ended::{Ended, end_at};
-use crate::job::do_next;
+use crate::next_job::do_next;
 use crate::team::work_together;
 use index_board::{Board, Pass};
 use outside::Gate;

@@ -2,7 +2,8 @@
 
 ghost use Rattle.std.specs.Prelude.{◌≡◌, All, false, IfOk};
 ghost use Rattle.index_model.specs.Stages.{IsReachable};
-ghost use Rattle.stage_lock.specs.Seen.{IsPassOf};
+ghost use Rattle.index_model.specs.Outputs.{Subject};
+ghost use Rattle.stage_lock.specs.Seen.{IsPassOf, Lock};
 ghost use Rattle.index_pool.specs.Teams.{IsIdlePass};
 
 use crate::pool::work;
@@ -64,6 +65,17 @@ fn run_team<'f, R: Threads + Wait + Sync, G: Gate + Sync>(
     ensures passes { IfOk result (λ passes. All (IsIdlePass board.now) passes.items) }
 {
     let team = gather(alloc, board, pass, workers)?;
+    run_all(rt, team, gate)
+}
+
+// Each of them at once. Their passes, in the same order.
+fn run_all<'b, 'f, R: Threads + Wait + Sync, G: Gate + Sync>(
+    rt: &R,
+    team: Vec<Worker<'b, 'f>>,
+    gate: &G,
+) -> Result<Vec<Pass<'f>>, AllocError>
+    ensures { (board : Lock Subject) → All (λ w. w.board.now ≡ board) team.entry.items → IfOk result (λ passes. All (IsIdlePass board) passes.items) }
+{
     map_vec(rt, team, &|worker| run(rt, gate, worker))
 }
 

@@ -1,7 +1,8 @@
 use Rattle.std.proofs.Common.{ap, ◌∙◌}
 use Rattle.index_model.specs.Stages.{same}
+use Rattle.index_model.proofs.StageLaws.{closure}
 use Rattle.index_pool.proofs.EndLaws.{end_is_last}
-use Rattle.index_pool.proofs.PassLaws.{on, by_mark}
+use Rattle.index_pool.proofs.PassLaws.{by_mark}
 use Rattle.index_pool.proofs.pool.work.Goals as goal
 
 pub loop-init : goal.loop-init
@@ -17,7 +18,7 @@ pub loop-preserved-then-not-help : goal.loop-preserved-then-not-help
 loop-preserved-then-not-help g c = (
   c.help.ensures.own,
   c.help.ensures.idle,
-  on c.args.pass.now.floor c.mark.new.pass.floor c.help.new.pass.floor
+  closure.onwards c.args.pass.now.floor c.mark.new.pass.floor c.help.new.pass.floor
       (by_mark c.args.pass.now.floor c.loop.pass c.mark.new.pass c.mark.result c.loop.invariant.2 c.mark.ensures.reach c.mark.ensures.pass) c.help.ensures.reach,
 )
 
@@ -25,6 +26,6 @@ pub loop-preserved : goal.loop-preserved
 loop-preserved g c = (
   c.help.ensures.own,
   c.help.ensures.idle,
-  on c.args.pass.now.floor c.mark.new.pass.floor c.help.new.pass.floor
+  closure.onwards c.args.pass.now.floor c.mark.new.pass.floor c.help.new.pass.floor
       (by_mark c.args.pass.now.floor c.loop.pass c.mark.new.pass c.mark.result c.loop.invariant.2 c.mark.ensures.reach c.mark.ensures.pass) c.help.ensures.reach,
 )

@@ -1,4 +1,0 @@
-pub mod Outputs
-pub mod Drawn
-pub mod Files
-pub mod Written

@@ -1,0 +1,46 @@
+use Rattle.std.proofs.Common.{◌≡◌, ◌<◌, List, length, Option, Err, sym, ap, subst, ◌∙◌, arith}
+use Rattle.std.specs.Prelude.{codes, option_map, IfOk}
+use Rattle.index_model.specs.declared.answer.Main.{Main}
+use Rattle.index_model.specs.declared.unit.Unit.{Unit as UnitHeader}
+use Rattle.index_model.specs.GdbIndex.{gdb_index_bytes}
+use Rattle.index_model.specs.Machine.{Output}
+use Rattle.index_model.specs.Outputs.{Made}
+use Rattle.index_model.specs.Sections.{Section, section_bytes}
+use Rattle.index_model.specs.Seen.{main_seen}
+use Rattle.gdbindex_write.specs.declared.stop.WriteStop.TheVariants.{TooLarge}
+use Rattle.gdbindex_write.specs.Writable.{IsWritable}
+use Rattle.stage_core.specs.Outputs.{summary_seen}
+use Rattle.index_pool.specs.Written.{IsIndexOf, kind_of_version}
+use Rattle.index_pool.proofs.WriteJob.{writable, gdb_brings}
+use Rattle.index_pool.proofs.write.gdb_index.Goals as goal
+
+pub write-requires : goal.write-requires
+write-requires c =
+    let image = c.args.image.now in
+    let map = c.args.summary.now.map in
+    let es = c.args.table.now in
+    let units = c.units-units.ensures in
+    let info = c.get-info.ensures.value ∙ ap (λ (ss : List Section). section_bytes ss (codes ".debug_info")) c.sections.ensures in
+    let types = c.get-types.ensures.value ∙ ap (λ (ss : List Section). section_bytes ss (codes ".debug_types")) c.sections-2.ensures in
+    let own =
+    writable image (summary_seen c.args.summary.now) es c.requires.published units.of_file (omega (arith, units.few, ap length units.value))
+    (omega (arith, ap length info, c.get-info.ensures.small)) (omega (arith, ap length types, c.get-types.ensures.small)) c.args.version c.requires.version in
+    subst (λ (us : List UnitHeader). IsWritable us map (option_map main_seen c.main_name-main.result) es c.args.version) (sym units.value)
+    (subst (λ (o : Option Main). IsWritable image.units map o es c.args.version) (sym c.main_name-main.ensures) own)
+
+pub returns : goal.returns
+returns c =
+    let image = c.args.image.now in
+    let map = c.args.summary.now.map in
+    let es = c.args.table.now in
+    let units = c.units-units.ensures in
+    let r = c.write.result in
+    let main = option_map main_seen c.main_name-main.result in
+    let bytes =
+    subst (λ (o : Option Main). IfOk r (λ v. v.items ≡ gdb_index_bytes image.units map o es c.args.version)) c.main_name-main.ensures
+    (subst (λ (us : List UnitHeader). IfOk r (λ v. v.items ≡ gdb_index_bytes us map main es c.args.version)) units.value c.write.ensures.bytes) in
+    let large =
+    subst (λ (o : Option Main). r ≡ Err TooLarge → 4294967295 < length (gdb_index_bytes image.units map o es c.args.version)) c.main_name-main.ensures
+    (subst (λ (us : List UnitHeader). r ≡ Err TooLarge → 4294967295 < length (gdb_index_bytes us map main es c.args.version)) units.value c.write.ensures.too_large) in
+    subst (λ (o : Output Made). IsIndexOf image (kind_of_version c.args.version) o) (sym c.of_gdb.ensures)
+    (gdb_brings image (summary_seen c.args.summary.now) es c.requires.published units.of_file c.args.version c.requires.version r bytes c.write.ensures.fits large)

@@ -1,5 +1,0 @@
-//! Builds by several workers.
-
-mod builds;
-mod files;
-mod gates;

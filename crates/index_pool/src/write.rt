@@ -1,0 +1,93 @@
+//! The index that the core asks for is written, of what it has published.
+
+ghost use Rattle.std.specs.Prelude.{◌≡◌, ◌⊎◌, option_map};
+ghost use Rattle.index_model.specs.declared.job.CacheKind.TheVariants.{Names};
+ghost use Rattle.index_model.specs.Outputs.{IsOutputOf};
+ghost use Rattle.index_model.specs.Seen.{main_seen};
+ghost use Rattle.stage_core.specs.Inputs.{PublishedOf};
+ghost use Rattle.stage_core.specs.Outputs.{output_seen, parts_seen, summary_seen};
+ghost use Rattle.index_pool.specs.Drawn.{IsDrawn, ForDrawn};
+ghost use Rattle.index_pool.specs.Written.{ArePublished, IsIndexOf, kind_of_version};
+
+use crate::outputs::{of_gdb, of_names};
+use file_image::Image;
+use index_model::{CacheKind, Job, Main, MainName};
+use query_engine::Table;
+use stage_core::{Output, Parts, Summary};
+use std::alloc::Global;
+
+/// The index of the asked kind, or that its format can't hold it.
+pub(crate) fn write_index<'f>(
+    alloc: Global,
+    image: &Image<'f>,
+    job: Job,
+    parts: &Parts<'f>,
+    kind: CacheKind,
+) -> Output<'f>
+    requires { IsDrawn image.now (record { job = job; given = PublishedOf (parts_seen parts.now) kind }) }
+    ensures { ForDrawn image.now (record { job = job; given = PublishedOf (parts_seen parts.now) kind }) (λ s. IsOutputOf s job (output_seen result)) }
+{
+    let Some(summary) = &parts.summary else {
+        return Output::Memory;
+    };
+    let Some(table) = &parts.table else {
+        return Output::Memory;
+    };
+    match kind {
+        CacheKind::Gdb8 => gdb_index(alloc, image, summary, table, 8),
+        CacheKind::Gdb9 => gdb_index(alloc, image, summary, table, 9),
+        CacheKind::Names => name_index(alloc, image, summary, table),
+    }
+}
+
+// A `.gdb_index` of version 8 or 9.
+fn gdb_index<'f>(
+    alloc: Global,
+    image: &Image<'f>,
+    summary: &Summary<'f>,
+    table: &Table<'f>,
+    version: u8,
+) -> Output<'f>
+    requires published { ArePublished image.now (summary_seen summary.now) table.now }
+    requires version { (version ≡ 8) ⊎ (version ≡ 9) }
+    ensures { IsIndexOf image.now (kind_of_version version) (output_seen result) }
+{
+    // Their sizes bound where the units end.
+    let _info = image.sections().get(b".debug_info");
+    let _types = image.sections().get(b".debug_types");
+    let units = image.units();
+    let main = main_name(&summary.main);
+    of_gdb(gdbindex_write::write(alloc, units, &summary.map, main, table, version))
+}
+
+/// A `.debug_names` and the strings that it adds, of what a build of the image's file has published; or that the format can't hold
+/// them, or want of memory.
+pub fn name_index<'f>(
+    alloc: Global,
+    image: &Image<'f>,
+    summary: &Summary<'f>,
+    table: &Table<'f>,
+) -> Output<'f>
+    requires { ArePublished image.now (summary_seen summary.now) table.now }
+    ensures { IsIndexOf image.now Names (output_seen result) }
+{
+    // Their sizes bound where the units end.
+    let _info = image.sections().get(b".debug_info");
+    let _types = image.sections().get(b".debug_types");
+    let units = image.units();
+    let old_strings = image.sections().get(b".debug_str").len() as u64;
+    of_names(debugnames_write::write(alloc, units, old_strings, table))
+}
+
+// The main program, its name borrowed.
+fn main_name<'r>(main: &'r Option<Main<'_>>) -> Option<MainName<'r>>
+    ensures { option_map main_seen result ≡ main.now }
+{
+    match main {
+        Some(main) => Some(MainName {
+            language: main.language,
+            name: main.name.bytes(),
+        }),
+        None => None,
+    }
+}
