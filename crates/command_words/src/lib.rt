@@ -1,0 +1,12 @@
+//! The grammar of `gdbix`: the command that the words of a command line ask for.
+#![tactic(auto)]
+
+mod drill_words;
+mod number;
+mod options;
+mod session_words;
+mod words;
+
+pub use drill_words::Drill;
+pub use session_words::{Race, Serve};
+pub use words::{Ask, Command, Index, LookGdb, LookNames, parse_command};
