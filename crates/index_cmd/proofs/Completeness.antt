@@ -13,17 +13,24 @@ use Rattle.index_model.specs.NameIndexRead.{NameIndex, name_index}
 use Rattle.index_model.specs.Queries.{Query}
 use Rattle.index_model.proofs.Meanings.{same_ok}
 use Rattle.outside.specs.Files.{Files}
-use Rattle.index_cmd.specs.declared.script.TheConstants.{MAX_SCRIPT_BYTES}
+use Rattle.session_commands.specs.declared.script.TheConstants.{MAX_SCRIPT_BYTES}
 use Rattle.index_cmd.specs.Requests.{Request, TheHelp, TheVersion, OfFile, OfIndex, OfGdb, OfNames, OfServe, OfRace, OfDrill, AsksFile, AsksProgram, AsksIndex}
-use Rattle.index_cmd.specs.Drills.{HasTooLarge, IsSummaryOf}
-use Rattle.index_cmd.specs.FilesRead.{HoldsMore}
-use Rattle.index_cmd.specs.Heard.{Heard}
-use Rattle.index_cmd.specs.Results.{Says, Completes, IsServeMeant, IsDrillMeant}
-use Rattle.index_cmd.specs.Replies.{Causes, MakesTooLarge, IsIndexRefusal, IsMeant, IsIndexMeant, IsLookMeant, IsNamesMeant, line_of}
-use Rattle.index_cmd.specs.Statuses.{status_code}
-use Rattle.index_cmd.specs.Stores.{Keeps, LeavesAtEnd}
-use Rattle.index_cmd.specs.declared.status.Status.{Status}
-use Rattle.index_cmd.specs.declared.status.Status.TheVariants.{Answered, Refused, Usage, ReadFault, StoreFault, WriteFault, NoMemory, IndexRefused, IndexTooLarge, FileTooBig, InputFault, InputTooLong, Stopped}
+use Rattle.drill_command.specs.Drills.{HasTooLarge, IsSummaryOf}
+use Rattle.command_base.specs.FilesRead.{HoldsMore}
+use Rattle.session_commands.specs.Heard.{Heard}
+use Rattle.index_cmd.specs.Results.{Says, Completes}
+use Rattle.session_commands.specs.SessionResults.{IsServeMeant}
+use Rattle.drill_command.specs.DrillResults.{IsDrillMeant}
+use Rattle.index_cmd.specs.Replies.{Causes, MakesTooLarge, IsIndexRefusal}
+use Rattle.command_base.specs.Replies.{IsMeant, line_of}
+use Rattle.index_commands.specs.Indexes.{IsIndexMeant}
+use Rattle.index_commands.specs.GdbLooks.{IsLookMeant}
+use Rattle.index_commands.specs.NamesLooks.{IsNamesMeant}
+use Rattle.command_base.specs.Statuses.{status_code}
+use Rattle.index_commands.specs.Stores.{Keeps}
+use Rattle.index_cmd.specs.Stores.{LeavesAtEnd}
+use Rattle.command_base.specs.declared.status.Status.{Status}
+use Rattle.command_base.specs.declared.status.Status.TheVariants.{Answered, Refused, Usage, ReadFault, StoreFault, WriteFault, NoMemory, IndexRefused, IndexTooLarge, FileTooBig, InputFault, InputTooLong, Stopped}
 use Rattle.index_cmd.proofs.Outcomes.{Outcome, tells, stops, lines, fails, Plain, answers, refuses, index_refuses, plain_lines, plain_fails, plain, no_request, same_bytes, accepted_built, none_some}
 
 -- ---- the program's own texts

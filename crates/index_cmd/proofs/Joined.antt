@@ -3,8 +3,8 @@ use Rattle.std.proofs.Common.{◌≡◌, ℕ, ◌+◌, ◌<◌, List, [], ◌∷
 use Rattle.std.specs.Prelude.{String}
 use Rattle.std.specs.String.{string_bytes}
 use Rattle.std.proofs.lemmas.List.{map_more, length-map}
-use Rattle.index_cmd.specs.Words.{query_text}
-use Rattle.index_cmd.specs.SeenWords.{words_of}
+use Rattle.command_words.specs.Words.{query_text}
+use Rattle.command_words.specs.SeenWords.{words_of}
 
 push : (w : List ℕ) (ws : List (List ℕ)) (last : List ℕ) → query_text ((w ∷ ws) ++ last ∷ []) ≡ query_text (w ∷ ws) ++ (32 ∷ last)
 push w [] last = refl

@@ -1,29 +1,16 @@
 -- What the shelf holds, once a status's line is written.
 use Rattle.std.proofs.Common.{◌≡◌, ◌⊎◌, inl, inr, ℕ, List, Option, Some, None, refl, subst}
-use Rattle.std.specs.Prelude.{option_map}
-use Rattle.index_model.specs.Queries.{Query}
 use Rattle.outside.specs.Files.{Files, SameFiles}
 use Rattle.index_cmd.specs.Requests.{Request, TheHelp, TheVersion, OfFile, OfIndex, OfGdb, OfNames, OfServe, OfRace, OfDrill, AsksIndex, StoresNothing}
-use Rattle.index_cmd.specs.Replies.{Causes, Ends, without_line, with_line, cut, line_of}
-use Rattle.index_cmd.specs.Statuses.{status_code}
+use Rattle.index_cmd.specs.Replies.{Causes, Ends, without_line, with_line, cut}
+use Rattle.command_base.specs.Replies.{line_of}
+use Rattle.command_base.specs.Statuses.{status_code}
 use Rattle.index_cmd.specs.Stores.{IsStored, IsPartStored, Leaves, LeavesAtEnd}
-use Rattle.index_cmd.specs.declared.status.Status.{Status}
-use Rattle.index_cmd.specs.declared.status.Status.TheVariants.{Answered, Refused, Usage, ReadFault, StoreFault, WriteFault, NoMemory, IndexRefused, IndexTooLarge, FileTooBig, InputFault, InputTooLong, Stopped}
+use Rattle.command_base.specs.declared.status.Status.{Status}
+use Rattle.command_base.specs.declared.status.Status.TheVariants.{Answered, Refused, Usage, ReadFault, StoreFault, WriteFault, NoMemory, IndexRefused, IndexTooLarge, FileTooBig, InputFault, InputTooLong, Stopped}
 use Rattle.index_cmd.proofs.Outcomes.{one_status}
 
 -- ---- a command that stores nothing
-
-pub asked_stores_nothing : (file : List ℕ) (q : Option Query) → StoresNothing (option_map (OfFile file) q)
-asked_stores_nothing file None = tt
-asked_stores_nothing file (Some q) = tt
-
-pub looked_stores_nothing : (index : List ℕ) (q : Option Query) → StoresNothing (option_map (OfGdb index) q)
-looked_stores_nothing index None = tt
-looked_stores_nothing index (Some q) = tt
-
-pub names_stores_nothing : (base : ℕ) (index strings : List ℕ) (name : Option (List ℕ)) → StoresNothing (option_map (OfNames base index strings) name)
-names_stores_nothing base index strings None = tt
-names_stores_nothing base index strings (Some name) = tt
 
 stored_same : (request : Option Request) (old new : Option Files) → StoresNothing request → IsStored request old new → SameFiles old new
 stored_same None old new n h = h

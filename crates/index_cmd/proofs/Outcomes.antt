@@ -1,22 +1,21 @@
 -- What a command came to, once its status's line is written.
 use Rattle.std.proofs.Common.{◌≡◌, ◌⊎◌, inl, inr, ℕ, ◌==◌, if◌then◌else◌, List, [], Option, Some, None, Ok, refl, sym, ap, subst, ◌∙◌, arith}
-use Rattle.std.specs.Prelude.{option_map, option_and_then, ⊤}
+use Rattle.std.specs.Prelude.{option_and_then, ⊤}
 use Rattle.ix_base.specs.declared.fault.Fault.{Fault}
 use Rattle.index_model.specs.Faults.{Built, first_fault, built_of}
 use Rattle.index_model.specs.Meaning.{wrong_in}
-use Rattle.index_model.specs.Queries.{Query}
 use Rattle.outside.specs.Files.{Files}
 use Rattle.outside.specs.Written.{Appends, AppendsPrefix}
 use Rattle.outside.proofs.WrittenLaws.{appends_more, appends_more_prefix}
-use Rattle.index_cmd.specs.Words.{Wanted, command_of}
-use Rattle.index_cmd.specs.Heard.{Heard}
+use Rattle.command_words.specs.Words.{Wanted, command_of}
+use Rattle.session_commands.specs.Heard.{Heard}
 use Rattle.index_cmd.specs.Requests.{Request, TheHelp, TheVersion, OfFile, OfIndex, OfGdb, OfNames, OfServe, OfRace, OfDrill, AsksFile, AsksIndex, requested, request_of}
-use Rattle.index_cmd.specs.Replies.{Causes, Ends, without_line, with_line, cut, IsAnswer, IsRefusal, IsIndexRefusal, IsStatus, SaysRequest, Wrote, Writes, line_of}
+use Rattle.index_cmd.specs.Replies.{Causes, Ends, without_line, with_line, cut, IsAnswer, IsRefusal, IsIndexRefusal, IsStatus, SaysRequest}
+use Rattle.command_base.specs.Replies.{Wrote, Writes, line_of}
 use Rattle.index_cmd.specs.Results.{Says, SaysNoMemory, WritesPrefix}
-use Rattle.index_cmd.specs.Statuses.{status_code}
-use Rattle.index_cmd.specs.declared.status.Status.{Status}
-use Rattle.index_cmd.specs.declared.status.Status.TheVariants.{Answered, Refused, Usage, ReadFault, StoreFault, WriteFault, NoMemory, IndexRefused, IndexTooLarge, FileTooBig, InputFault, InputTooLong, Stopped}
-use Rattle.index_cmd.proofs.AskLaws.{wrote_weaker}
+use Rattle.command_base.specs.Statuses.{status_code}
+use Rattle.command_base.specs.declared.status.Status.{Status}
+use Rattle.command_base.specs.declared.status.Status.TheVariants.{Answered, Refused, Usage, ReadFault, StoreFault, WriteFault, NoMemory, IndexRefused, IndexTooLarge, FileTooBig, InputFault, InputTooLong, Stopped}
 
 -- ---- numbers of statuses
 
@@ -164,21 +163,6 @@ says_plain (Some (OfNames base index strings name)) p told heard status text h =
 says_plain (Some (OfServe wait file)) p told heard status text h = absurd p
 says_plain (Some (OfRace readers file script)) p told heard status text h = absurd p
 says_plain (Some (OfDrill seed units)) p told heard status text h = absurd p
-
-pub wrote_plain : (request : Option Request) → IsPlain request → (told : Option Files) (heard : Heard) (status : Status) (old new : Option (List ℕ)) → Wrote (SaysRequest request told) status old new → Wrote (Says request told heard) status old new
-wrote_plain request p told heard status old new w = wrote_weaker (SaysRequest request told) (Says request told heard) (says_plain request p told heard) status old new w
-
-pub asked_plain : (file : List ℕ) (q : Option Query) → IsPlain (option_map (OfFile file) q)
-asked_plain file None = tt
-asked_plain file (Some q) = tt
-
-pub looked_plain : (index : List ℕ) (q : Option Query) → IsPlain (option_map (OfGdb index) q)
-looked_plain index None = tt
-looked_plain index (Some q) = tt
-
-pub names_plain : (base : ℕ) (index strings : List ℕ) (name : Option (List ℕ)) → IsPlain (option_map (OfNames base index strings) name)
-names_plain base index strings None = tt
-names_plain base index strings (Some name) = tt
 
 -- what such a request comes to
 module _ (request : Option Request) (told : Option Files) (reads stores writes : Type 0) (old new : Option (List ℕ)) where
@@ -358,10 +342,6 @@ pub line_said : (status result : Status) (old new : Option (List ℕ)) (failed :
 line_said status result old new failed text has said (inl e) fault left = subst (Ends status old new failed) (sym e) (with_line text has (said e))
 line_said status result old new failed text has said (inr e) fault left = subst (Ends status old new failed) (sym e) (cut text has (fault e) (left e))
 
--- a text of the program's own
-pub wrote_own : (request : Option Request) (told : Option Files) (text : List ℕ) → IsAnswer request told text → (result : Status) (old new : Option (List ℕ)) → (result ≡ Answered → Appends old new text) → (result ≡ Answered) ⊎ (result ≡ WriteFault) → (result ≡ WriteFault → AppendsPrefix old new text) → Wrote (SaysRequest request told) result old new
-wrote_own request told text is result old new said (inl e) left = subst (λ (s : Status). Wrote (SaysRequest request told) s old new) (sym e) (text, is, said e)
-wrote_own request told text is result old new said (inr e) left = subst (λ (s : Status). Wrote (SaysRequest request told) s old new) (sym e) (Answered, text, is, left e)
-
+-- what the words of a command ask for
 pub request_is : (words : List (List ℕ)) (w : Wanted) → Some w ≡ command_of words → request_of words ≡ requested w
 request_is words w is = ap (option_and_then requested) (sym is)

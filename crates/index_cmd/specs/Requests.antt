@@ -1,12 +1,13 @@
 -- What the words of a command line ask for.
 use Rattle.std.specs.Prelude.{◌⊎◌, ℕ, List, Option, Some, None, option_map, option_and_then, ⊤}
 use Rattle.index_model.specs.declared.job.CacheKind.{CacheKind}
-use Rattle.index_model.specs.Queries.{Query, AskName, AskSimple, AskCache, query_of}
+use Rattle.index_model.specs.Queries.{Query, AskName, query_of}
 use Rattle.ix_base.specs.declared.limits.TheConstants.{MAX_FILE_BYTES}
-use Rattle.index_cmd.specs.declared.script.TheConstants.{MAX_SCRIPT_BYTES}
-use Rattle.index_cmd.specs.DrillWords.{Drilled}
-use Rattle.index_cmd.specs.SessionWords.{Raced, Served}
-use Rattle.index_cmd.specs.Words.{Asked, Indexed, Looked, NamesLooked, Wanted, Help, Version, Ask, Index, LookGdb, LookNames, Serve, Race, Drill, command_of, query_text}
+use Rattle.session_commands.specs.declared.script.TheConstants.{MAX_SCRIPT_BYTES}
+use Rattle.index_commands.specs.GdbLooks.{offer_gdb}
+use Rattle.command_words.specs.DrillWords.{Drilled}
+use Rattle.command_words.specs.SessionWords.{Raced, Served}
+use Rattle.command_words.specs.Words.{Asked, Indexed, Looked, NamesLooked, Wanted, Help, Version, Ask, Index, LookGdb, LookNames, Serve, Race, Drill, command_of, query_text}
 
 -- The program's own texts; the answer of a file, by its name, to a query; the index of a kind of a file, to be stored under a
 -- name; the answer of a `.gdb_index`, by its name, to a query; or the entries of a name in a `.debug_names`, by the base of its
@@ -29,12 +30,6 @@ asked a = option_map (OfFile a.file) (query_of (query_text a.query))
 -- the index of a file
 abbrev pub indexed : Indexed → Option Request
 indexed i = Some (OfIndex i.kind i.file i.out)
-
--- a `.gdb_index` answers names, addresses and main
-abbrev pub offer_gdb : Query → Option Query
-offer_gdb (AskSimple n) = None
-offer_gdb AskCache = None
-offer_gdb q = Some q
 
 -- the query of a line, if a `.gdb_index` answers it
 abbrev pub offered_gdb : List ℕ → Option Query

@@ -1,47 +1,10 @@
--- What the shelf holds once an index was stored.
-use Rattle.std.specs.Prelude.{◌≡◌, ◌⊎◌, ℕ, ◌++◌, List, codes, Option, Some, Ok}
-use Rattle.index_model.specs.declared.job.CacheKind.{CacheKind}
-use Rattle.index_model.specs.Cache.{Cache, GdbBytes, NameBytes, DoesNotFit, cache_in}
-use Rattle.index_model.specs.Faults.{Built, built_of}
-use Rattle.outside.specs.Files.{Files, SameFiles, Stored, StoredOrPrefix}
-use Rattle.index_cmd.specs.FilesRead.{Holds}
+-- What the shelf holds then, by what was asked.
+use Rattle.std.specs.Prelude.{◌⊎◌, Option, Some}
+use Rattle.outside.specs.Files.{Files, SameFiles}
+use Rattle.command_base.specs.declared.status.Status.{Status}
+use Rattle.command_base.specs.declared.status.Status.TheVariants.{Answered, StoreFault, WriteFault}
+use Rattle.index_commands.specs.Stores.{ForIndex, Keeps, KeepsPart}
 use Rattle.index_cmd.specs.Requests.{Request, OfIndex}
-use Rattle.index_cmd.specs.declared.status.Status.{Status}
-use Rattle.index_cmd.specs.declared.status.Status.TheVariants.{Answered, StoreFault, WriteFault}
-
--- the strings that a `.debug_names` adds are stored under its own name and this end
-abbrev pub strings_name : List ℕ → List ℕ
-strings_name name = name ++ codes ".debug_str"
-
--- both names hold their bytes, the second stored behind the first
-abbrev pub StoredBoth : Option Files → Option Files → List ℕ → List ℕ → List ℕ → Type 0
-StoredBoth old new name names strings = (mid : Option Files) × Stored old mid name names × Stored mid new (strings_name name) strings
-
--- the name holds the bytes of a `.gdb_index`; or those of a `.debug_names`, and beside it stand the strings that it adds
-abbrev pub Keeps : Option Files → Option Files → List ℕ → Cache → Type 0
-Keeps old new name (GdbBytes bytes) = Stored old new name bytes
-Keeps old new name (NameBytes names strings) = StoredBoth old new name names strings
-Keeps old new name DoesNotFit = ⊥
-
--- the first store failed; or the second one, and the first file stays as stored
-abbrev pub PartOfBoth : Option Files → Option Files → List ℕ → List ℕ → List ℕ → Type 0
-PartOfBoth old new name names strings = StoredOrPrefix old new name names ⊎ ((mid : Option Files) × Stored old mid name names × StoredOrPrefix mid new (strings_name name) strings)
-
--- what a failed store leaves
-abbrev pub KeepsPart : Option Files → Option Files → List ℕ → Cache → Type 0
-KeepsPart old new name (GdbBytes bytes) = StoredOrPrefix old new name bytes
-KeepsPart old new name (NameBytes names strings) = PartOfBoth old new name names strings
-KeepsPart old new name DoesNotFit = ⊥
-
--- what holds of the index of a kind of these bytes, which have no fault
-pub record ForIndexOf (file : List ℕ) (kind : CacheKind) (P : Cache → Type 0) : Type 0 where
-  pub built : Built
-  pub accepted : built_of file ≡ Ok built
-  pub holds : P (cache_in kind built)
-
--- what holds of the index of the file with this name; where files aren't told, of that of some bytes
-abbrev pub ForIndex : Option Files → List ℕ → CacheKind → (Cache → Type 0) → Type 0
-ForIndex told file kind P = (bytes : List ℕ) × Holds told file bytes × ForIndexOf bytes kind P
 
 -- the index is stored, where one was asked for; nothing else is stored
 abbrev pub IsStored : Option Request → Option Files → Option Files → Type 0
@@ -63,9 +26,3 @@ Leaves request old new other = SameFiles old new
 abbrev pub LeavesAtEnd : Option Request → Option Files → Option Files → Status → Type 0
 LeavesAtEnd request old new WriteFault = SameFiles old new ⊎ IsPartStored request old new
 LeavesAtEnd request old new status = Leaves request old new status
-
--- what a store of this index leaves, by its status
-abbrev pub StoreLeaves : Option Files → Option Files → List ℕ → Cache → Status → Type 0
-StoreLeaves old new name cache Answered = Keeps old new name cache
-StoreLeaves old new name cache StoreFault = KeepsPart old new name cache
-StoreLeaves old new name cache other = SameFiles old new

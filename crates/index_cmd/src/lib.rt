@@ -2,29 +2,10 @@
 #![tactic(auto)]
 
 mod about;
-mod ask;
-mod drill;
-mod drill_words;
-mod file;
-mod gdb;
-mod index;
 mod line;
-mod listen;
-mod names;
-mod number;
-mod race;
-mod race_end;
-mod rounds;
-mod runner;
-mod script;
-mod serve;
-mod session_words;
-mod status;
+mod perform;
+mod say;
+mod task;
 mod top;
-mod totals;
-mod words;
 
 pub use top::run;
-
-#[cfg(test)]
-mod tests;

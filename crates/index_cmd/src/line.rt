@@ -1,10 +1,12 @@
 //! The line of a query.
 
-ghost use Rattle.std.specs.Prelude.{◌≡◌, OnOk, IfOk, option_map};
+ghost use Rattle.std.specs.Prelude.{◌≡◌, IfOk, Some, option_map};
+ghost use Rattle.std.specs.Option.{ForSome};
 ghost use Rattle.index_model.specs.Seen.{query_seen};
-ghost use Rattle.index_cmd.specs.Words.{query_text};
+ghost use Rattle.command_words.specs.Words.{query_text};
+ghost use Rattle.index_commands.specs.GdbLooks.{offer_gdb};
 ghost use Rattle.index_cmd.specs.Requests.{offered_gdb, offered_name};
-ghost use Rattle.index_cmd.specs.SeenWords.{words_of};
+ghost use Rattle.command_words.specs.SeenWords.{words_of};
 
 use index_model::Query;
 use ix_base::NoMemory;
@@ -27,7 +29,8 @@ pub(crate) fn query_line(alloc: Global, words: &[String]) -> Result<Vec<u8>, NoM
 
 /// The query of a line that a `.gdb_index` answers, of a name, an address or main; None where it is another or a bad query.
 pub(crate) fn offered_gdb(line: &[u8]) -> Option<Query<'_>>
-    ensures { option_map query_seen result ≡ offered_gdb line.now }
+    ensures value { option_map query_seen result ≡ offered_gdb line.now }
+    ensures offered { ForSome result (λ q. offer_gdb (query_seen q) ≡ Some (query_seen q)) }
 {
     match parse(line)? {
         Query::Simple(_) | Query::Cache => None,

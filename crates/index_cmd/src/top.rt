@@ -4,27 +4,26 @@ ghost use Rattle.std.specs.Prelude.{◌≡◌, ◌≢◌, ◌≤◌, ◌⊎◌, 
 ghost use Rattle.index_model.specs.Texts.{line};
 ghost use Rattle.outside.specs.Counts.{Rose};
 ghost use Rattle.outside.specs.Files.{SameFiles};
-ghost use Rattle.outside.specs.Written.{Appends, AppendsPrefix};
-ghost use Rattle.index_cmd.specs.FilesRead.{HoldsMore};
-ghost use Rattle.index_cmd.specs.Heard.{heard};
+ghost use Rattle.outside.specs.Written.{Appends};
+ghost use Rattle.command_base.specs.FilesRead.{HoldsMore};
+ghost use Rattle.session_commands.specs.Heard.{heard};
 ghost use Rattle.index_cmd.specs.Requests.{request_of, AsksFile, ReadsNoInput, StoresNothing};
-ghost use Rattle.index_cmd.specs.Replies.{Causes, Ends, IsStatus, MakesTooLarge, Writes, Wrote};
+ghost use Rattle.index_cmd.specs.Doings.{Does};
+ghost use Rattle.index_cmd.specs.Replies.{Ends, IsStatus, MakesTooLarge};
+ghost use Rattle.command_base.specs.Replies.{Writes};
 ghost use Rattle.index_cmd.specs.Results.{Completes, Says, SaysNoMemory, WritesPrefix};
-ghost use Rattle.index_cmd.specs.SeenWords.{words_of};
-ghost use Rattle.index_cmd.specs.Stores.{IsPartStored, IsStored, Leaves};
-ghost use Rattle.index_cmd.specs.declared.status.Status.TheVariants as statuses;
+ghost use Rattle.command_words.specs.SeenWords.{words_of};
+ghost use Rattle.index_cmd.specs.Stores.{IsPartStored, IsStored};
+ghost use Rattle.command_base.specs.declared.status.Status.TheVariants as statuses;
 
-use crate::about::{HELP, VERSION};
-use crate::ask::ask;
-use crate::drill::drill;
-use crate::gdb::look_gdb;
-use crate::index::index;
-use crate::names::look_names;
-use crate::race::race;
-use crate::serve::serve;
-use crate::status::Status;
-use crate::words::{Command, parse_command};
-use outside::{Failed, Gate, Shelf, Sink, Source, write_all};
+use crate::line::query_line;
+use crate::perform::perform;
+use crate::say::say;
+use crate::task::{query_words, task_for, workers};
+use command_base::Status;
+use command_words::parse_command;
+use index_pool::Crew;
+use outside::{Gate, Shelf, Sink, Source};
 use std::alloc::Global;
 use std::sync::Wait;
 use std::thread::Threads;
@@ -87,7 +86,8 @@ pub fn run<R: Threads + Wait + Sync, F: Shelf, S: Source + Send, K: Sink + Send,
     end(out, status).code()
 }
 
-// Does it, but for the line of a status that isn't a result.
+// Does it, but for the line of a status that isn't a result. Want of memory for the line of a query comes before a line that is
+// none.
 fn command<R: Threads + Wait + Sync, F: Shelf, S: Source + Send, K: Sink + Send, G: Gate + Sync>(
     rt: &R,
     alloc: Global,
@@ -97,23 +97,27 @@ fn command<R: Threads + Wait + Sync, F: Shelf, S: Source + Send, K: Sink + Send,
     out: &mut K,
     gate: &G,
 ) -> Status
-    ensures wrote { Wrote (Says (request_of (words_of words.now)) (F.files shelf.old) (heard S.left S.read_faults input.old input.new)) result (K.written out.old) (K.written out.new) }
-    ensures causes { Causes (request_of (words_of words.now)) (F.files shelf.old) (Rose (F.read_faults shelf.old) (F.read_faults shelf.new)) (Rose (F.store_faults shelf.old) (F.store_faults shelf.new)) (Rose (K.write_faults out.old) (K.write_faults out.new)) result }
-    ensures leaves { Leaves (request_of (words_of words.now)) (F.files shelf.old) (F.files shelf.new) result }
+    ensures did { Does (request_of (words_of words.now)) (F.files shelf.old) (F.files shelf.new) (heard S.left S.read_faults input.old input.new) (Rose (F.read_faults shelf.old) (F.read_faults shelf.new)) (Rose (F.store_faults shelf.old) (F.store_faults shelf.new)) (Rose (K.write_faults out.old) (K.write_faults out.new)) (K.written out.old) (K.written out.new) result }
     ensures input { ReadsNoInput (request_of (words_of words.now)) → input.new ≡ input.old }
     ensures counts { K.write_faults out.old ≤ K.write_faults out.new }
 {
-    match parse_command(words) {
+    let Some(command) = parse_command(words) else {
+        return Status::Usage;
+    };
+    let line = match query_line(alloc, query_words(&command)) {
+        Ok(line) => line,
+        Err(_) => return Status::NoMemory,
+    };
+    let workers = workers(&command);
+    let crew = Crew {
+        rt,
+        alloc,
+        workers,
+        gate,
+    };
+    match task_for(&command, &line) {
+        Some(task) => perform(&crew, &task, shelf, input, out),
         None => Status::Usage,
-        Some(Command::Help) => say(out, Status::Answered, HELP.as_bytes()),
-        Some(Command::Version) => say(out, Status::Answered, VERSION.as_bytes()),
-        Some(Command::Ask(words)) => ask(rt, alloc, &words, shelf, out, gate),
-        Some(Command::Index(words)) => index(rt, alloc, &words, shelf, out, gate),
-        Some(Command::LookGdb(words)) => look_gdb(alloc, &words, shelf, out),
-        Some(Command::LookNames(words)) => look_names(alloc, &words, shelf, out),
-        Some(Command::Serve(words)) => serve(rt, alloc, &words, shelf, input, out, gate),
-        Some(Command::Race(words)) => race(rt, alloc, &words, shelf, out, gate),
-        Some(Command::Drill(words)) => drill(rt, alloc, &words, out, gate),
     }
 }
 
@@ -136,20 +140,5 @@ fn end<K: Sink>(out: &mut K, status: Status) -> Status
         Status::NoMemory => say(out, status, b"no memory\n"),
         Status::IndexTooLarge => say(out, status, b"too large\n"),
         Status::FileTooBig => say(out, status, b"file too big\n"),
-    }
-}
-
-// The status, once the text is written.
-fn say<K: Sink>(out: &mut K, status: Status, text: &[u8]) -> Status
-    requires { status ≡ statuses.WriteFault → ⊥ }
-    ensures said { result ≡ status → Appends (K.written out.old) (K.written out.new) text.now }
-    ensures either { (result ≡ status) ⊎ (result ≡ statuses.WriteFault) }
-    ensures fault { result ≡ statuses.WriteFault → Rose (K.write_faults out.old) (K.write_faults out.new) }
-    ensures left { result ≡ statuses.WriteFault → AppendsPrefix (K.written out.old) (K.written out.new) text.now }
-    ensures counts { K.write_faults out.old ≤ K.write_faults out.new }
-{
-    match write_all(out, text) {
-        Ok(()) => status,
-        Err(Failed) => Status::WriteFault,
     }
 }

@@ -1,7 +1,7 @@
 use Rattle.std.proofs.Common.{List, ◌++◌, sym, ◌∙◌, arith, ap, Vec, ℕ, Global}
 use Rattle.std.proofs.lemmas.List.{take_all}
-use Rattle.index_cmd.specs.Words.{query_text}
-use Rattle.index_cmd.specs.SeenWords.{words_of}
+use Rattle.command_words.specs.Words.{query_text}
+use Rattle.command_words.specs.SeenWords.{words_of}
 use Rattle.index_cmd.proofs.Joined.{none_before, first_word, next_word, behind_a_space, at_front}
 use Rattle.index_cmd.proofs.line.query_line.Goals as goal
 use Rattle.index_cmd.proofs.line.query_line.Goals.{then-i-gt0+in_ok-push, else-i-gt0}

@@ -1,6 +1,6 @@
 use Rattle.std.proofs.Common.{◌≡◌, take}
-use Rattle.index_cmd.specs.Words.{query_text}
-use Rattle.index_cmd.specs.SeenWords.{words_of}
+use Rattle.command_words.specs.Words.{query_text}
+use Rattle.command_words.specs.SeenWords.{words_of}
 use Rattle.index_cmd.proofs.line.query_line.Given as goal
 
 -- the words so far are joined

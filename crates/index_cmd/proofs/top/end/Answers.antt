@@ -1,7 +1,7 @@
 use Rattle.std.proofs.Common.{◌≡◌, ◌⊎◌, inl, inr, None, ap}
-use Rattle.index_cmd.specs.Replies.{line_of}
-use Rattle.index_cmd.specs.declared.status.Status.{Status}
-use Rattle.index_cmd.specs.declared.status.Status.TheVariants.{Answered, Refused, IndexRefused, WriteFault, InputFault, InputTooLong, Stopped}
+use Rattle.command_base.specs.Replies.{line_of}
+use Rattle.command_base.specs.declared.status.Status.{Status}
+use Rattle.command_base.specs.declared.status.Status.TheVariants.{Answered, Refused, IndexRefused, WriteFault, InputFault, InputTooLong, Stopped}
 use Rattle.index_cmd.proofs.Outcomes.{no_line, line_said}
 use Rattle.index_cmd.proofs.top.end.Goals as goal
 

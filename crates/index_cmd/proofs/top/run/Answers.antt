@@ -2,13 +2,13 @@ use Rattle.std.proofs.Common.{Option, List, ℕ, refl, sym, subst, ◌∙◌, ar
 use Rattle.outside.specs.Counts.{Rose}
 use Rattle.outside.specs.Files.{Files}
 use Rattle.outside.proofs.CountLaws.{rose-then, then-rose}
-use Rattle.index_cmd.specs.Heard.{Heard, heard}
+use Rattle.session_commands.specs.Heard.{Heard, heard}
 use Rattle.index_cmd.specs.Replies.{IsStatus}
 use Rattle.index_cmd.specs.Results.{Completes}
 use Rattle.index_cmd.specs.Requests.{Request, request_of}
-use Rattle.index_cmd.specs.SeenWords.{words_of}
+use Rattle.command_words.specs.SeenWords.{words_of}
 use Rattle.index_cmd.specs.Stores.{LeavesAtEnd}
-use Rattle.index_cmd.specs.declared.status.Status.TheVariants.{Answered, Refused, IndexRefused, Usage, ReadFault, StoreFault, WriteFault, IndexTooLarge, FileTooBig, InputFault, InputTooLong}
+use Rattle.command_base.specs.declared.status.Status.TheVariants.{Answered, Refused, IndexRefused, Usage, ReadFault, StoreFault, WriteFault, IndexTooLarge, FileTooBig, InputFault, InputTooLong}
 use Rattle.index_cmd.proofs.Outcomes.{Outcome, outcome, telling, failed, lined, no_memory, asks, asks_index, is_status, outside_grammar}
 use Rattle.index_cmd.proofs.Leavings.{left_at_end, left_by, kept, untouched}
 use Rattle.index_cmd.proofs.Completeness.{complete}
@@ -53,10 +53,10 @@ module _ (g : Over) (c : After-code g) where
   came : Outcome request told input reads stores (Rose first last) old new c.end.result
   came = outcome request told input reads stores (Rose first middle) (Rose middle last) (Rose first last)
       (λ r. rose-then first middle last r c.end.ensures.counts) (λ r. then-rose first middle last c.command-status.ensures.counts r)
-      c.command-status.result c.end.result old (g.K.Sink.written c.command-status.new.out) new c.command-status.ensures.wrote c.command-status.ensures.causes c.end.ensures.ends
+      c.command-status.result c.end.result old (g.K.Sink.written c.command-status.new.out) new c.command-status.ensures.did.wrote c.command-status.ensures.did.causes c.end.ensures.ends
 
   left : LeavesAtEnd request told shelf c.end.result
-  left = left_at_end request told shelf c.command-status.result c.end.result (g.K.Sink.written c.command-status.new.out) new (Rose middle last) c.end.ensures.ends c.command-status.ensures.leaves
+  left = left_at_end request told shelf c.command-status.result c.end.result (g.K.Sink.written c.command-status.new.out) new (Rose middle last) c.end.ensures.ends c.command-status.ensures.did.leaves
 
 pub returns-clause-answered : goal.returns-clause-answered
 returns-clause-answered g c is = telling (request g c) (told g c) (input g c) (reads g c) (stores g c) (Rose (first g c) (last g c)) (old g c) (new g c) c.end.result Answered tt (came g c) (sym c.code.ensures ∙ is)

@@ -1,0 +1,4 @@
+pub mod FilesRead
+pub mod Statuses
+pub mod Stops
+pub mod Replies

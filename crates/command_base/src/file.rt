@@ -1,0 +1,113 @@
+//! A file of a shelf, read whole.
+
+ghost use Rattle.std.specs.Prelude.{◌≡◌, ℕ, ◌+◌, ◌^◌, ◌<◌, ◌≤◌, Err, length, vec_len, IfOk, OnErr};
+ghost use Rattle.outside.specs.Counts.{Rose};
+ghost use Rattle.outside.specs.Files.{SameFiles};
+ghost use Rattle.command_base.specs.FilesRead.{Holds, HoldsMore, HoldsFirst};
+ghost use Rattle.command_base.specs.Stops.{stop_status};
+ghost use Rattle.command_base.specs.declared.file.ReadStop.TheVariants as stops;
+
+use crate::status::Status;
+use outside::{Failed, Shelf};
+use std::alloc::{AllocError, Global};
+
+/// Why a file wasn't read.
+#[derive(Clone, Copy, Debug, PartialEq, Eq)]
+pub enum ReadStop {
+    /// A read failed.
+    Fault,
+    /// The file has more bytes than the limit.
+    TooBig,
+    Memory,
+}
+
+impl ReadStop {
+    /// How a command ends whose file wasn't read.
+    pub fn status(self) -> Status
+        ensures { result ≡ stop_status self }
+    {
+        match self {
+            ReadStop::Fault => Status::ReadFault,
+            ReadStop::TooBig => Status::FileTooBig,
+            ReadStop::Memory => Status::NoMemory,
+        }
+    }
+}
+
+impl From<Failed> for ReadStop {
+    ghost from_gives = { λ _ e. e ≡ stops.Fault };
+
+    fn from(_failed: Failed) -> ReadStop {
+        ReadStop::Fault
+    }
+}
+
+impl From<AllocError> for ReadStop {
+    ghost from_gives = { λ _ e. e ≡ stops.Memory };
+
+    fn from(_error: AllocError) -> ReadStop {
+        ReadStop::Memory
+    }
+}
+
+// How many bytes are asked for in one call.
+const PIECE: usize = 1_048_576;
+
+/// The bytes of the file, which are at most `limit`. It is read in pieces up to its end, a failure, or one byte past the
+/// limit.
+pub fn read_file<F: Shelf>(
+    alloc: Global,
+    shelf: &mut F,
+    name: &str,
+    limit: usize,
+) -> Result<Vec<u8>, ReadStop>
+    requires { limit < 2 ^ 62 }
+    ensures whole { IfOk result (λ bytes. Holds (F.files shelf.old) name.now bytes.items) }
+    ensures bounded { IfOk result (λ bytes. vec_len bytes ≤ limit) }
+    ensures fault { result ≡ Err stops.Fault → Rose (F.read_faults shelf.old) (F.read_faults shelf.new) }
+    ensures too_big { result ≡ Err stops.TooBig → HoldsMore (F.files shelf.old) name.now limit }
+    ensures kept { SameFiles (F.files shelf.old) (F.files shelf.new) }
+    ensures reads { F.read_faults shelf.old ≤ F.read_faults shelf.new }
+    ensures stores { F.store_faults shelf.new ≡ F.store_faults shelf.old }
+{
+    let mut bytes = Vec::new(alloc);
+    let mut piece = zeros(alloc, PIECE)?;
+    while bytes.len() <= limit {
+        let room = PIECE.min(limit + 1 - bytes.len());
+        if read_on(shelf, name, &mut bytes, &mut piece[..room])? == 0 {
+            return Ok(bytes);
+        }
+    }
+    Err(ReadStop::TooBig)
+}
+
+// A buffer of so many bytes.
+fn zeros(alloc: Global, len: usize) -> Result<Vec<u8>, AllocError>
+    ensures { IfOk result (λ buffer. vec_len buffer ≡ len) }
+{
+    vec![in alloc; 0u8; len]
+}
+
+// Reads the next bytes of the file behind those that were read, as many as the piece has room for at most, and says how
+// many they were: 0 only at the file's end.
+fn read_on<F: Shelf>(
+    shelf: &mut F,
+    name: &str,
+    bytes: &mut Vec<u8>,
+    piece: &mut [u8],
+) -> Result<usize, ReadStop>
+    requires { 0 < length piece.old }
+    ensures more { IfOk result (λ n. vec_len bytes.new ≡ vec_len bytes.old + n) }
+    ensures within { IfOk result (λ n. n ≤ length piece.old) }
+    ensures first { IfOk result (λ _. HoldsFirst (F.files shelf.old) name.now bytes.old.items → HoldsFirst (F.files shelf.old) name.now bytes.new.items) }
+    ensures end { IfOk result (λ n. n ≡ 0 → HoldsFirst (F.files shelf.old) name.now bytes.old.items → Holds (F.files shelf.old) name.now bytes.new.items) }
+    ensures not_too_big { result ≡ Err stops.TooBig → ⊥ }
+    ensures fault { result ≡ Err stops.Fault → Rose (F.read_faults shelf.old) (F.read_faults shelf.new) }
+    ensures kept { SameFiles (F.files shelf.old) (F.files shelf.new) }
+    ensures reads { F.read_faults shelf.old ≤ F.read_faults shelf.new }
+    ensures stores { F.store_faults shelf.new ≡ F.store_faults shelf.old }
+{
+    let count = shelf.read_at(name, bytes.len() as u64, piece)?;
+    bytes.extend_from_slice(&piece[..count])?;
+    Ok(count)
+}

@@ -1,0 +1,47 @@
+//! The reply that is the result of a command.
+
+ghost use Rattle.std.specs.Prelude.{◌≡◌, ◌≤◌};
+ghost use Rattle.outside.specs.Counts.{Rose};
+ghost use Rattle.index_model.specs.Answers.{Refused as Refuses};
+ghost use Rattle.index_model.specs.Seen.{reply_seen};
+ghost use Rattle.query_text.specs.Places.{PlacesFit};
+ghost use Rattle.command_base.specs.Replies.{CausesOfResult, SaysReply, Wrote, status_after};
+
+use crate::status::Status;
+use index_model::Reply;
+use ix_base::Fault;
+use outside::{Failed, Sink};
+use query_text::write_reply;
+
+/// Writes the first fault of a file.
+pub fn refuse<K: Sink>(out: &mut K, fault: Fault) -> Status
+    ensures wrote { Wrote (SaysReply (Refuses fault)) result (K.written out.old) (K.written out.new) }
+    ensures causes { CausesOfResult (Rose (K.write_faults out.old) (K.write_faults out.new)) result }
+    ensures counts { K.write_faults out.old ≤ K.write_faults out.new }
+{
+    write(out, &Reply::Refused(fault))
+}
+
+/// Writes a reply that is a result.
+pub fn write<K: Sink>(out: &mut K, reply: &Reply<'_>) -> Status
+    requires { PlacesFit (reply_seen reply.now) }
+    ensures wrote { Wrote (SaysReply (reply_seen reply.now)) result (K.written out.old) (K.written out.new) }
+    ensures causes { CausesOfResult (Rose (K.write_faults out.old) (K.write_faults out.new)) result }
+    ensures counts { K.write_faults out.old ≤ K.write_faults out.new }
+{
+    match reply {
+        Reply::Answer(_) => ended(write_reply(out, reply), Status::Answered),
+        Reply::Refused(_) => ended(write_reply(out, reply), Status::Refused),
+        Reply::Pending | Reply::Stopped => Status::NoMemory,
+    }
+}
+
+/// The status once a result was to be written.
+pub fn ended(written: Result<(), Failed>, status: Status) -> Status
+    ensures { result ≡ status_after written status }
+{
+    match written {
+        Ok(()) => status,
+        Err(Failed) => Status::WriteFault,
+    }
+}

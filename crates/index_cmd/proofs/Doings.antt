@@ -1,0 +1,305 @@
+-- What a command did, by what its call says.
+use Rattle.std.proofs.Common.{◌≡◌, ◌⊎◌, inl, inr, ℕ, List, Option, Some, refl, sym, subst}
+use Rattle.ix_base.specs.declared.limits.TheConstants.{MAX_FILE_BYTES}
+use Rattle.index_model.specs.declared.job.CacheKind.{CacheKind}
+use Rattle.index_model.specs.Cache.{cache_in}
+use Rattle.index_model.specs.Queries.{Query}
+use Rattle.outside.specs.Counts.{Rose}
+use Rattle.outside.specs.Files.{Files, SameFiles}
+use Rattle.outside.specs.Written.{Appends, AppendsPrefix}
+use Rattle.outside.proofs.CountLaws.{then-rose}
+use Rattle.outside.proofs.FileLaws.{same_files-refl, same_files-trans}
+use Rattle.outside.proofs.WrittenLaws.{appends_none}
+use Rattle.command_base.specs.FilesRead.{HoldsMore}
+use Rattle.command_base.specs.Replies.{CausesOfResult, SaysFile, Wrote}
+use Rattle.command_base.specs.Stops.{stop_status}
+use Rattle.command_base.specs.declared.file.ReadStop.{ReadStop}
+use Rattle.command_base.specs.declared.file.ReadStop.TheVariants as stops
+use Rattle.command_base.specs.declared.status.Status.{Status}
+use Rattle.command_base.specs.declared.status.Status.TheVariants.{Answered, Refused, Usage, ReadFault, StoreFault, WriteFault, NoMemory, IndexRefused, IndexTooLarge, FileTooBig, InputFault, InputTooLong, Stopped}
+use Rattle.command_base.proofs.FileReads.{same_more, same_whole}
+use Rattle.command_base.proofs.ReplyLaws.{wrote_weaker}
+use Rattle.session_commands.specs.declared.script.TheConstants.{MAX_SCRIPT_BYTES}
+use Rattle.session_commands.specs.Heard.{Heard}
+use Rattle.session_commands.specs.Listens.{CausesOfSession}
+use Rattle.session_commands.specs.Races.{SaysRace}
+use Rattle.session_commands.specs.SessionResults.{SaysServe}
+use Rattle.index_commands.specs.GdbLooks.{SaysGdb}
+use Rattle.index_commands.specs.Indexes.{CausesOfIndex, LeavesIndex, SaysIndex}
+use Rattle.index_commands.specs.NamesLooks.{SaysNames}
+use Rattle.drill_command.specs.DrillResults.{CausesOfDrill, SaysDrill}
+use Rattle.index_cmd.specs.Doings.{CausesBeside, Does, SaysBeside, WasRead}
+use Rattle.index_cmd.specs.Replies.{Causes, IsAnswer}
+use Rattle.index_cmd.specs.Requests.{Request, OfFile, OfIndex, OfGdb, OfNames, OfServe, OfRace, OfDrill, AsksFile, StoresNothing}
+use Rattle.index_cmd.specs.Results.{Says}
+use Rattle.index_cmd.specs.Stores.{Leaves}
+use Rattle.index_cmd.specs.Tasks.{request_on}
+use Rattle.index_cmd.specs.declared.task.Action.{Action}
+use Rattle.index_cmd.specs.declared.task.Action.TheVariants as actions
+use Rattle.index_cmd.proofs.Leavings.{leaves_same}
+use Rattle.index_cmd.proofs.Outcomes.{IsPlain, says_plain}
+use Rattle.index_cmd.proofs.Storings.{keeps_from, keeps_part_from}
+
+-- ---- the file wasn't read
+
+asks_first : (file : List ℕ) (action : Action) (P : List ℕ → ℕ → Type 0) → P file MAX_FILE_BYTES → AsksFile (Some (request_on file action)) P
+asks_first file (actions.Ask q) P p = p
+asks_first file (actions.Index kind out) P p = p
+asks_first file (actions.LookGdb q) P p = p
+asks_first file (actions.LookNames base strings name) P p = inl p
+asks_first file (actions.Serve wait) P p = p
+asks_first file (actions.Race readers script) P p = inl p
+
+module _ (file : List ℕ) (action : Action) (told shelf : Option Files) (heard : Heard) (reads stores writes : Type 0) (out : Option (List ℕ)) (same : SameFiles told shelf) where
+  abbrev on_file : Option Request
+  on_file = Some (request_on file action)
+
+  pub stopped_reading : (stop : ReadStop) → (stop ≡ stops.Fault → reads) → (stop ≡ stops.TooBig → HoldsMore told file MAX_FILE_BYTES) → Does on_file told shelf heard reads stores writes out out (stop_status stop)
+  stopped_reading stops.Fault fault big = record { wrote = appends_none out; causes = asks_first file action (λ _ _. reads) (fault refl); leaves = same }
+  stopped_reading stops.TooBig fault big = record { wrote = appends_none out; causes = asks_first file action (HoldsMore told) (big refl); leaves = same }
+  stopped_reading stops.Memory fault big = record { wrote = appends_none out; causes = tt; leaves = same }
+
+-- ---- a text of the program's own
+
+module _ (request : Request) (told : Option Files) (heard : Heard) (reads stores writes : Type 0) (old new : Option (List ℕ)) (text : List ℕ) where
+  pub own_text : IsPlain (Some request) → StoresNothing (Some request) → IsAnswer (Some request) told text → (result : Status) → (result ≡ Answered → Appends old new text) → (result ≡ Answered) ⊎ (result ≡ WriteFault) → (result ≡ WriteFault → writes) → (result ≡ WriteFault → AppendsPrefix old new text) →
+      Does (Some request) told told heard reads stores writes old new result
+  own_text plain nothing is result said (inl e) fault left = subst (Does (Some request) told told heard reads stores writes old new) (sym e) (record {
+    wrote = (text, says_plain (Some request) plain told heard Answered text is, said e);
+    causes = tt;
+    leaves = leaves_same (Some request) told told nothing told reads stores writes Answered tt (same_files-refl told);
+  })
+  own_text plain nothing is result said (inr e) fault left = subst (Does (Some request) told told heard reads stores writes old new) (sym e) (record {
+    wrote = (Answered, text, says_plain (Some request) plain told heard Answered text is, left e);
+    causes = fault e;
+    leaves = same_files-refl told;
+  })
+
+-- ---- `drill`
+
+module _ (seed units : ℕ) (told : Option Files) (heard : Heard) (reads stores writes : Type 0) (old new : Option (List ℕ)) where
+  causes_drilled : (status : Status) → CausesOfDrill seed units writes status → Causes (Some (OfDrill seed units)) told reads stores writes status
+  causes_drilled Answered c = tt
+  causes_drilled Refused c = tt
+  causes_drilled Usage c = absurd c
+  causes_drilled ReadFault c = absurd c
+  causes_drilled StoreFault c = absurd c
+  causes_drilled WriteFault c = c
+  causes_drilled NoMemory c = tt
+  causes_drilled IndexRefused c = absurd c
+  causes_drilled IndexTooLarge c = c
+  causes_drilled FileTooBig c = absurd c
+  causes_drilled InputFault c = absurd c
+  causes_drilled InputTooLong c = absurd c
+  causes_drilled Stopped c = absurd c
+
+  pub drilled : (status : Status) → Wrote (SaysDrill seed units) status old new → CausesOfDrill seed units writes status → Does (Some (OfDrill seed units)) told told heard reads stores writes old new status
+  drilled status w c =
+      let causes = causes_drilled status c in
+      record { wrote = w; causes = causes; leaves = leaves_same (Some (OfDrill seed units)) told told tt told reads stores writes status causes (same_files-refl told) }
+
+-- ---- the bytes of a file are asked
+
+causes_of_result : (request : Option Request) (told : Option Files) (reads stores writes : Type 0) (status : Status) → CausesOfResult writes status → Causes request told reads stores writes status
+causes_of_result request told reads stores writes Answered c = tt
+causes_of_result request told reads stores writes Refused c = tt
+causes_of_result request told reads stores writes Usage c = absurd c
+causes_of_result request told reads stores writes ReadFault c = absurd c
+causes_of_result request told reads stores writes StoreFault c = absurd c
+causes_of_result request told reads stores writes WriteFault c = c
+causes_of_result request told reads stores writes NoMemory c = tt
+causes_of_result request told reads stores writes IndexRefused c = tt
+causes_of_result request told reads stores writes IndexTooLarge c = absurd c
+causes_of_result request told reads stores writes FileTooBig c = absurd c
+causes_of_result request told reads stores writes InputFault c = absurd c
+causes_of_result request told reads stores writes InputTooLong c = absurd c
+causes_of_result request told reads stores writes Stopped c = absurd c
+
+module _ (told shelf : Option Files) (file bytes : List ℕ) (heard : Heard) (old_reads mid_reads new_reads old_stores mid_stores new_stores : ℕ) (writes : Type 0) (was : WasRead told shelf file bytes old_reads mid_reads old_stores mid_stores) (old new : Option (List ℕ)) where
+  -- what fails from here on, and what fails from before the file was read on
+  abbrev later_reads : Type 0
+  later_reads = Rose mid_reads new_reads
+
+  abbrev later_stores : Type 0
+  later_stores = Rose mid_stores new_stores
+
+  abbrev reads : Type 0
+  reads = Rose old_reads new_reads
+
+  abbrev stores : Type 0
+  stores = Rose old_stores new_stores
+
+  reads_on : later_reads → reads
+  reads_on = then-rose old_reads mid_reads new_reads was.reads_on
+
+  stores_on : later_stores → stores
+  stores_on = subst (λ (n : ℕ). Rose n new_stores) was.stores_stay
+
+  -- a command that stores nothing
+  does : (request : Request) → StoresNothing (Some request) → (after : Option Files) → SameFiles shelf after → (status : Status) → Wrote (Says (Some request) told heard) status old new → Causes (Some request) told reads stores writes status → Does (Some request) told after heard reads stores writes old new status
+  does request nothing after kept status w c = record { wrote = w; causes = c; leaves = leaves_same (Some request) told after nothing told reads stores writes status c (same_files-trans told shelf after was.same kept) }
+
+  -- where a second file is read behind it
+  causes_beside : (request : Request) (second : List ℕ) (most : ℕ) → ((P : List ℕ → ℕ → Type 0) → P second most → AsksFile (Some request) P) → (status : Status) → CausesBeside shelf second most later_reads writes status → Causes (Some request) told reads stores writes status
+  causes_beside request second most asks Answered c = tt
+  causes_beside request second most asks Refused c = tt
+  causes_beside request second most asks Usage c = absurd c
+  causes_beside request second most asks ReadFault c = asks (λ _ _. reads) (reads_on c)
+  causes_beside request second most asks StoreFault c = absurd c
+  causes_beside request second most asks WriteFault c = c
+  causes_beside request second most asks NoMemory c = tt
+  causes_beside request second most asks IndexRefused c = tt
+  causes_beside request second most asks IndexTooLarge c = absurd c
+  causes_beside request second most asks FileTooBig c = asks (HoldsMore told) (same_more second most told shelf was.same c)
+  causes_beside request second most asks InputFault c = absurd c
+  causes_beside request second most asks InputTooLong c = tt
+  causes_beside request second most asks Stopped c = tt
+
+  -- ---- `ask`
+
+  module _ (q : Query) where
+    says_asked : (status : Status) (text : List ℕ) → SaysFile bytes q status text → Says (Some (OfFile file q)) told heard status text
+    says_asked Answered text h = (bytes, was.holds, h)
+    says_asked Refused text h = (bytes, was.holds, h)
+    says_asked Usage text h = absurd h
+    says_asked ReadFault text h = absurd h
+    says_asked StoreFault text h = absurd h
+    says_asked WriteFault text h = absurd h
+    says_asked NoMemory text h = absurd h
+    says_asked IndexRefused text h = absurd h
+    says_asked IndexTooLarge text h = absurd h
+    says_asked FileTooBig text h = absurd h
+    says_asked InputFault text h = absurd h
+    says_asked InputTooLong text h = absurd h
+    says_asked Stopped text h = absurd h
+
+    pub asked : (status : Status) → Wrote (SaysFile bytes q) status old new → CausesOfResult writes status → Does (Some (OfFile file q)) told shelf heard reads stores writes old new status
+    asked status w c = does (OfFile file q) tt shelf (same_files-refl shelf) status (wrote_weaker (SaysFile bytes q) (Says (Some (OfFile file q)) told heard) says_asked status old new w) (causes_of_result (Some (OfFile file q)) told reads stores writes status c)
+
+    -- ---- `look gdb`
+
+    says_looked : (status : Status) (text : List ℕ) → SaysGdb bytes q status text → Says (Some (OfGdb file q)) told heard status text
+    says_looked Answered text h = (bytes, was.holds, h)
+    says_looked Refused text h = absurd h
+    says_looked Usage text h = absurd h
+    says_looked ReadFault text h = absurd h
+    says_looked StoreFault text h = absurd h
+    says_looked WriteFault text h = absurd h
+    says_looked NoMemory text h = absurd h
+    says_looked IndexRefused text h = (bytes, was.holds, h)
+    says_looked IndexTooLarge text h = absurd h
+    says_looked FileTooBig text h = absurd h
+    says_looked InputFault text h = absurd h
+    says_looked InputTooLong text h = absurd h
+    says_looked Stopped text h = absurd h
+
+    pub looked : (status : Status) → Wrote (SaysGdb bytes q) status old new → CausesOfResult writes status → Does (Some (OfGdb file q)) told shelf heard reads stores writes old new status
+    looked status w c = does (OfGdb file q) tt shelf (same_files-refl shelf) status (wrote_weaker (SaysGdb bytes q) (Says (Some (OfGdb file q)) told heard) says_looked status old new w) (causes_of_result (Some (OfGdb file q)) told reads stores writes status c)
+
+  -- ---- `look names`
+
+  module _ (base : ℕ) (strings name : List ℕ) where
+    says_names : (status : Status) (text : List ℕ) → SaysBeside shelf strings (λ held. SaysNames bytes held base name) status text → Says (Some (OfNames base file strings name)) told heard status text
+    says_names Answered text h = (bytes, was.holds, (h.0, same_whole strings h.0 told shelf was.same h.1, h.2))
+    says_names Refused text h = absurd h.2
+    says_names Usage text h = absurd h.2
+    says_names ReadFault text h = absurd h.2
+    says_names StoreFault text h = absurd h.2
+    says_names WriteFault text h = absurd h.2
+    says_names NoMemory text h = absurd h.2
+    says_names IndexRefused text h = (bytes, was.holds, (h.0, same_whole strings h.0 told shelf was.same h.1, h.2))
+    says_names IndexTooLarge text h = absurd h.2
+    says_names FileTooBig text h = absurd h.2
+    says_names InputFault text h = absurd h.2
+    says_names InputTooLong text h = absurd h.2
+    says_names Stopped text h = absurd h.2
+
+    pub looked_names : (after : Option Files) → SameFiles shelf after → (status : Status) → Wrote (SaysBeside shelf strings (λ held. SaysNames bytes held base name)) status old new → CausesBeside shelf strings MAX_FILE_BYTES later_reads writes status → Does (Some (OfNames base file strings name)) told after heard reads stores writes old new status
+    looked_names after kept status w c = does (OfNames base file strings name) tt after kept status
+        (wrote_weaker (SaysBeside shelf strings (λ held. SaysNames bytes held base name)) (Says (Some (OfNames base file strings name)) told heard) says_names status old new w)
+        (causes_beside (OfNames base file strings name) strings MAX_FILE_BYTES (λ P p. inr p) status c)
+
+  -- ---- `serve`
+
+  causes_served : (wait : ℕ) (status : Status) → CausesOfSession writes status → Causes (Some (OfServe wait file)) told reads stores writes status
+  causes_served wait Answered c = tt
+  causes_served wait Refused c = tt
+  causes_served wait Usage c = absurd c
+  causes_served wait ReadFault c = absurd c
+  causes_served wait StoreFault c = absurd c
+  causes_served wait WriteFault c = c
+  causes_served wait NoMemory c = absurd c
+  causes_served wait IndexRefused c = absurd c
+  causes_served wait IndexTooLarge c = absurd c
+  causes_served wait FileTooBig c = absurd c
+  causes_served wait InputFault c = tt
+  causes_served wait InputTooLong c = tt
+  causes_served wait Stopped c = tt
+
+  pub served : (wait : ℕ) (status : Status) → Wrote (SaysServe bytes wait heard) status old new → CausesOfSession writes status → Does (Some (OfServe wait file)) told shelf heard reads stores writes old new status
+  served wait status w c = does (OfServe wait file) tt shelf (same_files-refl shelf) status (wrote_weaker (SaysServe bytes wait heard) (Says (Some (OfServe wait file)) told heard) (λ s text says. (bytes, was.holds, says)) status old new w) (causes_served wait status c)
+
+  -- ---- `race`
+
+  pub raced : (readers : ℕ) (script : List ℕ) (after : Option Files) → SameFiles shelf after → (status : Status) → Wrote (SaysBeside shelf script (SaysRace bytes readers)) status old new → CausesBeside shelf script MAX_SCRIPT_BYTES later_reads writes status → Does (Some (OfRace readers file script)) told after heard reads stores writes old new status
+  raced readers script after kept status w c = does (OfRace readers file script) tt after kept status
+      (wrote_weaker (SaysBeside shelf script (SaysRace bytes readers)) (Says (Some (OfRace readers file script)) told heard) (λ s text says. (bytes, was.holds, (says.0, same_whole script says.0 told shelf was.same says.1, says.2))) status old new w)
+      (causes_beside (OfRace readers file script) script MAX_SCRIPT_BYTES (λ P p. inr p) status c)
+
+  -- ---- `index`
+
+  module _ (kind : CacheKind) (out : List ℕ) where
+    abbrev stored : Option Request
+    stored = Some (OfIndex kind file out)
+
+    says_index : (status : Status) (text : List ℕ) → SaysIndex bytes status text → Says stored told heard status text
+    says_index Answered text h = h
+    says_index Refused text h = (bytes, was.holds, h)
+    says_index Usage text h = absurd h
+    says_index ReadFault text h = absurd h
+    says_index StoreFault text h = absurd h
+    says_index WriteFault text h = absurd h
+    says_index NoMemory text h = absurd h
+    says_index IndexRefused text h = absurd h
+    says_index IndexTooLarge text h = absurd h
+    says_index FileTooBig text h = absurd h
+    says_index InputFault text h = absurd h
+    says_index InputTooLong text h = absurd h
+    says_index Stopped text h = absurd h
+
+    index_causes : (status : Status) → CausesOfIndex bytes kind later_stores writes status → Causes stored told reads stores writes status
+    index_causes Answered c = tt
+    index_causes Refused c = tt
+    index_causes Usage c = absurd c
+    index_causes ReadFault c = absurd c
+    index_causes StoreFault c = stores_on c
+    index_causes WriteFault c = c
+    index_causes NoMemory c = tt
+    index_causes IndexRefused c = tt
+    index_causes IndexTooLarge c = (bytes, was.holds, c)
+    index_causes FileTooBig c = absurd c
+    index_causes InputFault c = absurd c
+    index_causes InputTooLong c = absurd c
+    index_causes Stopped c = absurd c
+
+    index_leaves : (after : Option Files) (status : Status) → CausesOfIndex bytes kind later_stores writes status → LeavesIndex bytes kind shelf after out status → Leaves stored told after status
+    index_leaves after Answered c h = (bytes, was.holds, record { built = h.built; accepted = h.accepted; holds = keeps_from out told shelf after was.same (cache_in kind h.built) h.holds })
+    index_leaves after Refused c h = same_files-trans told shelf after was.same h
+    index_leaves after Usage c h = absurd c
+    index_leaves after ReadFault c h = absurd c
+    index_leaves after StoreFault c h = (bytes, was.holds, record { built = h.built; accepted = h.accepted; holds = keeps_part_from out told shelf after was.same (cache_in kind h.built) h.holds })
+    index_leaves after WriteFault c h = same_files-trans told shelf after was.same h
+    index_leaves after NoMemory c h = same_files-trans told shelf after was.same h
+    index_leaves after IndexRefused c h = same_files-trans told shelf after was.same h
+    index_leaves after IndexTooLarge c h = same_files-trans told shelf after was.same h
+    index_leaves after FileTooBig c h = absurd c
+    index_leaves after InputFault c h = absurd c
+    index_leaves after InputTooLong c h = absurd c
+    index_leaves after Stopped c h = absurd c
+
+    pub indexed : (after : Option Files) (status : Status) → Wrote (SaysIndex bytes) status old new → CausesOfIndex bytes kind later_stores writes status → LeavesIndex bytes kind shelf after out status → Does stored told after heard reads stores writes old new status
+    indexed after status w c h = record {
+      wrote = wrote_weaker (SaysIndex bytes) (Says stored told heard) says_index status old new w;
+      causes = index_causes status c;
+      leaves = index_leaves after status c h;
+    }

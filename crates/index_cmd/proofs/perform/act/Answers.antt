@@ -1,0 +1,103 @@
+use Rattle.std.proofs.Common.{◌≡◌, Some, sym, subst}
+use Rattle.outside.specs.Counts.{Rose}
+use Rattle.session_commands.specs.Heard.{heard}
+use Rattle.index_cmd.specs.Doings.{Does}
+use Rattle.index_cmd.specs.Requests.{ReadsNoInput}
+use Rattle.index_cmd.specs.Tasks.{request_on, IsActionInBounds}
+use Rattle.index_cmd.specs.declared.task.Action.{Action}
+use Rattle.index_cmd.proofs.Doings.{asked, indexed, looked, looked_names, raced, served}
+use Rattle.index_cmd.proofs.perform.act.Goals as goal
+
+pub returns-in-Ask-clause-did : goal.returns-in-Ask-clause-did
+returns-in-Ask-clause-did g c told file old_reads old_stores was =
+    let shelf = g.F.Shelf.files c.args.shelf.now in
+    let input = heard g.S.Source.left g.S.Source.read_faults c.args.input.now c.args.input.now in
+    let call = c.ask_file in
+    let reads = Rose old_reads (g.F.Shelf.read_faults c.args.shelf.now) in
+    let stores = Rose old_stores (g.F.Shelf.store_faults c.args.shelf.now) in
+    let writes = Rose (g.K.Sink.write_faults c.args.out.now) (g.K.Sink.write_faults call.new.out) in
+    let old = g.K.Sink.written c.args.out.now in
+    let new = g.K.Sink.written call.new.out in
+    subst (λ (a : Action). Does (Some (request_on file a)) told shelf input reads stores writes old new call.result) (sym c.in-Ask.is)
+    (asked told shelf file c.args.bytes.now input old_reads _ _ old_stores _ _ writes was old new _ call.result call.ensures.wrote call.ensures.causes)
+
+pub returns-in-Index-clause-did : goal.returns-in-Index-clause-did
+returns-in-Index-clause-did g c told file old_reads old_stores was =
+    let shelf = g.F.Shelf.files c.args.shelf.now in
+    let input = heard g.S.Source.left g.S.Source.read_faults c.args.input.now c.args.input.now in
+    let call = c.index_file in
+    let after = g.F.Shelf.files call.new.shelf in
+    let reads = Rose old_reads (g.F.Shelf.read_faults call.new.shelf) in
+    let stores = Rose old_stores (g.F.Shelf.store_faults call.new.shelf) in
+    let writes = Rose (g.K.Sink.write_faults c.args.out.now) (g.K.Sink.write_faults call.new.out) in
+    let old = g.K.Sink.written c.args.out.now in
+    let new = g.K.Sink.written call.new.out in
+    subst (λ (a : Action). Does (Some (request_on file a)) told after input reads stores writes old new call.result) (sym c.in-Index.is)
+    (indexed told shelf file c.args.bytes.now input old_reads _ _ old_stores _ _ writes was old new _ _ after call.result call.ensures.wrote call.ensures.causes call.ensures.leaves)
+
+pub look_gdb-requires : goal.look_gdb-requires
+look_gdb-requires g c = subst IsActionInBounds c.in-LookGdb.is c.requires.bounds
+
+pub returns-in-LookGdb-clause-did : goal.returns-in-LookGdb-clause-did
+returns-in-LookGdb-clause-did g c told file old_reads old_stores was =
+    let shelf = g.F.Shelf.files c.args.shelf.now in
+    let input = heard g.S.Source.left g.S.Source.read_faults c.args.input.now c.args.input.now in
+    let call = c.look_gdb in
+    let reads = Rose old_reads (g.F.Shelf.read_faults c.args.shelf.now) in
+    let stores = Rose old_stores (g.F.Shelf.store_faults c.args.shelf.now) in
+    let writes = Rose (g.K.Sink.write_faults c.args.out.now) (g.K.Sink.write_faults call.new.out) in
+    let old = g.K.Sink.written c.args.out.now in
+    let new = g.K.Sink.written call.new.out in
+    subst (λ (a : Action). Does (Some (request_on file a)) told shelf input reads stores writes old new call.result) (sym c.in-LookGdb.is)
+    (looked told shelf file c.args.bytes.now input old_reads _ _ old_stores _ _ writes was old new _ call.result call.ensures.wrote call.ensures.causes)
+
+pub returns-in-LookNames-clause-did : goal.returns-in-LookNames-clause-did
+returns-in-LookNames-clause-did g c told file old_reads old_stores was =
+    let shelf = g.F.Shelf.files c.args.shelf.now in
+    let input = heard g.S.Source.left g.S.Source.read_faults c.args.input.now c.args.input.now in
+    let call = c.read_strings in
+    let reads = Rose old_reads (g.F.Shelf.read_faults call.new.shelf) in
+    let stores = Rose old_stores (g.F.Shelf.store_faults call.new.shelf) in
+    let writes = Rose (g.K.Sink.write_faults c.args.out.now) (g.K.Sink.write_faults call.new.out) in
+    let old = g.K.Sink.written c.args.out.now in
+    let new = g.K.Sink.written call.new.out in
+    subst (λ (a : Action). Does (Some (request_on file a)) told (g.F.Shelf.files call.new.shelf) input reads stores writes old new call.result) (sym c.in-LookNames.is)
+    (looked_names told shelf file c.args.bytes.now input old_reads _ _ old_stores _ _ writes was old new _ _ _ (g.F.Shelf.files call.new.shelf) call.ensures.kept call.result call.ensures.wrote call.ensures.causes)
+
+pub serve_file-requires-clause-wait : goal.serve_file-requires-clause-wait
+serve_file-requires-clause-wait g c κs within = subst IsActionInBounds c.in-Serve.is c.requires.bounds
+
+pub returns-in-Serve-clause-did : goal.returns-in-Serve-clause-did
+returns-in-Serve-clause-did g c told file old_reads old_stores was =
+    let shelf = g.F.Shelf.files c.args.shelf.now in
+    let call = c.serve_file in
+    let input = heard g.S.Source.left g.S.Source.read_faults c.args.input.now call.new.input in
+    let reads = Rose old_reads (g.F.Shelf.read_faults c.args.shelf.now) in
+    let stores = Rose old_stores (g.F.Shelf.store_faults c.args.shelf.now) in
+    let writes = Rose (g.K.Sink.write_faults c.args.out.now) (g.K.Sink.write_faults call.new.out) in
+    let old = g.K.Sink.written c.args.out.now in
+    let new = g.K.Sink.written call.new.out in
+    subst (λ (a : Action). Does (Some (request_on file a)) told shelf input reads stores writes old new call.result) (sym c.in-Serve.is)
+    (served told shelf file c.args.bytes.now input old_reads _ _ old_stores _ _ writes was old new _ call.result call.ensures.wrote call.ensures.causes)
+
+pub returns-in-Serve-clause-input : goal.returns-in-Serve-clause-input
+returns-in-Serve-clause-input g c file none = absurd (subst (λ (a : Action). ReadsNoInput (Some (request_on file a))) c.in-Serve.is none)
+
+pub read_script-requires-clause-one_reader : goal.read_script-requires-clause-one_reader
+read_script-requires-clause-one_reader g c κs within = (subst IsActionInBounds c.in-Race.is c.requires.bounds).some
+
+pub read_script-requires-clause-few_readers : goal.read_script-requires-clause-few_readers
+read_script-requires-clause-few_readers g c κs within = (subst IsActionInBounds c.in-Race.is c.requires.bounds).few
+
+pub returns-in-Race-clause-did : goal.returns-in-Race-clause-did
+returns-in-Race-clause-did g c told file old_reads old_stores was =
+    let shelf = g.F.Shelf.files c.args.shelf.now in
+    let input = heard g.S.Source.left g.S.Source.read_faults c.args.input.now c.args.input.now in
+    let call = c.read_script in
+    let reads = Rose old_reads (g.F.Shelf.read_faults call.new.shelf) in
+    let stores = Rose old_stores (g.F.Shelf.store_faults call.new.shelf) in
+    let writes = Rose (g.K.Sink.write_faults c.args.out.now) (g.K.Sink.write_faults call.new.out) in
+    let old = g.K.Sink.written c.args.out.now in
+    let new = g.K.Sink.written call.new.out in
+    subst (λ (a : Action). Does (Some (request_on file a)) told (g.F.Shelf.files call.new.shelf) input reads stores writes old new call.result) (sym c.in-Race.is)
+    (raced told shelf file c.args.bytes.now input old_reads _ _ old_stores _ _ writes was old new _ _ (g.F.Shelf.files call.new.shelf) call.ensures.kept call.result call.ensures.wrote call.ensures.causes)

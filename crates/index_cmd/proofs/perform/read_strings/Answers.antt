@@ -1,0 +1,35 @@
+use Rattle.std.proofs.Common.{ℕ, List, Err, sym, ap, subst}
+use Rattle.ix_base.specs.declared.limits.TheConstants.{MAX_FILE_BYTES}
+use Rattle.outside.specs.Counts.{Rose}
+use Rattle.command_base.specs.FilesRead.{Holds}
+use Rattle.command_base.specs.Replies.{Wrote}
+use Rattle.command_base.specs.declared.status.Status.{Status}
+use Rattle.index_commands.specs.NamesLooks.{SaysNames}
+use Rattle.index_cmd.specs.Doings.{CausesBeside, SaysBeside}
+use Rattle.index_cmd.proofs.Beside.{causes_looked, causes_stopped, wrote_beside, wrote_stopped}
+use Rattle.index_cmd.proofs.perform.read_strings.Goals as goal
+
+pub returns-in-Ok-clause-wrote : goal.returns-in-Ok-clause-wrote
+returns-in-Ok-clause-wrote g c =
+    let told = g.F.Shelf.files c.args.shelf.now in
+    let file = c.args.strings.now in
+    let held = c.deref.result.now in
+    let holds = subst (Holds told file) (sym c.deref.ensures.value) c.in-Ok.ensures.whole in
+    wrote_beside told file held (λ (held : List ℕ). SaysNames c.args.bytes.now held c.args.base c.args.name.now) holds c.look_names.result (g.K.Sink.written c.args.out.now) (g.K.Sink.written c.look_names.new.out) c.look_names.ensures.wrote
+
+pub returns-in-Ok-clause-causes : goal.returns-in-Ok-clause-causes
+returns-in-Ok-clause-causes g c = causes_looked (g.F.Shelf.files c.args.shelf.now) c.args.strings.now MAX_FILE_BYTES _ _ c.look_names.result c.look_names.ensures.causes
+
+pub returns-in-Err-clause-wrote : goal.returns-in-Err-clause-wrote
+returns-in-Err-clause-wrote g c =
+    let says = SaysBeside (g.F.Shelf.files c.args.shelf.now) c.args.strings.now (λ (held : List ℕ). SaysNames c.args.bytes.now held c.args.base c.args.name.now) in
+    let out = g.K.Sink.written c.args.out.now in
+    subst (λ (s : Status). Wrote says s out out) (sym c.status.ensures) (wrote_stopped says out c.in-Err.stop)
+
+pub returns-in-Err-clause-causes : goal.returns-in-Err-clause-causes
+returns-in-Err-clause-causes g c =
+    let told = g.F.Shelf.files c.args.shelf.now in
+    let reads = Rose (g.F.Shelf.read_faults c.args.shelf.now) (g.F.Shelf.read_faults c.read_file.new.shelf) in
+    let writes = Rose (g.K.Sink.write_faults c.args.out.now) (g.K.Sink.write_faults c.args.out.now) in
+    subst (CausesBeside told c.args.strings.now MAX_FILE_BYTES reads writes) (sym c.status.ensures)
+    (causes_stopped told c.args.strings.now MAX_FILE_BYTES reads writes c.in-Err.stop (λ e. c.in-Err.ensures.fault (ap Err e)) (λ e. c.in-Err.ensures.too_big (ap Err e)))

@@ -1,0 +1,44 @@
+-- What a command did before the line of its status.
+use Rattle.std.specs.Prelude.{◌≡◌, ◌≤◌, ℕ, List, Option, ⊤}
+use Rattle.outside.specs.Files.{Files, SameFiles}
+use Rattle.command_base.specs.FilesRead.{Holds, HoldsMore}
+use Rattle.command_base.specs.Replies.{OfFileBytes, Wrote}
+use Rattle.command_base.specs.declared.status.Status.{Status}
+use Rattle.command_base.specs.declared.status.Status.TheVariants.{Answered, Refused, ReadFault, WriteFault, NoMemory, IndexRefused, FileTooBig, InputTooLong, Stopped}
+use Rattle.session_commands.specs.Heard.{Heard}
+use Rattle.index_cmd.specs.Replies.{Causes}
+use Rattle.index_cmd.specs.Requests.{Request}
+use Rattle.index_cmd.specs.Results.{Says}
+use Rattle.index_cmd.specs.Stores.{Leaves}
+
+-- what was written, the cause of the status, and what the shelf holds
+pub record Does (request : Option Request) (told shelf : Option Files) (heard : Heard) (reads stores writes : Type 0) (old new : Option (List ℕ)) (status : Status) : Type 0 where
+  pub wrote : Wrote (Says request told heard) status old new
+  pub causes : Causes request told reads stores writes status
+  pub leaves : Leaves request told shelf status
+
+-- The file with this name was read and holds these bytes, the shelf holds what it held before, and no count of faults fell.
+pub record WasRead (told shelf : Option Files) (file bytes : List ℕ) (old_reads reads old_stores stores : ℕ) : Type 0 where
+  pub same : SameFiles told shelf
+  pub holds : Holds told file bytes
+  pub reads_on : old_reads ≤ reads
+  pub stores_stay : stores ≡ old_stores
+
+-- ---- where a second file is read
+
+-- what the text says of its bytes
+abbrev pub SaysBeside : Option Files → List ℕ → (List ℕ → Status → List ℕ → Type 0) → Status → List ℕ → Type 0
+SaysBeside told file Meaning status text = OfFileBytes told file (λ held. Meaning held status text)
+
+-- the cause of a status, by the most bytes that it may have and whether a read or a write failed
+abbrev pub CausesBeside : Option Files → List ℕ → ℕ → Type 0 → Type 0 → Status → Type 0
+CausesBeside told file most reads writes Answered = ⊤
+CausesBeside told file most reads writes Refused = ⊤
+CausesBeside told file most reads writes IndexRefused = ⊤
+CausesBeside told file most reads writes NoMemory = ⊤
+CausesBeside told file most reads writes InputTooLong = ⊤
+CausesBeside told file most reads writes Stopped = ⊤
+CausesBeside told file most reads writes ReadFault = reads
+CausesBeside told file most reads writes FileTooBig = HoldsMore told file most
+CausesBeside told file most reads writes WriteFault = writes
+CausesBeside told file most reads writes other = ⊥

@@ -1,0 +1,46 @@
+-- What a command asks for, once its query is read, as it stands in the code.
+use Rattle.std.specs.Prelude.{◌≡◌, ◌<◌, ◌≤◌, ℕ, List, [], Some, ⊤}
+use Rattle.index_model.specs.Seen.{query_seen}
+use Rattle.command_words.specs.SeenWords.{IsReaders}
+use Rattle.command_words.specs.Words.{Wanted, Ask, LookGdb, LookNames}
+use Rattle.index_commands.specs.GdbLooks.{offer_gdb}
+use Rattle.index_cmd.specs.Requests.{Request, TheHelp, TheVersion, OfFile, OfIndex, OfGdb, OfNames, OfServe, OfRace, OfDrill}
+use Rattle.index_cmd.specs.declared.task.Action.{Action}
+use Rattle.index_cmd.specs.declared.task.Action.TheVariants as actions
+use Rattle.index_cmd.specs.declared.task.Task.{Task}
+use Rattle.index_cmd.specs.declared.task.Task.TheVariants as tasks
+
+-- the words of the query of a command; none where it has no query
+abbrev pub query_words : Wanted → List (List ℕ)
+query_words (Ask a) = a.query
+query_words (LookGdb l) = l.query
+query_words (LookNames l) = l.query
+query_words other = []
+
+-- what is asked of the bytes of the file with this name
+abbrev pub request_on : List ℕ → Action → Request
+request_on file (actions.Ask q) = OfFile file (query_seen q)
+request_on file (actions.Index kind out) = OfIndex kind file out.now
+request_on file (actions.LookGdb q) = OfGdb file (query_seen q)
+request_on file (actions.LookNames base strings name) = OfNames base file strings.now name.now
+request_on file (actions.Serve wait) = OfServe wait file
+request_on file (actions.Race readers script) = OfRace readers file script.now
+
+-- what is asked
+abbrev pub request_seen : Task → Request
+request_seen tasks.Help = TheHelp
+request_seen tasks.Version = TheVersion
+request_seen (tasks.OnFile f) = request_on f.file.now f.action
+request_seen (tasks.Drill seed units) = OfDrill seed units
+
+-- the numbers are in the bounds of the grammar, and the query is one that the index answers
+abbrev pub IsActionInBounds : Action → Type 0
+IsActionInBounds (actions.LookGdb q) = offer_gdb (query_seen q) ≡ Some (query_seen q)
+IsActionInBounds (actions.Serve wait) = wait ≤ 3
+IsActionInBounds (actions.Race readers script) = IsReaders readers
+IsActionInBounds other = ⊤
+
+abbrev pub IsInBounds : Task → Type 0
+IsInBounds (tasks.OnFile f) = IsActionInBounds f.action
+IsInBounds (tasks.Drill seed units) = (0 < units) × (units ≤ 100000)
+IsInBounds other = ⊤

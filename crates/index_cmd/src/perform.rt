@@ -1,0 +1,152 @@
+//! What is asked for is done.
+
+ghost use Rattle.std.specs.Prelude.{◌≡◌, ◌<◌, ◌≤◌, Some, ℕ, List, Option, length};
+ghost use Rattle.ix_base.specs.declared.limits.TheConstants.{MAX_FILE_BYTES};
+ghost use Rattle.outside.specs.Counts.{Rose};
+ghost use Rattle.outside.specs.Files.{Files, SameFiles};
+ghost use Rattle.index_commands.specs.NamesLooks.{SaysNames};
+ghost use Rattle.session_commands.specs.Heard.{heard};
+ghost use Rattle.session_commands.specs.Races.{SaysRace};
+ghost use Rattle.session_commands.specs.declared.script.TheConstants.{MAX_SCRIPT_BYTES};
+ghost use Rattle.command_base.specs.Replies.{Wrote};
+ghost use Rattle.index_cmd.specs.Doings.{CausesBeside, Does, SaysBeside, WasRead};
+ghost use Rattle.index_cmd.specs.Requests.{ReadsNoInput};
+ghost use Rattle.index_cmd.specs.Tasks.{request_on, request_seen, IsActionInBounds, IsInBounds};
+
+use crate::about::{HELP, VERSION};
+use crate::say::say;
+use crate::task::{Action, OnFile, Task};
+use command_base::{Status, read_file};
+use drill_command::run_drill;
+use index_commands::{ask_file, index_file, look_gdb, look_names};
+use index_pool::Crew;
+use ix_base::MAX_FILE_BYTES;
+use outside::{Gate, Shelf, Sink, Source};
+use session_commands::{MAX_SCRIPT_BYTES, race_file, serve_file};
+use std::alloc::Global;
+use std::sync::Wait;
+use std::thread::Threads;
+
+/// Does what is asked for. Of the statuses that aren't a result nothing is written here.
+pub(crate) fn perform<
+    R: Threads + Wait + Sync,
+    F: Shelf,
+    S: Source + Send,
+    K: Sink + Send,
+    G: Gate + Sync,
+>(crew: &Crew<'_, R, G>, task: &Task<'_>, shelf: &mut F, input: &mut S, out: &mut K) -> Status
+    requires some { 0 < crew.now.workers }
+    requires few { crew.now.workers ≤ 64 }
+    requires bounds { IsInBounds task.now }
+    ensures did { Does (Some (request_seen task.now)) (F.files shelf.old) (F.files shelf.new) (heard S.left S.read_faults input.old input.new) (Rose (F.read_faults shelf.old) (F.read_faults shelf.new)) (Rose (F.store_faults shelf.old) (F.store_faults shelf.new)) (Rose (K.write_faults out.old) (K.write_faults out.new)) (K.written out.old) (K.written out.new) result }
+    ensures input { ReadsNoInput (Some (request_seen task.now)) → input.new ≡ input.old }
+    ensures counts { K.write_faults out.old ≤ K.write_faults out.new }
+{
+    match task {
+        Task::Help => say(out, Status::Answered, HELP.as_bytes()),
+        Task::Version => say(out, Status::Answered, VERSION.as_bytes()),
+        Task::Drill { seed, units } => run_drill(crew, *seed, *units, out),
+        Task::OnFile(on) => read_and_act(crew, on, shelf, input, out),
+    }
+}
+
+// Reads the file, and does what is asked of its bytes.
+fn read_and_act<
+    R: Threads + Wait + Sync,
+    F: Shelf,
+    S: Source + Send,
+    K: Sink + Send,
+    G: Gate + Sync,
+>(crew: &Crew<'_, R, G>, on: &OnFile<'_>, shelf: &mut F, input: &mut S, out: &mut K) -> Status
+    requires some { 0 < crew.now.workers }
+    requires few { crew.now.workers ≤ 64 }
+    requires bounds { IsActionInBounds on.now.action }
+    ensures did { Does (Some (request_on on.now.file.now on.now.action)) (F.files shelf.old) (F.files shelf.new) (heard S.left S.read_faults input.old input.new) (Rose (F.read_faults shelf.old) (F.read_faults shelf.new)) (Rose (F.store_faults shelf.old) (F.store_faults shelf.new)) (Rose (K.write_faults out.old) (K.write_faults out.new)) (K.written out.old) (K.written out.new) result }
+    ensures input { ReadsNoInput (Some (request_on on.now.file.now on.now.action)) → input.new ≡ input.old }
+    ensures counts { K.write_faults out.old ≤ K.write_faults out.new }
+{
+    match read_file(crew.alloc, shelf, on.file, MAX_FILE_BYTES as usize) {
+        Ok(bytes) => act(crew, &on.action, &bytes, shelf, input, out),
+        Err(stop) => stop.status(),
+    }
+}
+
+// Does what is asked of the bytes of a file. The clause speaks of the shelf and the counts as they were before the file was read.
+fn act<R: Threads + Wait + Sync, F: Shelf, S: Source + Send, K: Sink + Send, G: Gate + Sync>(
+    crew: &Crew<'_, R, G>,
+    action: &Action<'_>,
+    bytes: &[u8],
+    shelf: &mut F,
+    input: &mut S,
+    out: &mut K,
+) -> Status
+    requires small { length bytes.now ≤ MAX_FILE_BYTES }
+    requires some { 0 < crew.now.workers }
+    requires few { crew.now.workers ≤ 64 }
+    requires bounds { IsActionInBounds action.now }
+    ensures did { (told : Option Files) (file : List ℕ) (old_reads old_stores : ℕ) → WasRead told (F.files shelf.old) file bytes.now old_reads (F.read_faults shelf.old) old_stores (F.store_faults shelf.old) → Does (Some (request_on file action.now)) told (F.files shelf.new) (heard S.left S.read_faults input.old input.new) (Rose old_reads (F.read_faults shelf.new)) (Rose old_stores (F.store_faults shelf.new)) (Rose (K.write_faults out.old) (K.write_faults out.new)) (K.written out.old) (K.written out.new) result }
+    ensures input { (file : List ℕ) → ReadsNoInput (Some (request_on file action.now)) → input.new ≡ input.old }
+    ensures counts { K.write_faults out.old ≤ K.write_faults out.new }
+{
+    match action {
+        Action::Ask(query) => ask_file(crew, bytes, query, out),
+        Action::Index { kind, out: name } => index_file(crew, bytes, *kind, name, shelf, out),
+        Action::LookGdb(query) => look_gdb(bytes, query, out),
+        Action::LookNames {
+            base,
+            strings,
+            name,
+        } => read_strings(crew.alloc, bytes, *base, strings, name, shelf, out),
+        Action::Serve { wait } => serve_file(crew, bytes, *wait, input, out),
+        Action::Race { readers, script } => read_script(crew, bytes, *readers, script, shelf, out),
+    }
+}
+
+// Reads the strings of an index, and looks a name up in it.
+fn read_strings<F: Shelf, K: Sink>(
+    alloc: Global,
+    bytes: &[u8],
+    base: u32,
+    strings: &str,
+    name: &[u8],
+    shelf: &mut F,
+    out: &mut K,
+) -> Status
+    requires { length bytes.now ≤ MAX_FILE_BYTES }
+    ensures wrote { Wrote (SaysBeside (F.files shelf.old) strings.now (λ held. SaysNames bytes.now held base name.now)) result (K.written out.old) (K.written out.new) }
+    ensures causes { CausesBeside (F.files shelf.old) strings.now MAX_FILE_BYTES (Rose (F.read_faults shelf.old) (F.read_faults shelf.new)) (Rose (K.write_faults out.old) (K.write_faults out.new)) result }
+    ensures kept { SameFiles (F.files shelf.old) (F.files shelf.new) }
+    ensures reads { F.read_faults shelf.old ≤ F.read_faults shelf.new }
+    ensures counts { K.write_faults out.old ≤ K.write_faults out.new }
+{
+    match read_file(alloc, shelf, strings, MAX_FILE_BYTES as usize) {
+        Ok(held) => look_names(alloc, bytes, &held, base, name, out),
+        Err(stop) => stop.status(),
+    }
+}
+
+// Reads a script, and lets the readers answer its lines.
+fn read_script<R: Threads + Wait + Sync, F: Shelf, K: Sink, G: Gate + Sync>(
+    crew: &Crew<'_, R, G>,
+    bytes: &[u8],
+    readers: u32,
+    script: &str,
+    shelf: &mut F,
+    out: &mut K,
+) -> Status
+    requires small { length bytes.now ≤ MAX_FILE_BYTES }
+    requires one_worker { 0 < crew.now.workers }
+    requires few_workers { crew.now.workers ≤ 64 }
+    requires one_reader { 0 < readers }
+    requires few_readers { readers ≤ 16 }
+    ensures wrote { Wrote (SaysBeside (F.files shelf.old) script.now (SaysRace bytes.now readers)) result (K.written out.old) (K.written out.new) }
+    ensures causes { CausesBeside (F.files shelf.old) script.now MAX_SCRIPT_BYTES (Rose (F.read_faults shelf.old) (F.read_faults shelf.new)) (Rose (K.write_faults out.old) (K.write_faults out.new)) result }
+    ensures kept { SameFiles (F.files shelf.old) (F.files shelf.new) }
+    ensures reads { F.read_faults shelf.old ≤ F.read_faults shelf.new }
+    ensures counts { K.write_faults out.old ≤ K.write_faults out.new }
+{
+    match read_file(crew.alloc, shelf, script, MAX_SCRIPT_BYTES as usize) {
+        Ok(held) => race_file(crew, bytes, &held, readers, out),
+        Err(stop) => stop.status(),
+    }
+}

@@ -1,0 +1,169 @@
+//! What a command line asks for, once the query of its words is read.
+
+ghost use Rattle.std.specs.Prelude.{◌≡◌, ◌<◌, ◌≤◌, option_map};
+ghost use Rattle.std.specs.Option.{ForSome};
+ghost use Rattle.command_words.specs.SeenWords.{seen_ask, seen_command, seen_look, seen_names, words_of, HasWorkers};
+ghost use Rattle.command_words.specs.Words.{query_text};
+ghost use Rattle.index_cmd.specs.Requests.{asked, looked, looked_names, requested};
+ghost use Rattle.index_cmd.specs.Tasks.{query_words, request_seen, IsInBounds};
+
+use crate::line::{offered_gdb, offered_name};
+use command_words::{Ask, Command, LookGdb, LookNames};
+use index_model::{CacheKind, Query};
+use query_text::parse;
+
+/// What is asked for, but for the number of workers.
+#[derive(Clone, Copy)]
+pub(crate) enum Task<'w> {
+    Help,
+    Version,
+    /// What is asked of the bytes of a file.
+    OnFile(OnFile<'w>),
+    /// The sizes of the program that a seed makes of so many units.
+    Drill { seed: u32, units: u32 },
+}
+
+/// What is asked of the bytes of a file.
+#[derive(Clone, Copy)]
+pub(crate) struct OnFile<'w> {
+    pub file: &'w str,
+    pub action: Action<'w>,
+}
+
+/// What is done with the bytes of a file, a program's or an index's.
+#[derive(Clone, Copy)]
+pub(crate) enum Action<'w> {
+    Ask(Query<'w>),
+    Index {
+        kind: CacheKind,
+        /// The name under which the index is stored.
+        out: &'w str,
+    },
+    LookGdb(Query<'w>),
+    LookNames {
+        base: u32,
+        strings: &'w str,
+        name: &'w [u8],
+    },
+    Serve {
+        wait: u8,
+    },
+    Race {
+        readers: u32,
+        script: &'w str,
+    },
+}
+
+/// The words of the query of a command. There are none where it has no query.
+pub(crate) fn query_words<'w>(command: &Command<'w>) -> &'w [String]
+    ensures { words_of result.now ≡ query_words (seen_command command.now) }
+{
+    match command {
+        Command::Ask(words) => words.query,
+        Command::LookGdb(words) => words.query,
+        Command::LookNames(words) => words.query,
+        Command::Help
+        | Command::Version
+        | Command::Index(_)
+        | Command::Serve(_)
+        | Command::Race(_)
+        | Command::Drill(_) => &[],
+    }
+}
+
+/// How many workers a command asks for; 1 where it builds nothing.
+pub(crate) fn workers(command: &Command<'_>) -> u32
+    requires { HasWorkers command.now }
+    ensures some { 0 < result }
+    ensures few { result ≤ 64 }
+{
+    match command {
+        Command::Ask(words) => words.workers,
+        Command::Index(words) => words.workers,
+        Command::Serve(words) => words.workers,
+        Command::Race(words) => words.workers,
+        Command::Drill(words) => words.workers,
+        Command::Help | Command::Version | Command::LookGdb(_) | Command::LookNames(_) => 1,
+    }
+}
+
+/// What a command asks for, by the line of its query. None where the command doesn't answer that.
+pub(crate) fn task_for<'w>(command: &Command<'w>, line: &'w [u8]) -> Option<Task<'w>>
+    requires line { line.now ≡ query_text (query_words (seen_command command.now)) }
+    requires bounds { HasWorkers command.now }
+    ensures request { option_map request_seen result ≡ requested (seen_command command.now) }
+    ensures bounds { ForSome result IsInBounds }
+{
+    match command {
+        Command::Help => Some(Task::Help),
+        Command::Version => Some(Task::Version),
+        Command::Ask(words) => asked(words, line),
+        Command::Index(words) => Some(Task::OnFile(OnFile {
+            file: words.file,
+            action: Action::Index {
+                kind: words.kind,
+                out: words.out,
+            },
+        })),
+        Command::LookGdb(words) => looked(words, line),
+        Command::LookNames(words) => looked_names(words, line),
+        Command::Serve(words) => Some(Task::OnFile(OnFile {
+            file: words.file,
+            action: Action::Serve { wait: words.wait },
+        })),
+        Command::Race(words) => Some(Task::OnFile(OnFile {
+            file: words.file,
+            action: Action::Race {
+                readers: words.readers,
+                script: words.script,
+            },
+        })),
+        Command::Drill(words) => Some(Task::Drill {
+            seed: words.seed,
+            units: words.units,
+        }),
+    }
+}
+
+// A query of a program file.
+fn asked<'w>(words: &Ask<'w>, line: &'w [u8]) -> Option<Task<'w>>
+    requires { line.now ≡ query_text (seen_ask words.now).query }
+    ensures request { option_map request_seen result ≡ asked (seen_ask words.now) }
+    ensures bounds { ForSome result IsInBounds }
+{
+    let query = parse(line)?;
+    Some(Task::OnFile(OnFile {
+        file: words.file,
+        action: Action::Ask(query),
+    }))
+}
+
+// A query of a `.gdb_index`.
+fn looked<'w>(words: &LookGdb<'w>, line: &'w [u8]) -> Option<Task<'w>>
+    requires { line.now ≡ query_text (seen_look words.now).query }
+    ensures request { option_map request_seen result ≡ looked (seen_look words.now) }
+    ensures bounds { ForSome result IsInBounds }
+{
+    let query = offered_gdb(line)?;
+    Some(Task::OnFile(OnFile {
+        file: words.index,
+        action: Action::LookGdb(query),
+    }))
+}
+
+// A query of a `.debug_names`.
+fn looked_names<'w>(words: &LookNames<'w>, line: &'w [u8]) -> Option<Task<'w>>
+    requires { line.now ≡ query_text (seen_names words.now).query }
+    ensures request { option_map request_seen result ≡ looked_names (seen_names words.now) }
+    ensures bounds { ForSome result IsInBounds }
+{
+    let name = offered_name(line)?;
+    Some(Task::OnFile(OnFile {
+        file: words.index,
+        action: Action::LookNames {
+            base: words.base,
+            strings: words.strings,
+            name,
+        },
+    }))
+}

@@ -1,0 +1,4 @@
+mod AskLaws
+mod StoreLaws
+mod GdbLaws
+mod HitCounts

@@ -1,0 +1,4 @@
+pub mod GdbLooks
+pub mod NamesLooks
+pub mod Stores
+pub mod Indexes

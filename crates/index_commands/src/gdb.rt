@@ -1,0 +1,56 @@
+//! `look gdb`: the answer of a `.gdb_index` to a query.
+
+ghost use Rattle.std.specs.Prelude.{◌≡◌, ◌≤◌, Some};
+ghost use Rattle.outside.specs.Counts.{Rose};
+ghost use Rattle.index_model.specs.Answers.{Answered};
+ghost use Rattle.index_model.specs.Seen.{answer_seen, query_seen};
+ghost use Rattle.query_text.specs.Places.{PlacesFitAnswer};
+ghost use Rattle.command_base.specs.Replies.{CausesOfResult, SaysReply, Wrote};
+ghost use Rattle.index_commands.specs.GdbLooks.{offer_gdb, SaysGdb, SaysLook};
+
+use command_base::{Status, ended, write};
+use gdbindex_read::GdbIndex;
+use index_model::{Answer, Query, Reply};
+use outside::Sink;
+use query_text::{write_elements, write_index_fault};
+
+/// Writes the answer of the index in these bytes to the query, or its first fault. The query is one that it answers.
+pub fn look_gdb<K: Sink>(bytes: &[u8], query: &Query<'_>, out: &mut K) -> Status
+    requires { offer_gdb (query_seen query.now) ≡ Some (query_seen query.now) }
+    ensures wrote { Wrote (SaysGdb bytes.now (query_seen query.now)) result (K.written out.old) (K.written out.new) }
+    ensures causes { CausesOfResult (Rose (K.write_faults out.old) (K.write_faults out.new)) result }
+    ensures counts { K.write_faults out.old ≤ K.write_faults out.new }
+{
+    match GdbIndex::open(bytes) {
+        Ok(index) => answer_by(&index, query, out),
+        Err(fault) => ended(write_index_fault(out, fault), Status::IndexRefused),
+    }
+}
+
+// The answer of an index that was opened.
+fn answer_by<K: Sink>(index: &GdbIndex<'_>, query: &Query<'_>, out: &mut K) -> Status
+    requires { offer_gdb (query_seen query.now) ≡ Some (query_seen query.now) }
+    ensures wrote { Wrote (SaysLook index.now (query_seen query.now)) result (K.written out.old) (K.written out.new) }
+    ensures causes { CausesOfResult (Rose (K.write_faults out.old) (K.write_faults out.new)) result }
+    ensures counts { K.write_faults out.old ≤ K.write_faults out.new }
+{
+    match query {
+        Query::Name(name) => ended(
+            write_elements(out, name, &index.find(name)),
+            Status::Answered,
+        ),
+        Query::Addr(address) => answer_short(out, Answer::Unit(index.unit_at(*address))),
+        Query::Main => answer_short(out, Answer::Main(index.main_name())),
+        Query::Simple(_) | Query::Cache => unreachable!(),
+    }
+}
+
+// The answer of one line.
+fn answer_short<K: Sink>(out: &mut K, answer: Answer<'_>) -> Status
+    requires { PlacesFitAnswer (answer_seen answer) }
+    ensures wrote { Wrote (SaysReply (Answered (answer_seen answer.entry))) result (K.written out.old) (K.written out.new) }
+    ensures causes { CausesOfResult (Rose (K.write_faults out.old) (K.write_faults out.new)) result }
+    ensures counts { K.write_faults out.old ≤ K.write_faults out.new }
+{
+    write(out, &Reply::Answer(answer))
+}

@@ -1,0 +1,12 @@
+//! The commands over one index: `ask` and `index` build that of a file, and `look` reads one that was stored.
+#![tactic(auto)]
+
+mod ask;
+mod gdb;
+mod index;
+mod names;
+
+pub use ask::ask_file;
+pub use gdb::look_gdb;
+pub use index::index_file;
+pub use names::look_names;

@@ -1,0 +1,5 @@
+mod SessionTexts
+mod ListenLaws
+mod Crossing
+mod RunnerLaws
+mod RaceLaws
