@@ -1,22 +1,10 @@
 #!/usr/bin/env python3
-"""Writes the generated files that the tests of elf_make compare those of `make` with.
-
-    generated.py                  writes them anew
-    generated.py --check          says whether they are not what it would write; status 1 where they are not
-    generated.py SEED UNITS FILE  writes the file of a seed and a number of units
+"""generated.py SEED UNITS FILE: writes the generated file of a seed and a number of units.
 
 A unit is written down as its entries, (tag, attributes, children), and turned into bytes by a writer of one plain form, which
 knows nothing of our code.  crates/elf_make/specs/Generated.antt has the rule in words."""
-import os
 import struct
 import sys
-
-import gen_tables
-import gen_vectors
-
-FOLDER = os.path.join(gen_vectors.CRATES, 'elf_make/src/tests')
-WRITTEN = '// Written by tools/generated.py; not to be changed by hand.\n\n'
-FILES = [(0, 1), (7, 3)]
 
 TAGS = {'class_type': 0x02, 'compile_unit': 0x11, 'typedef': 0x16, 'subprogram': 0x2e, 'variable': 0x34, 'namespace': 0x39}
 
@@ -119,18 +107,6 @@ def generated(seed, units):
     return packed(2, writer.sections())
 
 
-def table():
-    made = WRITTEN
-    for seed, units in FILES:
-        data = generated(seed, units)
-        made += '// The file of seed %d and %d units.\npub(crate) const SEED_%d_UNITS_%d: [u8; %d] = *%s;\n\n' % (
-            seed, units, seed, units, len(data), gen_tables.wrapped(data, 4))
-    return made
-
-
 if __name__ == '__main__':
-    if len(sys.argv) == 4:
-        with open(sys.argv[3], 'wb') as out:
-            out.write(generated(int(sys.argv[1]), int(sys.argv[2])))
-    else:
-        sys.exit(gen_tables.written(FOLDER, {'generated_rows.rt': table()}))
+    with open(sys.argv[3], 'wb') as out:
+        out.write(generated(int(sys.argv[1]), int(sys.argv[2])))
