@@ -1,8 +1,8 @@
 //! What is kept of a finished job.
 
-ghost use Rattle.std.specs.Prelude.{◌≡◌, ◌||◌, Some};
+ghost use Rattle.std.specs.Prelude.{◌≡◌, ◌||◌, IfOk, IsTrue, OnErr, Some};
 ghost use Rattle.index_model.specs.MachineEvents.{is_memory, fault_in};
-ghost use Rattle.stage_core.specs.Outputs.{output_seen};
+ghost use Rattle.stage_core.specs.Outputs.{is_made, output_seen};
 ghost use Rattle.stage_core.specs.Brought.{brought_seen, is_lost};
 
 use crate::lost::Lost;
@@ -10,7 +10,7 @@ use crate::output::{Cache, Output, Summary};
 use index_model::{Linked, Run, Shard};
 use ix_base::Fault;
 use query_engine::Table;
-use std::alloc::Global;
+use std::alloc::{AllocError, Global};
 use std::snapshot::Snapshot;
 use std::sync::Arc;
 
@@ -34,30 +34,26 @@ impl<'f> Brought<'f> {
         ensures { brought_seen result ≡ output_seen output.entry }
     {
         let whole = Snapshot::of(&output);
+        match Brought::shared(alloc, output) {
+            Ok(brought) => brought,
+            Err(_) => Brought::Lost(Lost::of(whole)),
+        }
+    }
+
+    // An output, shared. It fails only for what a job made.
+    fn shared(alloc: Global, output: Output<'f>) -> Result<Brought<'f>, AllocError>
+        ensures kept { IfOk result (λ brought. brought_seen brought ≡ output_seen output.entry) }
+        ensures made { OnErr result (IsTrue (is_made output.entry)) }
+    {
         match output {
-            Output::Shard(shard) => match Arc::new(alloc, shard) {
-                Ok(shard) => Brought::Shard(shard),
-                Err(_) => Brought::Lost(Lost::of(whole)),
-            },
-            Output::Linked(linked) => match Arc::new(alloc, linked) {
-                Ok(linked) => Brought::Linked(linked),
-                Err(_) => Brought::Lost(Lost::of(whole)),
-            },
-            Output::Summary(summary) => match Arc::new(alloc, summary) {
-                Ok(summary) => Brought::Summary(summary),
-                Err(_) => Brought::Lost(Lost::of(whole)),
-            },
-            Output::Table(table) => match Arc::new(alloc, table) {
-                Ok(table) => Brought::Table(table),
-                Err(_) => Brought::Lost(Lost::of(whole)),
-            },
-            Output::Cache(cache) => match Arc::new(alloc, cache) {
-                Ok(cache) => Brought::Cache(cache),
-                Err(_) => Brought::Lost(Lost::of(whole)),
-            },
-            Output::Run(run) => Brought::Run(run),
-            Output::Fault(fault) => Brought::Fault(fault),
-            Output::Memory => Brought::Memory,
+            Output::Shard(shard) => Ok(Brought::Shard(Arc::new(alloc, shard)?)),
+            Output::Linked(linked) => Ok(Brought::Linked(Arc::new(alloc, linked)?)),
+            Output::Summary(summary) => Ok(Brought::Summary(Arc::new(alloc, summary)?)),
+            Output::Table(table) => Ok(Brought::Table(Arc::new(alloc, table)?)),
+            Output::Cache(cache) => Ok(Brought::Cache(Arc::new(alloc, cache)?)),
+            Output::Run(run) => Ok(Brought::Run(run)),
+            Output::Fault(fault) => Ok(Brought::Fault(fault)),
+            Output::Memory => Ok(Brought::Memory),
         }
     }
 

@@ -54,9 +54,8 @@ impl<'f> Build<'f> {
     {
         let shards = Arc::new(alloc, shards_in(alloc, self.progress.brought())?)?;
         let tasks = link_tasks(alloc, self.runs, &shards)?;
-        let _brought = self.progress.close(alloc, self.runs)?;
-        self.tasks = tasks;
-        self.stock = Stock::Link(shards);
+        self.progress.shut(alloc, self.runs)?;
+        self.begin(tasks, Stock::Link(shards));
         Ok(())
     }
 
@@ -70,9 +69,8 @@ impl<'f> Build<'f> {
     {
         let linked = Arc::new(alloc, linked_in(alloc, self.progress.brought())?)?;
         let tasks = main_task(alloc, &shards, &linked)?;
-        let _brought = self.progress.close(alloc, 1)?;
-        self.tasks = tasks;
-        self.stock = Stock::Main(shards, linked);
+        self.progress.shut(alloc, 1)?;
+        self.begin(tasks, Stock::Main(shards, linked));
         Ok(())
     }
 
@@ -86,10 +84,9 @@ impl<'f> Build<'f> {
         ensures same { OnErr result (self.new ≡ self.old) }
     {
         let summary = summary_in(self.progress.brought())?;
-        let _brought = self.progress.close(alloc, self.runs)?;
+        self.progress.shut(alloc, self.runs)?;
         self.parts.summary = summary;
-        self.tasks = tasks;
-        self.stock = Stock::Name;
+        self.begin(tasks, Stock::Name);
         Ok(())
     }
 
@@ -107,8 +104,7 @@ impl<'f> Build<'f> {
         let job = Job::Merge;
         let input = Input::Runs(runs);
         place_task(&mut tasks, Task { job, input });
-        self.tasks = tasks;
-        self.stock = Stock::Merge;
+        self.begin(tasks, Stock::Merge);
         Ok(())
     }
 
@@ -121,10 +117,9 @@ impl<'f> Build<'f> {
     {
         let table = table_in(self.progress.brought())?;
         let tasks = write_task(alloc, &self.parts, &table, self.cache)?;
-        let _brought = self.progress.close(alloc, 1)?;
+        self.progress.shut(alloc, 1)?;
         self.parts.table = table;
-        self.tasks = tasks;
-        self.stock = Stock::Write;
+        self.begin(tasks, Stock::Write);
         Ok(())
     }
 
@@ -136,10 +131,18 @@ impl<'f> Build<'f> {
         ensures same { OnErr result (self.new ≡ self.old) }
     {
         let cache = cache_in(self.progress.brought())?;
-        let _brought = self.progress.close(alloc, 0)?;
+        self.progress.shut(alloc, 0)?;
         self.parts.cache = cache;
         self.tasks.clear();
         self.stock = Stock::Nothing;
         Ok(())
+    }
+
+    // The tasks of the kind that opens, and what is kept for those behind it.
+    fn begin(&mut self, tasks: Tasks<'f>, stock: Stock<'f>)
+        ensures { self.new ≡ record self.old { tasks = tasks.entry; stock = stock.entry } }
+    {
+        self.tasks = tasks;
+        self.stock = stock;
     }
 }

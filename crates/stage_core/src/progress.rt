@@ -172,4 +172,17 @@ impl<'f> Progress<'f> {
         self.drawn = 0;
         Ok(mem::replace(&mut self.brought, next))
     }
+
+    /// As `close`, and what the jobs brought is let go.
+    ///
+    /// # Errors
+    ///
+    /// Where memory was refused nothing has changed.
+    pub fn shut(&mut self, alloc: Global, jobs: u32) -> Result<(), AllocError>
+        ensures closed { OnOk result (self.new ≡ record self.old { closed = self.old.closed ++ filter_map made_in self.old.brought ∷ []; drawn = 0; brought = replicate jobs None }) }
+        ensures same { OnErr result (self.new ≡ self.old) }
+    {
+        self.close(alloc, jobs)?;
+        Ok(())
+    }
 }

@@ -19,8 +19,8 @@ returns-clause-opens c =
     let a : Build = c.args.self.now in
     let ms : List Made = filter_map made_in a.progress.brought in
     let made : made_of_slots c.brought.result.now ≡ ms = ap (λ (bs : List (Option (Output Made))). filter_map made_in bs) c.brought.ensures.brought in
-    let b : Build = record { file = a.file; runs = a.runs; cache = a.cache; progress = c.close.new.self; stock = stocks.Nothing; tasks = c.clear.new.self; parts = record a.parts { cache = c.in_ok-cache.cache } } in
+    let b : Build = record { file = a.file; runs = a.runs; cache = a.cache; progress = c.shut.new.self; stock = stocks.Nothing; tasks = c.clear.new.self; parts = record a.parts { cache = c.in_ok-cache.cache } } in
     let published =
     ap (λ (o : Option Cache). record (parts_seen a.parts) { cache = o }) (c.in_ok-cache.ensures ∙ ap (λ (xs : List Made). index_in (slice_get xs 0)) made) ∙
     ap (λ (p : Parts). record p { cache = index_in (slice_get ms 0) }) (c.requires.open.fits.parts ∙ parts_going a.progress c.requires.open.going) in
-    opens_next a b 0 c.requires.open c.in_ok-_brought.ensures.closed (last_closes (subject_of a) a.runs ms b a.progress.closed c.requires.kind c.clear.ensures.items published (omega (arith, length-append a.progress.closed (ms ∷ []), c.requires.kind)))
+    opens_next a b 0 c.requires.open c.in_ok-shut.ensures.closed (last_closes (subject_of a) a.runs ms b a.progress.closed c.requires.kind c.clear.ensures.items published (omega (arith, length-append a.progress.closed (ms ∷ []), c.requires.kind)))

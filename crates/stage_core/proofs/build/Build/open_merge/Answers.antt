@@ -1,4 +1,4 @@
-use Rattle.std.proofs.Common.{◌≡◌, List, [], ◌∷◌, ◌++◌, Option, filter_map, ap, ◌∙◌, arith, length-append}
+use Rattle.std.proofs.Common.{◌≡◌, List, [], ◌∷◌, ◌++◌, Option, filter_map, ap, ◌∙◌, arith, length-append, sym, subst}
 use Rattle.index_model.specs.Machine.{Output}
 use Rattle.index_model.specs.MachineEvents.{made_in}
 use Rattle.index_model.specs.Outputs.{Made}
@@ -12,7 +12,7 @@ use Rattle.stage_core.proofs.TaskLaws.{one_task}
 use Rattle.stage_core.proofs.OpeningLaws.{other_tasks}
 use Rattle.stage_core.specs.declared.build.Build.{Build}
 use Rattle.stage_core.specs.declared.stock.Stock.TheVariants as stocks
-use Rattle.stage_core.specs.Build.{subject_of}
+use Rattle.stage_core.specs.Build.{subject_of, OpensNext}
 use Rattle.stage_core.specs.Slots.{made_of_slots}
 use Rattle.stage_core.proofs.OpeningLaws.{opens_next}
 use Rattle.stage_core.proofs.KindLaws.{parts_going, merge_opens}
@@ -32,4 +32,4 @@ returns-clause-opens c =
     let tasks =
     other_tasks c.place_task.new.tasks.items 1 _ (λ _. record { job = Merge; given = RunsOf (filter_map run_in ms) }) (λ i. ap (λ (rs : List (List Entry)). record { job = Merge; given = RunsOf rs }) moved)
     (one_task c.place_task.new.tasks.items task (c.place_task.ensures.placed ∙ ap (λ (ts : List Task). ts ++ task ∷ []) c.in_ok-tasks.ensures.items)) in
-    opens_next a b 1 c.requires.open c.in_ok-brought.ensures.closed (merge_opens (subject_of a) a.runs ms b a.progress.closed c.requires.kind tasks (c.requires.open.fits.parts ∙ parts_going a.progress c.requires.open.going) (omega (arith, length-append a.progress.closed (ms ∷ []), c.requires.kind)))
+    subst (OpensNext a) (sym c.begin.ensures) (opens_next a b 1 c.requires.open c.in_ok-brought.ensures.closed (merge_opens (subject_of a) a.runs ms b a.progress.closed c.requires.kind tasks (c.requires.open.fits.parts ∙ parts_going a.progress c.requires.open.going) (omega (arith, length-append a.progress.closed (ms ∷ []), c.requires.kind))))

@@ -1,4 +1,4 @@
-use Rattle.std.proofs.Common.{◌≡◌, List, [], ◌∷◌, Option, filter_map, ap, ◌∙◌, arith, length-append}
+use Rattle.std.proofs.Common.{◌≡◌, List, [], ◌∷◌, Option, filter_map, ap, ◌∙◌, arith, length-append, sym, subst}
 use Rattle.std.specs.Prelude.{slice_get}
 use Rattle.index_model.specs.Machine.{Output}
 use Rattle.index_model.specs.MachineEvents.{made_in}
@@ -6,7 +6,7 @@ use Rattle.index_model.specs.Outputs.{Made, Summary}
 use Rattle.index_model.specs.Parts.{Parts, summary_in}
 use Rattle.stage_core.specs.declared.build.Build.{Build}
 use Rattle.stage_core.specs.declared.stock.Stock.TheVariants as stocks
-use Rattle.stage_core.specs.Build.{subject_of}
+use Rattle.stage_core.specs.Build.{subject_of, OpensNext}
 use Rattle.stage_core.specs.Outputs.{parts_seen}
 use Rattle.stage_core.specs.Slots.{made_of_slots}
 use Rattle.stage_core.proofs.OpeningLaws.{opens_next}
@@ -18,8 +18,8 @@ returns-clause-opens c =
     let a : Build = c.args.self.now in
     let ms : List Made = filter_map made_in a.progress.brought in
     let made : made_of_slots c.brought.result.now ≡ ms = ap (λ (bs : List (Option (Output Made))). filter_map made_in bs) c.brought.ensures.brought in
-    let b : Build = record { file = a.file; runs = a.runs; cache = a.cache; progress = c.close.new.self; stock = stocks.Name; tasks = c.args.tasks; parts = record a.parts { summary = c.in_ok-summary.summary } } in
+    let b : Build = record { file = a.file; runs = a.runs; cache = a.cache; progress = c.shut.new.self; stock = stocks.Name; tasks = c.args.tasks; parts = record a.parts { summary = c.in_ok-summary.summary } } in
     let published =
     ap (λ (o : Option Summary). record (parts_seen a.parts) { summary = o }) (c.in_ok-summary.ensures ∙ ap (λ (xs : List Made). summary_in (slice_get xs 0)) made) ∙
     ap (λ (p : Parts). record p { summary = summary_in (slice_get ms 0) }) (c.requires.open.fits.parts ∙ parts_going a.progress c.requires.open.going) in
-    opens_next a b a.runs c.requires.open c.in_ok-_brought.ensures.closed (names_open (subject_of a) a.runs ms b a.progress.closed c.requires.kind c.requires.tasks published (omega (arith, length-append a.progress.closed (ms ∷ []), c.requires.kind)))
+    subst (OpensNext a) (sym c.begin.ensures) (opens_next a b a.runs c.requires.open c.in_ok-shut.ensures.closed (names_open (subject_of a) a.runs ms b a.progress.closed c.requires.kind c.requires.tasks published (omega (arith, length-append a.progress.closed (ms ∷ []), c.requires.kind))))
