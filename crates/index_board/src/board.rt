@@ -3,12 +3,14 @@
 ghost use Rattle.std.specs.Prelude.{◌≡◌, ◌<◌, ◌≤◌, ◌++◌, ◌∷◌, [], Bool, false, length, max, IfOk, IfSome, IsTrue, option_map};
 ghost use Rattle.ix_base.specs.declared.limits.TheConstants.{MAX_FILE_BYTES};
 ghost use Rattle.file_image.specs.Images.{image_of};
+ghost use Rattle.index_model.specs.LawsCore.{StateIsRight};
 ghost use Rattle.index_model.specs.Outputs.{IsOutputOf};
+ghost use Rattle.index_model.specs.Parts.{parts};
 ghost use Rattle.index_model.specs.Stages.{IsReachable, stopped};
 ghost use Rattle.stage_lock.specs.Seen.{IsPassOf, first_pass, parted_pass, split_pass};
 ghost use Rattle.stage_lock.specs.Shares.{sum_of};
 ghost use Rattle.stage_core.specs.Machines.{FitsFile, Machine, stage_of};
-ghost use Rattle.stage_core.specs.Outputs.{output_seen};
+ghost use Rattle.stage_core.specs.Outputs.{output_seen, parts_seen};
 ghost use Rattle.stage_core.specs.Tasks.{task_seen};
 ghost use Rattle.index_board.specs.Boards.{IsCutOf, IsImage, first_stage};
 ghost use Rattle.index_board.specs.Kept.{no_parts};
@@ -18,7 +20,7 @@ use crate::reader::Reader;
 use file_image::Image;
 use index_model::{CacheKind, Job};
 use ix_base::{NoMemory, Stop};
-use stage_core::{Core, Output, Task};
+use stage_core::{Core, Output, Parts, Task, core_is_right};
 use stage_lock::StageLock;
 use std::alloc::Global;
 use std::marker::Model;
@@ -193,6 +195,40 @@ impl<'f> Board<'f> {
         let mut core = self.lock.enter(rt, pass);
         core.finish(self.alloc, job, output);
         self.lock.leave(pass, core);
+    }
+
+    // What has been published, shared in one turn. May wait for the turn.
+    pub(crate) fn share<R: Wait>(&self, rt: &R, pass: &mut Pass<'f>) -> Result<Parts<'f>, NoMemory>
+        requires own { IsPassOf self.now pass.old }
+        requires idle { pass.old.holding ≡ false }
+        ensures turn { (m : Machine) × Turn self.now pass.old pass.new m m × StateIsRight m.subject m.state × IfOk result (λ p. parts_seen p ≡ parts m.state) }
+    {
+        let core = self.lock.enter(rt, pass);
+        core_is_right(&core);
+        let shared = core.parts();
+        self.lock.leave(pass, core);
+        shared
+    }
+
+    // One mark within a turn, and what has been published, shared in it. May wait for the turn.
+    pub(crate) fn share_at_mark<R: Wait>(
+        &self,
+        rt: &R,
+        pass: &mut Pass<'f>,
+    ) -> (u8, Result<Parts<'f>, NoMemory>)
+        requires own { IsPassOf self.now pass.old }
+        requires idle { pass.old.holding ≡ false }
+        ensures reach { IsReachable pass.old.floor result.0 }
+        ensures range { result.0 ≤ stopped }
+        ensures fits { FitsFile self.now.subject result.0 }
+        ensures turn { (m : Machine) × (result.0 ≡ stage_of m) × Turn self.now (record pass.old { marks = pass.old.marks ++ result.0 ∷ [] }) pass.new m m × StateIsRight m.subject m.state × IfOk result.1 (λ p. parts_seen p ≡ parts m.state) }
+    {
+        let core = self.lock.enter(rt, pass);
+        core_is_right(&core);
+        let stage = self.mark(pass);
+        let shared = core.parts();
+        self.lock.leave(pass, core);
+        (stage, shared)
     }
 
     /// Gives up the board.

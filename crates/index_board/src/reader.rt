@@ -10,7 +10,7 @@ use crate::poll::Poll;
 use crate::reply::{answers, reply};
 use index_model::{Look, Query};
 use ix_base::NoMemory;
-use stage_core::{Cache, Parts, core_is_right};
+use stage_core::{Cache, Parts};
 use std::marker::Model;
 use std::sync::Wait;
 use std::thread::yield_now;
@@ -107,10 +107,7 @@ impl<'b, 'f> Reader<'b, 'f> {
         ensures lost { OnErr result (self.new.kept ≡ self.old.kept) }
     {
         let board = self.board;
-        let core = board.lock.enter(rt, &mut self.pass);
-        core_is_right(&core);
-        let shared = core.parts();
-        board.lock.leave(&mut self.pass, core);
+        let shared = board.share(rt, &mut self.pass);
         fill(&mut self.kept, shared?);
         Ok(())
     }
@@ -152,11 +149,7 @@ impl<'b, 'f> Reader<'b, 'f> {
         ensures lost { OnErr result.1 (self.new.kept ≡ self.old.kept) }
     {
         let board = self.board;
-        let taken = board.lock.enter(rt, &mut self.pass);
-        core_is_right(&taken);
-        let stage = board.mark(&mut self.pass);
-        let shared = taken.parts();
-        board.lock.leave(&mut self.pass, taken);
+        let (stage, shared) = board.share_at_mark(rt, &mut self.pass);
         match shared {
             Ok(parts) => {
                 fill(&mut self.kept, parts);
