@@ -28,7 +28,8 @@ places_fit test es i d lt =
     let f = of_filter (λ (e : ℕ × Entry). test e.1) (enumerate_from 0 es) m.0 m.1 in
     omega (arith, below_count 0 es m.0 f.0, m.2)
 
-answer_fits : (b : Built) (size : CacheSize) (q : Query) → PlacesFitAnswer (answer_to b size q)
+-- an answer of a file has places of its entries alone
+pub answer_fits : (b : Built) (size : CacheSize) (q : Query) → PlacesFitAnswer (answer_to b size q)
 unfolding answer_to
 answer_fits b size (AskName n) = places_fit (is_named n) (entries_in b)
 answer_fits b size (AskSimple n) = places_fit (is_simply_named n) (entries_in b)
