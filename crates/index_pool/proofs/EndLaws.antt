@@ -6,7 +6,7 @@ use Rattle.index_pool.specs.declared.ended.Ended.{Ended}
 use Rattle.index_pool.specs.declared.ended.Ended.TheVariants.{Done, Refused, Stopped}
 use Rattle.index_pool.specs.Ends.{stage_at_end, IsLast}
 
-high : (e : Ended) → cache_written ≤ stage_at_end e
+pub high : (e : Ended) → cache_written ≤ stage_at_end e
 high Done = omega arith
 high Refused = omega arith
 high Stopped = omega arith

@@ -87,8 +87,12 @@ impl<R: Threads + Wait + Sync, G: Gate + Sync> Crew<'_, R, G> {
         ensures least { IfOk result (λ made. cache_written ≤ made.1.floor) }
         ensures last { IfOk result (λ made. IsLast made.1.floor) }
     {
-        let (board, mut pass) = self.open(file, kind)?;
-        self.build(&board, &mut pass);
-        Ok((board, pass))
+        match self.open(file, kind) {
+            Ok((board, mut pass)) => {
+                self.build(&board, &mut pass);
+                Ok((board, pass))
+            }
+            Err(error) => Err(error),
+        }
     }
 }

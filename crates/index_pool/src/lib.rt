@@ -14,10 +14,11 @@ mod pool;
 mod ranges;
 mod summary;
 mod team;
+mod worker;
 mod write;
 
 pub use crew::Crew;
 pub use ended::Ended;
 pub use job::perform;
 pub use pool::{build, work};
-pub use write::name_index;
+pub use write::{name_cache, name_index};

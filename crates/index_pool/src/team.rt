@@ -1,30 +1,19 @@
 //! Several workers at once.
 
-ghost use Rattle.std.specs.Prelude.{◌≡◌, All, false, IfOk};
+ghost use Rattle.std.specs.Prelude.{◌≡◌, ◌<◌, All, false, length, vec_len, IfOk};
 ghost use Rattle.index_model.specs.Stages.{IsReachable};
-ghost use Rattle.index_model.specs.Outputs.{Subject};
-ghost use Rattle.stage_lock.specs.Seen.{IsPassOf, Lock};
-ghost use Rattle.index_pool.specs.Teams.{IsIdlePass};
+ghost use Rattle.stage_lock.specs.Seen.{IsPassOf};
+ghost use Rattle.index_pool.specs.Teams.{HaveStayed, IsOfBoard};
 
-use crate::pool::work;
+use crate::worker::Worker;
 use index_board::{Board, Pass};
 use outside::Gate;
 use std::alloc::{AllocError, Global};
 use std::sync::Wait;
-use std::thread::{Threads, map_vec};
+use std::thread::{Threads, for_each_mut};
 
-// A pass beside its board, so that one value goes to a thread.
-#[derive(Drop)]
-struct Worker<'b, 'f> {
-    alloc: Global,
-    board: &'b Board<'f>,
-    pass: Pass<'f>,
-    ghost own: { IsPassOf board.now pass },
-    ghost idle: { pass.holding ≡ false },
-}
-
-/// Runs `work` on so many workers, each in a thread of its own where one can be started, and takes their passes in. May wait. Where
-/// memory is refused some of them may not have worked.
+/// Runs `work` on so many workers, each in a thread of its own where one can be started, and takes in what they know. May wait.
+/// Where memory is refused none of them has worked.
 pub(crate) fn work_together<'f, R: Threads + Wait + Sync, G: Gate + Sync>(
     rt: &R,
     alloc: Global,
@@ -35,48 +24,34 @@ pub(crate) fn work_together<'f, R: Threads + Wait + Sync, G: Gate + Sync>(
 )
     requires own { IsPassOf board.now pass.old }
     requires idle { pass.old.holding ≡ false }
+    requires some { 0 < workers }
     ensures own { IsPassOf board.now pass.new }
     ensures idle { pass.new.holding ≡ false }
     ensures reach { IsReachable pass.old.floor pass.new.floor }
 {
-    if let Ok(passes) = run_team(rt, alloc, board, pass, workers, gate) {
-        take_in(board, pass, passes);
+    if let Ok(mut team) = gather(alloc, board, pass, workers) {
+        run_team(rt, board, pass, &mut team, gate);
     }
 }
 
-// Runs `work` on so many workers, and gives their passes.
-//
-// # Errors
-//
-// `AllocError` where memory was refused.
+// Runs `work` on these workers, and takes in what they know. May wait.
 fn run_team<'f, R: Threads + Wait + Sync, G: Gate + Sync>(
     rt: &R,
-    alloc: Global,
     board: &Board<'f>,
     pass: &mut Pass<'f>,
-    workers: u32,
+    team: &mut [Worker<'_, 'f>],
     gate: &G,
-) -> Result<Vec<Pass<'f>>, AllocError>
+)
     requires own { IsPassOf board.now pass.old }
     requires idle { pass.old.holding ≡ false }
+    requires some { 0 < length team.old }
+    requires board { All (IsOfBoard board.now) team.old }
     ensures own { IsPassOf board.now pass.new }
     ensures idle { pass.new.holding ≡ false }
-    ensures floor { pass.new.floor ≡ pass.old.floor }
-    ensures passes { IfOk result (λ passes. All (IsIdlePass board.now) passes.items) }
+    ensures reach { IsReachable pass.old.floor pass.new.floor }
 {
-    let team = gather(alloc, board, pass, workers)?;
-    run_all(rt, team, gate)
-}
-
-// Each of them at once. Their passes, in the same order.
-fn run_all<'b, 'f, R: Threads + Wait + Sync, G: Gate + Sync>(
-    rt: &R,
-    team: Vec<Worker<'b, 'f>>,
-    gate: &G,
-) -> Result<Vec<Pass<'f>>, AllocError>
-    ensures { (board : Lock Subject) → All (λ w. w.board.now ≡ board) team.entry.items → IfOk result (λ passes. All (IsIdlePass board) passes.items) }
-{
-    map_vec(rt, team, &|worker| run(rt, gate, worker))
+    run_all(rt, team, gate);
+    take_in(board, pass, team);
 }
 
 // So many workers, whose passes are split from this one.
@@ -91,7 +66,8 @@ fn gather<'b, 'f>(
     ensures own { IsPassOf board.now pass.new }
     ensures idle { pass.new.holding ≡ false }
     ensures floor { pass.new.floor ≡ pass.old.floor }
-    ensures board { IfOk result (λ team. All (λ w. w.board.now ≡ board.now) team.items) }
+    ensures count { IfOk result (λ team. vec_len team ≡ workers) }
+    ensures board { IfOk result (λ team. All (IsOfBoard board.now) team.items) }
 {
     let mut team = Vec::with_capacity(alloc, workers as usize)?;
     for _worker in 0..workers {
@@ -101,33 +77,25 @@ fn gather<'b, 'f>(
     Ok(team)
 }
 
-// One of them.
-fn run<'f, R: Threads + Wait + Sync, G: Gate + Sync>(
-    rt: &R,
-    gate: &G,
-    worker: Worker<'_, 'f>,
-) -> Pass<'f>
-    ensures { IsIdlePass worker.entry.board.now result }
+// Each of them at once. May wait.
+fn run_all<R: Threads + Wait + Sync, G: Gate + Sync>(rt: &R, team: &mut [Worker<'_, '_>], gate: &G)
+    requires { 0 < length team.old }
+    ensures { HaveStayed team.old team.new }
 {
-    let Worker {
-        alloc,
-        board,
-        mut pass,
-    } = worker;
-    work(rt, alloc, board, &mut pass, gate);
-    pass
+    let threads = team.len();
+    for_each_mut(rt, team, threads, &|_number, worker| worker.run(rt, gate));
 }
 
-// Takes these passes in.
-fn take_in<'f>(board: &Board<'f>, pass: &mut Pass<'f>, passes: Vec<Pass<'f>>)
+// Takes in what these workers know, by a part of each one's pass.
+fn take_in<'f>(board: &Board<'f>, pass: &mut Pass<'f>, team: &mut [Worker<'_, 'f>])
     requires own { IsPassOf board.now pass.old }
     requires idle { pass.old.holding ≡ false }
-    requires others { All (IsIdlePass board.now) passes.items }
+    requires board { All (IsOfBoard board.now) team.old }
     ensures own { IsPassOf board.now pass.new }
     ensures idle { pass.new.holding ≡ false }
     ensures reach { IsReachable pass.old.floor pass.new.floor }
 {
-    for other in passes {
-        board.join(pass, other);
+    for worker in team.iter_mut() {
+        board.join(pass, board.split(&mut worker.pass));
     }
 }

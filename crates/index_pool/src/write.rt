@@ -1,11 +1,13 @@
 //! The index that the core asks for is written, of what it has published.
 
-ghost use Rattle.std.specs.Prelude.{◌≡◌, ◌⊎◌, option_map};
+ghost use Rattle.std.specs.Prelude.{◌≡◌, ◌⊎◌, IfSome, IsOkAnd, option_map};
+ghost use Rattle.index_model.specs.Cache.{cache_in};
+ghost use Rattle.index_model.specs.Faults.{built_of};
 ghost use Rattle.index_model.specs.declared.job.CacheKind.TheVariants.{Names};
 ghost use Rattle.index_model.specs.Outputs.{IsOutputOf};
 ghost use Rattle.index_model.specs.Seen.{main_seen};
 ghost use Rattle.stage_core.specs.Inputs.{PublishedOf};
-ghost use Rattle.stage_core.specs.Outputs.{output_seen, parts_seen, summary_seen};
+ghost use Rattle.stage_core.specs.Outputs.{cache_seen, output_seen, parts_seen, summary_seen};
 ghost use Rattle.index_pool.specs.Drawn.{IsDrawn, ForDrawn};
 ghost use Rattle.index_pool.specs.Written.{ArePublished, IsIndexOf, kind_of_version};
 
@@ -13,7 +15,7 @@ use crate::outputs::{of_gdb, of_names};
 use file_image::Image;
 use index_model::{CacheKind, Job, Main, MainName};
 use query_engine::Table;
-use stage_core::{Output, Parts, Summary};
+use stage_core::{Cache, Output, Parts, Summary};
 use std::alloc::Global;
 
 /// The index of the asked kind, or that its format can't hold it.
@@ -77,6 +79,22 @@ pub fn name_index<'f>(
     let units = image.units();
     let old_strings = image.sections().get(b".debug_str").len() as u64;
     of_names(debugnames_write::write(alloc, units, old_strings, table))
+}
+
+/// The index that `name_index` brings. None where memory was refused.
+pub fn name_cache<'f>(
+    alloc: Global,
+    image: &Image<'f>,
+    summary: &Summary<'f>,
+    table: &Table<'f>,
+) -> Option<Cache>
+    requires { ArePublished image.now (summary_seen summary.now) table.now }
+    ensures { IfSome result (λ cache. IsOkAnd (built_of image.now.file) (λ b. cache_seen cache ≡ cache_in Names b)) }
+{
+    match name_index(alloc, image, summary, table) {
+        Output::Cache(cache) => Some(cache),
+        _ => None,
+    }
 }
 
 // The main program, its name borrowed.

@@ -3,4 +3,4 @@ use Rattle.index_model.specs.Stages.{IsReachable, same}
 use Rattle.index_pool.proofs.team.work_together.Goals as goal
 
 pub returns-in_default-clause-reach : goal.returns-in_default-clause-reach
-returns-in_default-clause-reach g c = subst (λ (floor : ℕ). IsReachable c.args.pass.now.floor floor) (sym c.run_team.ensures.floor) same
+returns-in_default-clause-reach g c = subst (λ (floor : ℕ). IsReachable c.args.pass.now.floor floor) (sym c.gather.ensures.floor) same
