@@ -15,6 +15,7 @@ use Rattle.index_model.proofs.StageLaws.{closure}
 use Rattle.stage_core.specs.Machines.{FitsFile}
 use Rattle.stage_lock.specs.Seen.{Lock}
 use Rattle.index_pool.specs.Ends.{stage_at_end, IsLast}
+use Rattle.index_pool.proofs.EndLaws.{high as at_end}
 use Rattle.index_pool.specs.declared.ended.Ended.{Ended}
 use Rattle.index_pool.specs.declared.ended.Ended.TheVariants as ends
 use Rattle.query_text.specs.declared.fault.SessionFault.{SessionFault}
@@ -252,12 +253,7 @@ module _ (board : Lock Subject) (script : List ℕ) (runners : List Runner) (end
   over = record { file_is = refl; cache_is = h.is_gdb }
 
   high : cache_written ≤ stage_at_end ended
-  high = by ended
-    where
-      by : (e : Ended) → cache_written ≤ stage_at_end e
-      by ends.Done = omega arith
-      by ends.Refused = omega arith
-      by ends.Stopped = omega arith
+  high = at_end ended
 
   module _ (most : ℕ) (has : (floor : ℕ) → IsReachable floor (stage_at_end ended) → HasMost most floor) (kept : list_any has_lost runners ≡ false) where
     -- no line is too long

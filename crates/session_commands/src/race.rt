@@ -42,7 +42,11 @@ pub fn race_file<R: Threads + Wait + Sync, K: Sink, G: Gate + Sync>(
     ensures counts { K.write_faults out.old ≤ K.write_faults out.new }
 {
     match crew.open(file, CacheKind::Gdb8) {
-        Ok((board, mut pass)) => race_board(crew, &board, &mut pass, script, readers, out),
+        Ok((board, mut pass)) => {
+            let status = race_board(crew, &board, &mut pass, script, readers, out);
+            board.close(pass);
+            status
+        }
         Err(_) => Status::Stopped,
     }
 }
@@ -65,6 +69,8 @@ fn race_board<'f, R: Threads + Wait + Sync, K: Sink, G: Gate + Sync>(
     requires few_workers { crew.now.workers ≤ 64 }
     requires one_reader { 0 < readers }
     requires few_readers { readers ≤ 16 }
+    ensures own { IsPassOf board.now pass.new }
+    ensures idle { pass.new.holding ≡ false }
     ensures wrote { Wrote (SaysRace board.now.subject.file readers script.now) result (K.written out.old) (K.written out.new) }
     ensures causes { CausesOfRace (Rose (K.write_faults out.old) (K.write_faults out.new)) result }
     ensures counts { K.write_faults out.old ≤ K.write_faults out.new }
@@ -94,6 +100,8 @@ fn race_readers<'f, R: Threads + Wait + Sync, K: Sink, G: Gate + Sync>(
     requires few_workers { crew.now.workers ≤ 64 }
     requires one_reader { 0 < length runners.old }
     requires few_readers { length runners.old ≤ 16 }
+    ensures own { IsPassOf board.now pass.new }
+    ensures idle { pass.new.holding ≡ false }
     ensures wrote { Wrote (SaysRace board.now.subject.file (length runners.old) script.now) result (K.written out.old) (K.written out.new) }
     ensures causes { CausesOfRace (Rose (K.write_faults out.old) (K.write_faults out.new)) result }
     ensures counts { K.write_faults out.old ≤ K.write_faults out.new }

@@ -45,7 +45,11 @@ pub fn serve_file<R: Threads + Wait + Sync, S: Source + Send, K: Sink + Send, G:
         Err(_) => return Status::Stopped,
     };
     match crew.open(file, CacheKind::Gdb8) {
-        Ok((board, mut pass)) => serve_board(crew, &board, &mut pass, line, wait, input, out),
+        Ok((board, mut pass)) => {
+            let status = serve_board(crew, &board, &mut pass, line, wait, input, out);
+            board.close(pass);
+            status
+        }
         Err(_) => Status::Stopped,
     }
 }
@@ -67,6 +71,8 @@ fn serve_board<'f, R: Threads + Wait + Sync, S: Source + Send, K: Sink + Send, G
     requires some { 0 < crew.now.workers }
     requires few { crew.now.workers ≤ 64 }
     requires wait { wait ≤ 3 }
+    ensures own { IsPassOf board.now pass.new }
+    ensures idle { pass.new.holding ≡ false }
     ensures wrote { Wrote (SaysServe board.now.subject.file wait (heard S.left S.read_faults input.old input.new)) result (K.written out.old) (K.written out.new) }
     ensures causes { CausesOfSession (Rose (K.write_faults out.old) (K.write_faults out.new)) result }
     ensures counts { K.write_faults out.old ≤ K.write_faults out.new }

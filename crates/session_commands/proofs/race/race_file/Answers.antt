@@ -4,8 +4,8 @@ use Rattle.session_commands.proofs.ListenLaws.{first_reached}
 use Rattle.session_commands.proofs.RaceLaws.{nothing_raced}
 use Rattle.session_commands.proofs.race.race_file.Goals as goal
 
-pub race_board-requires-clause-reached : goal.race_board-requires-clause-reached
-race_board-requires-clause-reached g c κs within = subst (IsReachable initial) (sym (ap (λ p. p.floor) c.in-Ok.ensures.pass)) (first_reached c.args.file.now)
+pub race_board-status-requires-clause-reached : goal.race_board-status-requires-clause-reached
+race_board-status-requires-clause-reached g c κs within = subst (IsReachable initial) (sym (ap (λ p. p.floor) c.in-Ok.ensures.pass)) (first_reached c.args.file.now)
 
 pub returns-in-Err-clause-wrote : goal.returns-in-Err-clause-wrote
 returns-in-Err-clause-wrote g c = nothing_raced c.args.file.now c.args.readers c.args.script.now (g.K.Sink.written c.args.out.now)
