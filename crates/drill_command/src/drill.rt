@@ -20,10 +20,10 @@ use elf_make::make;
 use file_image::Image;
 use index_board::Reader;
 use index_model::{CacheKind, Main};
-use index_pool::{Crew, name_index};
+use index_pool::{Crew, name_cache};
 use outside::{Gate, Sink, write_all};
 use query_engine::Table;
-use stage_core::{Cache, Output, Parts, Summary};
+use stage_core::{Cache, Parts, Summary};
 use std::alloc::Global;
 use std::sync::Wait;
 use std::thread::Threads;
@@ -65,10 +65,13 @@ fn measure<R: Threads + Wait + Sync, K: Sink, G: Gate + Sync>(
     match crew.build_file(file, CacheKind::Gdb8) {
         Ok((board, mut pass)) => {
             let mut reader = board.reader(&mut pass);
-            match reader.fetch(crew.rt) {
+            let status = match reader.fetch(crew.rt) {
                 Ok(()) => summarize(crew.alloc, board.image(), &reader, out),
                 Err(_) => Status::NoMemory,
-            }
+            };
+            board.join(&mut pass, reader.end());
+            board.close(pass);
+            status
         }
         Err(_) => Status::NoMemory,
     }
@@ -117,9 +120,8 @@ fn sum_up<'f, K: Sink>(alloc: Global, image: &Image<'f>, parts: &Parts<'f>, out:
     let Cache::Gdb(gdb) = &**cache else {
         return Status::IndexTooLarge;
     };
-    let name_cache = match name_index(alloc, image, summary, table) {
-        Output::Cache(cache) => cache,
-        _ => return Status::NoMemory,
+    let Some(name_cache) = name_cache(alloc, image, summary, table) else {
+        return Status::NoMemory;
     };
     let Cache::Names(names, strings) = &name_cache else {
         return Status::IndexTooLarge;

@@ -1,17 +1,12 @@
 -- The answer of a file by what its core publishes.
-use Rattle.std.proofs.Common.{◌≡◌, ℕ, ◌+◌, ◌<◌, ◌≤◌, Bool, true, false, ltb, leb, List, [], ◌∷◌, length, filter, get_or, Option, Some, Result, Ok, Err, refl, sym, ap, subst, arith, ⊎_elim}
-use Rattle.std.specs.Prelude.{All, Contains}
-use Rattle.std.specs.List.{enumerate_from}
+use Rattle.std.proofs.Common.{◌≡◌, ℕ, ◌<◌, ◌≤◌, Bool, true, false, ltb, leb, List, Option, Some, Result, Ok, Err, refl, sym, ap, subst, arith}
 use Rattle.std.proofs.lemmas.Bool.Decides.{nat_tests}
-use Rattle.std.proofs.lemmas.List.Elements.{Contains-get_or}
-use Rattle.common_laws.proofs.Members.{contains_cases, of_map, of_filter}
 use Rattle.ix_base.specs.declared.fault.Fault.{Fault}
 use Rattle.ix_base.specs.declared.fault.NoMemory.{NoMemory as WantOfMemory}
 use Rattle.index_model.specs.declared.answer.Look.{Look}
-use Rattle.index_model.specs.declared.entry.Entry.{Entry}
 use Rattle.index_model.specs.declared.job.CacheKind.{CacheKind}
 use Rattle.index_model.specs.declared.job.CacheKind.TheVariants.{Gdb8}
-use Rattle.index_model.specs.Answers.{Reply, Answered as Replied, Refused as Refuses, Stopped, places, is_named, is_simply_named, entries_in, answer_to, reply_of, reply_at}
+use Rattle.index_model.specs.Answers.{Reply, Answered as Replied, Refused as Refuses, Stopped, answer_to, reply_of, reply_at}
 use Rattle.index_model.specs.Cache.{size_in}
 use Rattle.index_model.specs.Faults.{Built, built_of, first_fault}
 use Rattle.index_model.specs.Meaning.{wrong_in}
@@ -23,34 +18,12 @@ use Rattle.index_board.specs.LookUps.{IsAsked}
 use Rattle.index_board.specs.Marks.{IsLook, file_reply}
 use Rattle.index_board.specs.Readers.{Reader}
 use Rattle.index_pool.specs.Ends.{IsLast}
-use Rattle.query_text.specs.Places.{PlacesFit, PlacesFitAnswer}
+use Rattle.query_text.specs.Places.{PlacesFit}
+use Rattle.query_text.proofs.PlaceLaws.{answer_fits}
 use Rattle.command_base.specs.Replies.{SaysFile, SaysReply, Wrote}
 use Rattle.command_base.specs.declared.status.Status.{Status}
 use Rattle.command_base.specs.declared.status.Status.TheVariants.{Answered, Refused, Usage, ReadFault, StoreFault, WriteFault, NoMemory, IndexRefused, IndexTooLarge, FileTooBig, InputFault, InputTooLong, Stopped as Halted}
 use Rattle.command_base.proofs.ReplyLaws.{wrote_weaker}
-
--- ---- places of answers
-
-below_count : (n : ℕ) (es : List Entry) (e : ℕ × Entry) → Contains (enumerate_from n es) e → e.0 < n + length es
-below_count n [] e c = absurd (omega (arith, c.1))
-below_count n (x ∷ xs) e c = ⊎_elim
-    (λ (same : (n, x) ≡ e). let at : n ≡ e.0 = ap (λ (y : ℕ × Entry). y.0) same in omega (arith, at))
-    (λ (later : Contains (enumerate_from (n + 1) xs) e). omega (arith, below_count (n + 1) xs e later))
-    (contains_cases (n, x) (enumerate_from (n + 1) xs) e c)
-
-places_fit : (test : Entry → Bool) (es : List Entry) → All (λ k. k < length es) (places test es)
-places_fit test es i d lt =
-    let m = of_map (λ (e : ℕ × Entry). e.0) (filter (λ (e : ℕ × Entry). test e.1) (enumerate_from 0 es)) (get_or (places test es) i d) (Contains-get_or (places test es) i d lt) in
-    let f = of_filter (λ (e : ℕ × Entry). test e.1) (enumerate_from 0 es) m.0 m.1 in
-    omega (arith, below_count 0 es m.0 f.0, m.2)
-
-answer_fits : (b : Built) (size : _) (q : Query) → PlacesFitAnswer (answer_to b size q)
-unfolding answer_to
-answer_fits b size (AskName n) = places_fit (is_named n) (entries_in b)
-answer_fits b size (AskSimple n) = places_fit (is_simply_named n) (entries_in b)
-answer_fits b size (AskAddress a) = tt
-answer_fits b size AskMain = tt
-answer_fits b size AskCache = tt
 
 -- ---- replies
 

@@ -34,7 +34,10 @@ pub fn ask_file<R: Threads + Wait + Sync, K: Sink, G: Gate + Sync>(
     match crew.build_file(file, CacheKind::Gdb8) {
         Ok((board, mut pass)) => {
             let mut reader = board.reader(&mut pass);
-            answer(crew.rt, &mut reader, query, out)
+            let status = answer(crew.rt, &mut reader, query, out);
+            board.join(&mut pass, reader.end());
+            board.close(pass);
+            status
         }
         Err(_) => Status::NoMemory,
     }
@@ -50,6 +53,7 @@ fn answer<R: Wait, K: Sink>(
     requires kind { reader.old.board.subject.cache ≡ Gdb8 }
     requires least { cache_written ≤ reader.old.pass.floor }
     requires last { IsLast reader.old.pass.floor }
+    ensures board { reader.new.board ≡ reader.old.board }
     ensures wrote { Wrote (SaysFile reader.old.board.subject.file (query_seen query.now)) result (K.written out.old) (K.written out.new) }
     ensures causes { CausesOfResult (Rose (K.write_faults out.old) (K.write_faults out.new)) result }
     ensures counts { K.write_faults out.old ≤ K.write_faults out.new }

@@ -40,10 +40,13 @@ pub fn index_file<R: Threads + Wait + Sync, F: Shelf, K: Sink, G: Gate + Sync>(
     match crew.build_file(file, kind) {
         Ok((board, mut pass)) => {
             let mut reader = board.reader(&mut pass);
-            match reader.fetch(crew.rt) {
+            let status = match reader.fetch(crew.rt) {
                 Ok(()) => publish(crew.alloc, &reader, name, shelf, out),
                 Err(_) => Status::NoMemory,
-            }
+            };
+            board.join(&mut pass, reader.end());
+            board.close(pass);
+            status
         }
         Err(_) => Status::NoMemory,
     }

@@ -21,10 +21,10 @@ returns-in_default-deref g c =
       counts = omega arith;
     }
 
-pub returns-in_default-name_cache : goal.returns-in_default-name_cache
-returns-in_default-name_cache g c = record {
+pub returns-in_default-name_cache-2 : goal.returns-in_default-name_cache-2
+returns-in_default-name_cache-2 g c = record {
   wrote = appends_none (g.K.Sink.written c.args.out.now);
-  causes = names_large c.args.image.now.file c.in-Cache.cache c.in-Cache.ensures c.in_default-name_cache.not-Names;
+  causes = names_large c.args.image.now.file c.in-Some-name_cache.name_cache c.in-Some-name_cache.ensures c.in_default-name_cache-2.not-Names;
   counts = omega arith;
 }
 
@@ -36,6 +36,6 @@ returns-clause-wrote g c =
     let names = c.as_slice-2.result.now in
     let strings = c.as_slice-3.result.now in
     let gdb_is = subst (λ (x : Cache). IsOkAnd (built_of c.args.image.now.file) (λ b. x ≡ cache_in Gdb8 b)) (ap cache_seen c.in-Gdb.is ∙ ap GdbBytes (sym c.as_slice.ensures)) kept in
-    let both : cache_seen c.in-Cache.cache ≡ NameBytes names strings = ap cache_seen c.in-Names.is ∙ ap (λ (xs : List ℕ). NameBytes xs c.in-Names.strings) (sym c.as_slice-2.ensures) ∙ ap (NameBytes names) (sym c.as_slice-3.ensures) in
-    let names_is = subst (λ (x : Cache). IsOkAnd (built_of c.args.image.now.file) (λ b. x ≡ cache_in Names b)) both c.in-Cache.ensures in
+    let both : cache_seen c.in-Some-name_cache.name_cache ≡ NameBytes names strings = ap cache_seen c.in-Names.is ∙ ap (λ (xs : List ℕ). NameBytes xs c.in-Names.strings) (sym c.as_slice-2.ensures) ∙ ap (NameBytes names) (sym c.as_slice-3.ensures) in
+    let names_is = subst (λ (x : Cache). IsOkAnd (built_of c.args.image.now.file) (λ b. x ≡ cache_in Names b)) both c.in-Some-name_cache.ensures in
     wrote_summary c.args.image.now.file gdb names strings (totals_seen c.totals-totals.result) gdb_is names_is c.totals-totals.ensures c.write_line.result (g.K.Sink.written c.args.out.now) (g.K.Sink.written c.write_line.new.out) c.write_line.ensures.wrote
