@@ -7,7 +7,6 @@ pub mod SlotLaws
 pub mod DistinctLaws
 pub mod UnitLaws
 pub mod PartLaws
-pub mod PutLaws
 pub mod HeaderLaws
 pub mod SymbolLaws
 pub mod VectorLaws

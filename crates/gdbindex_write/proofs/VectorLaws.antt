@@ -28,14 +28,6 @@ module _ (all ks : List (List ℕ)) (i : ℕ) (v : List ℕ) (lt : i < length al
   pub set_more : with_vector v ks ≡ distinct bytes_eq (take (i + 1) all)
   set_more = ap (with_vector v) made ∙ sym grown
 
-  -- one that is new
-  pub new_more : list_any (bytes_eq v) ks ≡ false → ks ++ v ∷ [] ≡ distinct bytes_eq (take (i + 1) all)
-  new_more none = ap (λ b. cond b ks (ks ++ v ∷ [])) (sym none) ∙ set_more
-
-  -- one that isn't
-  pub old_more : list_any (bytes_eq v) ks ≡ true → ks ≡ distinct bytes_eq (take (i + 1) all)
-  old_more some = ap (λ b. cond b ks (ks ++ v ∷ [])) (sym some) ∙ set_more
-
   -- its number
   number_is : position_or_len (bytes_eq v) ks ≡ place_of bytes_eq v (distinct bytes_eq all)
   number_is =

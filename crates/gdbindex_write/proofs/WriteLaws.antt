@@ -39,10 +39,6 @@ use Rattle.gdbindex_write.proofs.PoolLaws.{pairs_are, own_names, own_pool, own_n
 use Rattle.gdbindex_write.proofs.PlaceLaws.{table_is, shortcut_is}
 use Rattle.gdbindex_write.proofs.IndexLaws.{written_is, length_is}
 
--- four parts that were appended one after the other
-pub joined : (o a b d e : List ℕ) {p q r s : List ℕ} → p ≡ o ++ a → q ≡ p ++ b → r ≡ q ++ d → s ≡ r ++ e → s ≡ (((o ++ a) ++ b) ++ d) ++ e
-joined o a b d e e1 e2 e3 e4 = e4 ∙ ap (λ (x : List ℕ). x ++ e) (e3 ∙ ap (λ (x : List ℕ). x ++ d) (e2 ∙ ap (λ (x : List ℕ). x ++ b) e1))
-
 module _ (units : List UnitHeader) (pieces : List UnitRange) (main : Option Main) (entries : List Entry) (version : ℕ) (writable : IsWritable units pieces main entries version)
     (numbers : List ℕ) (numbers_are : numbers ≡ map (index_number units) (below (length units)))
     (symbols : Symbols) (are : AreSymbolsOf (pairs_by numbers entries) symbols) (vectors : Vectors) (those : AreVectorsOf (vectors_of symbols.elements.items symbols.list.items) vectors) where

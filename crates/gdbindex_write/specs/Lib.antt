@@ -5,6 +5,7 @@ pub mod Keys
 pub mod Symbols
 pub mod Vectors
 pub mod Pools
+pub mod Prepared
 pub mod Slots
 pub mod Sizes
 pub mod Places

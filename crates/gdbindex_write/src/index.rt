@@ -1,9 +1,12 @@
 //! The index as a whole.
 
-ghost use Rattle.std.specs.Prelude.{◌≡◌, ◌≤◌, ◌<◌, length, option_map, IfOk, Err};
+ghost use Rattle.std.specs.Prelude.{◌≡◌, ◌≤◌, ◌<◌, ◌^◌, List, length, option_map, All, IfOk, Err};
+ghost use Rattle.index_model.specs.declared.entry.Entry.{Entry};
 ghost use Rattle.index_model.specs.GdbIndex.{gdb_index_bytes};
 ghost use Rattle.index_model.specs.Seen.{main_seen};
-ghost use Rattle.gdbindex_write.specs.Writable.{IsWritable};
+ghost use Rattle.gdbindex_write.specs.Prepared.{IsPrepared};
+ghost use Rattle.gdbindex_write.specs.Symbols.{AreWithin};
+ghost use Rattle.gdbindex_write.specs.Writable.{IsWritable, unit_bytes};
 ghost use Rattle.gdbindex_write.specs.declared.stop.WriteStop.TheVariants.{TooLarge};
 
 use crate::areas::{put_symbols, put_units};
@@ -13,7 +16,7 @@ use crate::stop::WriteStop;
 use crate::symbols::Symbols;
 use crate::vectors::Vectors;
 use address_map::AddressMap;
-use index_model::{MainName, Unit};
+use index_model::{MainName, Unit, UnitRange};
 use query_engine::Table;
 use std::alloc::Global;
 
@@ -41,18 +44,41 @@ pub fn write(
 {
     let numbers = index_numbers(alloc, units)?;
     let symbols = Symbols::of(alloc, &numbers, table.entries())?;
-    let vectors = Vectors::of(alloc, &symbols)?;
-    let Some(sizes) = Sizes::of(
+    index_bytes(
+        alloc,
         units,
         map.pieces(),
-        &symbols.list,
-        &vectors.distinct,
+        main,
         version,
-    ) else {
+        &numbers,
+        &symbols,
+    )
+}
+
+// The bytes of the index, once its units have numbers and its names are sorted.
+fn index_bytes(
+    alloc: Global,
+    units: &[Unit],
+    pieces: &[UnitRange],
+    main: Option<MainName<'_>>,
+    version: u8,
+    numbers: &[u32],
+    symbols: &Symbols<'_>,
+) -> Result<Vec<u8>, WriteStop>
+    requires few { length units.now ≤ 16777215 }
+    requires units { unit_bytes units.now < 2 ^ 32 }
+    requires pieces { All (λ p. p.unit < length numbers.now) pieces.now }
+    requires symbols { AreWithin (length symbols.now.elements.items) symbols.now.list.items }
+    ensures bytes { (entries : List Entry) → IsPrepared units.now pieces.now (option_map main_seen main.entry) version numbers.now symbols.now entries → IfOk result (λ v. v.items ≡ gdb_index_bytes units.now pieces.now (option_map main_seen main.entry) entries version) }
+    ensures fits { (entries : List Entry) → IsPrepared units.now pieces.now (option_map main_seen main.entry) version numbers.now symbols.now entries → IfOk result (λ v. length v.items ≤ 4294967295) }
+    ensures too_large { (entries : List Entry) → IsPrepared units.now pieces.now (option_map main_seen main.entry) version numbers.now symbols.now entries → result ≡ Err TooLarge → 4294967295 < length (gdb_index_bytes units.now pieces.now (option_map main_seen main.entry) entries version) }
+{
+    let vectors = Vectors::of(alloc, symbols)?;
+    let Some(sizes) = Sizes::of(units, pieces, &symbols.list, &vectors.distinct, version) else {
         return Err(WriteStop::TooLarge);
     };
     let mut out = Vec::with_capacity(alloc, sizes.total(version) as usize)?;
-    put_units(&mut out, version, &sizes, units, &numbers, map.pieces())?;
+    put_units(&mut out, version, &sizes, units, numbers, pieces)?;
     put_symbols(
         alloc,
         &mut out,

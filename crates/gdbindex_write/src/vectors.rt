@@ -1,8 +1,9 @@
 //! The distinct vectors, numbered in the order in which the names use them.
 
-ghost use Rattle.std.specs.Prelude.{◌≡◌, ◌<◌, ◌^◌, ◌++◌, not, length, map, flat_map, bytes_eq, All, IfOk, OnOk};
-ghost use Rattle.std.specs.List.{list_any, position_or_len};
+ghost use Rattle.std.specs.Prelude.{◌≡◌, ◌<◌, ◌^◌, ◌++◌, [], length, map, flat_map, bytes_eq, All, IfOk, OnOk};
+ghost use Rattle.std.specs.List.{position_or_len};
 ghost use Rattle.index_model.specs.GdbIndex.{vector_bytes};
+ghost use Rattle.index_model.specs.Ordered.{distinct, place_of};
 ghost use Rattle.gdbindex_write.specs.Symbols.{AreWithin, vectors_of};
 ghost use Rattle.gdbindex_write.specs.Pools.{vectors_seen};
 ghost use Rattle.gdbindex_write.specs.Vectors.{AreVectorsOf, with_vector};
@@ -26,28 +27,52 @@ impl<'s> Vectors<'s> {
         requires { AreWithin (length symbols.now.elements.items) symbols.now.list.items }
         ensures { IfOk result (AreVectorsOf (vectors_of symbols.now.elements.items symbols.now.list.items)) }
     {
-        let mut set = IndexSet::with_capacity(alloc, symbols.list.len())?;
-        let mut distinct = Vec::new(alloc);
         let mut numbers = Vec::with_capacity(alloc, symbols.list.len())?;
-        for symbol in &symbols.list {
-            let vector = &symbols.elements[symbol.start..symbol.end];
-            let (number, is_new) = insert(&mut set, vector)?;
-            if is_new {
-                distinct.push(vector)?;
-            }
-            numbers.push(number)?;
-        }
+        let distinct = distinct_vectors(alloc, symbols, &mut numbers)?;
         Ok(Vectors { distinct, numbers })
     }
 }
 
-// The number of a vector in the set, to which it is added if it is new.
-fn insert<'s>(set: &mut IndexSet<&'s [u32]>, vector: &'s [u32]) -> Result<(usize, bool), NoMemory>
-    ensures set { OnOk result (vectors_seen set.new.keys ≡ with_vector vector.now (vectors_seen set.old.keys)) }
-    ensures number { IfOk result (λ r. r.0 ≡ position_or_len (bytes_eq vector.now) (vectors_seen set.old.keys)) }
-    ensures is_new { IfOk result (λ r. r.1 ≡ not (list_any (bytes_eq vector.now) (vectors_seen set.old.keys))) }
+// The distinct vectors. The number of each symbol's own is appended to the numbers.
+fn distinct_vectors<'s>(
+    alloc: Global,
+    symbols: &'s Symbols<'_>,
+    numbers: &mut Vec<usize>,
+) -> Result<Vec<&'s [u32]>, NoMemory>
+    requires within { AreWithin (length symbols.now.elements.items) symbols.now.list.items }
+    requires empty { numbers.now.items ≡ [] }
+    ensures { IfOk result (λ v. AreVectorsOf (vectors_of symbols.now.elements.items symbols.now.list.items) (record { distinct = v; numbers = numbers.new })) }
 {
-    Ok(set.insert_full(vector)?)
+    let mut set = IndexSet::with_capacity(alloc, symbols.list.len())?;
+    number_vectors(symbols, &mut set, numbers)?;
+    Ok(Vec::from_slice(alloc, set.as_slice())?)
+}
+
+// Adds each symbol's vector to an empty set, and appends its number there.
+fn number_vectors<'s>(
+    symbols: &'s Symbols<'_>,
+    set: &mut IndexSet<&'s [u32]>,
+    numbers: &mut Vec<usize>,
+) -> Result<(), NoMemory>
+    requires within { AreWithin (length symbols.now.elements.items) symbols.now.list.items }
+    requires no_keys { set.now.keys ≡ [] }
+    requires empty { numbers.now.items ≡ [] }
+    ensures set { OnOk result (vectors_seen set.new.keys ≡ distinct bytes_eq (vectors_of symbols.now.elements.items symbols.now.list.items)) }
+    ensures numbers { OnOk result (numbers.new.items ≡ map (λ w. place_of bytes_eq w (distinct bytes_eq (vectors_of symbols.now.elements.items symbols.now.list.items))) (vectors_of symbols.now.elements.items symbols.now.list.items)) }
+{
+    for symbol in &symbols.list {
+        let vector = &symbols.elements[symbol.start..symbol.end];
+        numbers.push(insert(set, vector)?)?;
+    }
+    Ok(())
+}
+
+// The number of a vector in the set, to which it is added if it is new.
+fn insert<'s>(set: &mut IndexSet<&'s [u32]>, vector: &'s [u32]) -> Result<usize, NoMemory>
+    ensures set { OnOk result (vectors_seen set.new.keys ≡ with_vector vector.now (vectors_seen set.old.keys)) }
+    ensures number { IfOk result (λ n. n ≡ position_or_len (bytes_eq vector.now) (vectors_seen set.old.keys)) }
+{
+    Ok(set.insert_full(vector)?.0)
 }
 
 /// Appends the vectors, each behind the number of its elements.

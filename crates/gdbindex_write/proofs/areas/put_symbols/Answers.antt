@@ -3,6 +3,7 @@ use Rattle.std.proofs.lemmas.List.{get_or_default, length-map}
 use Rattle.std.proofs.lemmas.List.FromFn.{length-map-range_with_len}
 use Rattle.std.specs.Prelude.{flat_map, option_map}
 use denote.Ref.{Bor}
+use Rattle.common_laws.proofs.Appended.{four_parts}
 use Rattle.index_model.specs.GdbIndex.{vector_bytes}
 use Rattle.index_model.specs.Layout.{ended}
 use Rattle.index_model.specs.Seen.{main_seen}
@@ -13,7 +14,7 @@ use Rattle.gdbindex_write.specs.Sizes.{vectors_size}
 use Rattle.gdbindex_write.specs.Slots.{numbers_in_slots}
 use Rattle.gdbindex_write.specs.Symbols.{names_of}
 use Rattle.gdbindex_write.proofs.PartLaws.{no_vector, vectors_fit}
-use Rattle.gdbindex_write.proofs.WriteLaws.{joined, slots_within, count_le}
+use Rattle.gdbindex_write.proofs.WriteLaws.{slots_within, count_le}
 use Rattle.gdbindex_write.proofs.areas.put_symbols.Goals as goal
 
 pub numbers_in_slots-requires : goal.numbers_in_slots-requires
@@ -48,7 +49,7 @@ returns c =
     let slots = c.deref.ensures.value ∙ c.in_ok-slots.ensures in
     let places_2 = c.deref-2.ensures.value ∙ c.in_ok-places.ensures in
     let places_3 = c.deref-3.ensures.value ∙ c.in_ok-places.ensures in
-    joined c.args.out.now.items (flat_map (numbered_bytes places) (numbers_in_slots (names_of symbols))) (shortcut_of c.args.version symbols places main) (flat_map vector_bytes (vectors_seen distinct)) (flat_map ended (names_of symbols))
+    four_parts c.args.out.now.items (flat_map (numbered_bytes places) (numbers_in_slots (names_of symbols))) (shortcut_of c.args.version symbols places main) (flat_map vector_bytes (vectors_seen distinct)) (flat_map ended (names_of symbols))
     (c.in_ok-put_symbol_table.ensures ∙ (λ i. c.args.out.now.items ++ flat_map (numbered_bytes (places_2 i)) (slots i)))
     (c.in_ok-put_shortcut.ensures ∙ (λ i. c.put_symbol_table.new.out.items ++ shortcut_of c.args.version symbols (places_3 i) main))
     (c.in_ok-put_vectors.ensures ∙ (λ i. c.put_shortcut.new.out.items ++ flat_map vector_bytes (vectors_seen (c.deref-4.ensures.value i))))

@@ -1,12 +1,18 @@
-use Rattle.std.proofs.Common.{ℕ, List, ◌++◌, ap, ◌∙◌, arith}
+use Rattle.std.proofs.Common.{ℕ, List, ◌++◌, ap, ◌∙◌}
 use Rattle.std.specs.Prelude.{flat_map}
-use Rattle.std.proofs.lemmas.List.{take_all}
+use Rattle.common_laws.proofs.Appended.{no_part, more_parts, all_parts}
 use Rattle.gdbindex_write.specs.Units.{cu_bytes}
-use Rattle.gdbindex_write.proofs.UnitLaws.{cu_list_is}
+use Rattle.gdbindex_write.proofs.UnitLaws.{no_unit, cu_list_is}
 use Rattle.gdbindex_write.proofs.units.put_cu_list.Goals as goal
+
+pub loop-unit-init : goal.loop-unit-init
+loop-unit-init c = no_part (cu_bytes c.info_length-info.result) c.args.units.now c.args.out.now.items
+
+pub loop-unit-preserved : goal.loop-unit-preserved
+loop-unit-preserved c = more_parts (cu_bytes c.info_length-info.result) c.args.units.now c.loop-unit.unit-index no_unit c.args.out.now.items c.loop-unit-test.true c.loop-unit.invariant c.in_ok-put_cu.ensures
 
 pub returns : goal.returns
 returns c =
     let units = c.args.units.now in
-    let all = ap (flat_map (cu_bytes c.info_length-info.result)) (take_all c.loop-unit.unit-index units (omega arith)) in
-    c.loop-unit.invariant ∙ ap (λ (w : List ℕ). c.args.out.now.items ++ w) (all ∙ ap (λ (n : ℕ). flat_map (cu_bytes n) units) c.info_length-info.ensures ∙ cu_list_is units)
+    all_parts (cu_bytes c.info_length-info.result) units c.loop-unit.unit-index c.args.out.now.items c.loop-unit-test.false c.loop-unit.invariant
+    ∙ ap (λ (w : List ℕ). c.args.out.now.items ++ w) (ap (λ (n : ℕ). flat_map (cu_bytes n) units) c.info_length-info.ensures ∙ cu_list_is units)
