@@ -1,6 +1,7 @@
 -- The size of an index, and its parts one after the other.
 use Rattle.std.proofs.Common.{◌≡◌, ℕ, ◌+◌, ◌*◌, ◌-◌, ◌<◌, true, false, List, [], ◌∷◌, ◌++◌, length, map, ap, ◌∙◌, arith, length-append}
 use Rattle.std.specs.Prelude.{flat_map}
+use Rattle.common_laws.proofs.Appended.{flat_map-map}
 use Rattle.index_model.specs.declared.unit.Unit.{Unit as UnitHeader}
 use Rattle.index_model.specs.Layout.{below, u16_bytes, u32_bytes, start_of}
 use Rattle.index_model.specs.NameIndex.{Row as IndexRow, abbreviation_table, bucket, unit_offsets}
@@ -9,7 +10,6 @@ use Rattle.debugnames_write.specs.declared.units.UnitPlaces.{UnitPlaces}
 use Rattle.debugnames_write.specs.Laid.{laid_out, body_bytes, head_bytes, head_with, bucket_bytes, hash_bytes, string_bytes, start_bytes, groups_bytes, pool_bytes}
 use Rattle.debugnames_write.specs.Seen.{texts}
 use Rattle.debugnames_write.specs.Units.{ArePlacesOf}
-use Rattle.debugnames_write.proofs.Lists.{flat_map-map}
 use Rattle.debugnames_write.proofs.Whole.{laid_size, pushed}
 
 module _ (units : List UnitHeader) (rows : List IndexRow) (names : List Name) (most : ℕ) where
@@ -71,8 +71,3 @@ module _ (units : List UnitHeader) (rows : List IndexRow) (names : List Name) (p
       let f4 = e4 ∙ ap (λ (w : List ℕ). w ++ pool_bytes rows names) f3 in
       f4 ∙ pushed (u32_bytes (size - 4)) (head_with places (length names) table) (unit_offsets false units) (unit_offsets true units) (flat_map u32_bytes buckets) (hash_bytes names) (string_bytes names) (flat_map u32_bytes starts) (abbreviation_table rows) (pool_bytes rows names)
       ∙ parts
-
--- ---- four parts that were appended one after the other
-
-pub four : (o a b d e : List ℕ) {p q r s : List ℕ} → p ≡ o ++ a → q ≡ p ++ b → r ≡ q ++ d → s ≡ r ++ e → s ≡ (((o ++ a) ++ b) ++ d) ++ e
-four o a b d e e1 e2 e3 e4 = e4 ∙ ap (λ (x : List ℕ). x ++ e) (e3 ∙ ap (λ (x : List ℕ). x ++ d) (e2 ∙ ap (λ (x : List ℕ). x ++ b) e1))

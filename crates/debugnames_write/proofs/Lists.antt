@@ -59,10 +59,6 @@ module _ {X Y : Type 0} where
       let rest : map f xs ≡ map g xs = map_same f g xs (All-tail (λ x. f x ≡ g x) x xs all) in
       λ i. first i ∷ rest i
 
-pub flat_map-map : {X Y Z : Type 0} (f : Y → List Z) (h : X → Y) (xs : List X) → flat_map f (map h xs) ≡ flat_map (λ x. f (h x)) xs
-flat_map-map f h [] = refl
-flat_map-map {Z = Z} f h (x ∷ xs) = ap (λ (w : List Z). f (h x) ++ w) (flat_map-map f h xs)
-
 pub map-map : {X Y Z : Type 0} (f : Y → Z) (h : X → Y) (xs : List X) → map f (map h xs) ≡ map (λ x. f (h x)) xs
 map-map f h [] = refl
 map-map {Z = Z} f h (x ∷ xs) = ap (λ (w : List Z). f (h x) ∷ w) (map-map f h xs)

@@ -10,6 +10,7 @@ use Rattle.std.proofs.lemmas.List.{get_or-map, length-map, length-take-le, take-
 use Rattle.std.proofs.lemmas.List.Concat.{length-flat_map}
 use Rattle.std.proofs.lemmas.List.Sorted.{sorted_far, ranks_by, IsPermutation-map, IsPermutation-sym, Contains-permutation, All-permutation}
 use Rattle.std.proofs.lemmas.Map.Keys.{IsDistinct-IsPermutation, apart_from_distinct}
+use Rattle.common_laws.proofs.Appended.{flat_map-map}
 use Rattle.index_model.specs.Hashes.{name_hash}
 use Rattle.index_model.specs.Layout.{ended, start_of}
 use Rattle.index_model.specs.NameIndex.{name_lt, in_index_order, string_offset}
@@ -18,7 +19,7 @@ use Rattle.query_engine.proofs.TextOrder.{eq_from_same}
 use Rattle.debugnames_write.specs.declared.name.Name.{Name}
 use Rattle.index_model.specs.Order.{Rises}
 use Rattle.debugnames_write.specs.Seen.{name_key, texts}
-use Rattle.debugnames_write.proofs.Lists.{around, position_at, flat_map-map}
+use Rattle.debugnames_write.proofs.Lists.{around, position_at}
 use Rattle.index_model.proofs.Orders.{rises_from_pairs, ascending_is}
 use Rattle.index_model.proofs.IndexOrders.{index_key, name_order, by_index_key}
 use Rattle.debugnames_write.proofs.Orders.{bytes_lt_is, rising_distinct}

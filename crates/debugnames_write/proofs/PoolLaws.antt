@@ -5,6 +5,7 @@ use Rattle.std.proofs.lemmas.List.Folds.{length-flat_map-take}
 use Rattle.std.proofs.lemmas.List.{take_more, take_all, get_or_default}
 use Rattle.std.proofs.lemmas.List.FromFn.{map-range_with_len_more}
 use Rattle.std.proofs.lemmas.List.Concat.{flat_map-append}
+use Rattle.common_laws.proofs.Appended.{flat_map-map}
 use Rattle.index_model.specs.Layout.{below, u32_bytes, ended, start_of}
 use Rattle.index_model.specs.NameIndex.{Row as IndexRow, uleb_bytes, entry_bytes, row_eq}
 use Rattle.index_model.specs.Ordered.{place_of}
@@ -15,7 +16,6 @@ use Rattle.debugnames_write.specs.Laid.{entries_bytes, groups_bytes, pool_bytes}
 use Rattle.debugnames_write.specs.Names.{ArePlacesIn}
 use Rattle.debugnames_write.specs.Rows.{row_seen}
 use Rattle.debugnames_write.specs.Seen.{item_seen}
-use Rattle.debugnames_write.proofs.Lists.{flat_map-map}
 use Rattle.debugnames_write.proofs.NameLaws.{start_is}
 
 -- the items before one and that one

@@ -6,6 +6,7 @@ use Rattle.std.proofs.lemmas.List.Elements.{All-map, All-filter, All-contains_it
 use Rattle.std.proofs.lemmas.List.FromFn.{length-range_with_len}
 use Rattle.common_laws.proofs.Members.{contains_here, contains_later, contains_cases}
 use Rattle.common_laws.proofs.Lists.{length_of_fours}
+use Rattle.common_laws.proofs.Appended.{flat_map-map}
 use Rattle.index_model.specs.declared.entry.Entry.{Entry}
 use Rattle.index_model.specs.declared.unit.Unit.{Unit as UnitHeader}
 use Rattle.index_model.specs.Hashes.{name_hash}
@@ -21,7 +22,7 @@ use Rattle.debugnames_write.specs.Laid.{groups_bytes, head_bytes, bucket_bytes, 
 use Rattle.debugnames_write.specs.Names.{Kept, kept_of_name, kept_of_group, IsNameOf, HaveRows}
 use Rattle.debugnames_write.specs.Rows.{row_seen}
 use Rattle.debugnames_write.specs.Seen.{item_seen, items_seen, texts}
-use Rattle.debugnames_write.proofs.Lists.{flat_map_same, flat_map-map, map_same, map-map}
+use Rattle.debugnames_write.proofs.Lists.{flat_map_same, map_same, map-map}
 use Rattle.index_model.proofs.Orders.{bytes_order, ascending_is, ascending_rises, ascending_has, ascending_only}
 use Rattle.index_model.proofs.IndexOrders.{row_order}
 use Rattle.debugnames_write.proofs.PoolLaws.{name_bytes}

@@ -2,6 +2,7 @@ pub mod Answers
 pub mod Conditions
 pub mod Groups
 pub mod Laid
+pub mod Made
 pub mod Names
 pub mod Rows
 pub mod Seen

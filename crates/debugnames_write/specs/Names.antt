@@ -1,5 +1,7 @@
 -- What is kept of each name.
-use Rattle.std.specs.Prelude.{◌≡◌, ℕ, ◌+◌, ◌%◌, ◌<◌, ◌≤◌, List, length, map, flat_map, All, Contains}
+use Rattle.std.specs.Prelude.{◌≡◌, ℕ, ◌+◌, ◌%◌, ◌<◌, ◌≤◌, List, length, map, flat_map, All, Contains, IsPermutation, IsSorted}
+use Rattle.std.specs.Ordering.{nat_cmp}
+use Rattle.std.specs.Cmp.Lexicographic.{slice_cmp}
 use Rattle.index_model.specs.Hashes.{name_hash}
 use Rattle.index_model.specs.Layout.{below, ended, start_of}
 use Rattle.index_model.specs.NameIndex.{Row as IndexRow, string_offset}
@@ -11,6 +13,7 @@ use Rattle.debugnames_write.specs.declared.pool.PoolPlaces.{PoolPlaces}
 use Rattle.debugnames_write.specs.Groups.{group_names}
 use Rattle.debugnames_write.specs.Laid.{groups_bytes, pool_bytes}
 use Rattle.debugnames_write.specs.Rows.{row_seen}
+use Rattle.debugnames_write.specs.Seen.{name_key}
 
 -- a name with its entries
 abbrev pub Kept : Type 0
@@ -36,6 +39,14 @@ pub record AreNamesOf (gs : List Group) (old_strings : ℕ) (ns : Names) : Type 
   pub each : All (IsNameOf (group_names gs) old_strings) ns.names.items
   pub end : ns.strings_end ≡ old_strings + length (flat_map ended (group_names gs))
   pub fits : ns.strings_end ≤ 4294967295
+
+-- the same names in the order of the index
+pub record AreSortedNamesOf (gs : List Group) (old_strings : ℕ) (ns : Names) : Type 0 where
+  pub made : Names
+  pub made_are : AreNamesOf gs old_strings made
+  pub moved : IsPermutation made.names.items ns.names.items
+  pub in_order : IsSorted (λ x y. slice_cmp nat_cmp (name_key x) (name_key y)) ns.names.items
+  pub end : ns.strings_end ≡ made.strings_end
 
 -- the strings pass the greatest size of `.debug_str`
 abbrev pub StringsPass : List Group → ℕ → Type 0

@@ -7,7 +7,7 @@ ghost use Rattle.std.specs.Cmp.Lexicographic.{pointwise, slice_cmp, nat_list_eq_
 ghost use Rattle.index_model.specs.Ordered.{bytes_lt};
 ghost use Rattle.debugnames_write.specs.Answers.{Answers};
 ghost use Rattle.debugnames_write.specs.Groups.{group_names};
-ghost use Rattle.debugnames_write.specs.Names.{AreNamesOf, StringsPass};
+ghost use Rattle.debugnames_write.specs.Names.{AreNamesOf, AreSortedNamesOf, StringsPass};
 ghost use Rattle.index_model.specs.Order.{Rises};
 ghost use Rattle.debugnames_write.specs.Seen.{name_key};
 
@@ -80,8 +80,22 @@ pub(crate) struct Names<'r> {
     pub strings_end: u64,
 }
 
-/// The names of these groups in byte order. Their strings follow the bytes that `.debug_str` has.
-pub(crate) fn names_of<'r>(
+/// The names of these groups in the order of the index. Their strings follow the bytes that `.debug_str` has.
+pub(crate) fn sorted_names<'r>(
+    alloc: Global,
+    groups: &[Group<'r>],
+    old_strings: u64,
+) -> Result<Names<'r>, WriteStop>
+    requires { Rises bytes_lt (group_names groups.now) }
+    ensures { Answers result (AreSortedNamesOf groups.now old_strings) (StringsPass groups.now old_strings) }
+{
+    let mut named = names_of(alloc, groups, old_strings)?;
+    sort_names(&mut named.names)?;
+    Ok(named)
+}
+
+// The names of these groups in byte order.
+fn names_of<'r>(
     alloc: Global,
     groups: &[Group<'r>],
     old_strings: u64,
@@ -108,8 +122,8 @@ pub(crate) fn names_of<'r>(
     })
 }
 
-/// Sorts names into the order of the index.
-pub(crate) fn sort_names(names: &mut Vec<Name<'_>>) -> Result<(), AllocError>
+// Sorts names into the order of the index.
+fn sort_names(names: &mut Vec<Name<'_>>) -> Result<(), AllocError>
     ensures moved { IsPermutation names.old.items names.new.items }
     ensures sorted { OnOk result (IsSorted (λ x y. slice_cmp nat_cmp (name_key x) (name_key y)) names.new.items) }
 {

@@ -1,15 +1,19 @@
 //! The call that writes an index.
 
-ghost use Rattle.std.specs.Prelude.{◌≡◌, IfOk, IfErr, OnOk};
+ghost use Rattle.std.specs.Prelude.{◌≡◌, ◌<◌, ◌≤◌, length, All, IfOk, IfErr, OnOk};
+ghost use Rattle.index_model.specs.declared.entry.Entry.{Entry};
 ghost use Rattle.index_model.specs.NameIndex.{name_index_bytes, name_index_strings};
 ghost use Rattle.debugnames_write.specs.Conditions.{AreIndexable, Fits};
+ghost use Rattle.debugnames_write.specs.Groups.{AreSorted};
+ghost use Rattle.debugnames_write.specs.Made.{AreMadeOf};
+ghost use Rattle.debugnames_write.specs.Units.{ArePlacesOf};
 ghost use Rattle.debugnames_write.specs.declared.writer.WriteStop.TheVariants as stops;
 
 use crate::abbreviations::Abbreviations;
 use crate::groups::{groups_of, sort_items};
 use crate::index::index_bytes;
-use crate::item::items_of;
-use crate::name::{names_of, sort_names};
+use crate::item::{Item, items_of};
+use crate::name::sorted_names;
 use crate::strings::strings_of;
 use crate::units::UnitPlaces;
 use index_model::{List, Unit};
@@ -74,10 +78,31 @@ pub fn write(
     let mut items = items_of(alloc, units, &places, table.entries())?;
     let abbreviations = Abbreviations::of(alloc, &items)?;
     sort_items(&mut items)?;
-    let groups = groups_of(alloc, &items)?;
-    let mut named = names_of(alloc, &groups, old_strings)?;
-    sort_names(&mut named.names)?;
-    let names = index_bytes(alloc, units, &places, &abbreviations, &named.names)?;
+    name_bytes(alloc, units, &places, &abbreviations, &items, old_strings)
+}
+
+// The bytes for entries that are sorted by their names.
+fn name_bytes(
+    alloc: Global,
+    units: &[Unit],
+    places: &UnitPlaces,
+    abbreviations: &Abbreviations,
+    items: &[Item<'_>],
+    old_strings: u64,
+) -> Result<NameBytes, WriteStop>
+    requires units { length units.now ≤ 16777215 }
+    requires starts { All (λ u. u.start < 4294967296) units.now }
+    requires places { ArePlacesOf units.now places.now }
+    requires sorted { AreSorted items.now }
+    requires made { (entries : List Entry) × AreMadeOf units.now abbreviations.now items.now entries }
+    ensures names { (entries : List Entry) → AreMadeOf units.now abbreviations.now items.now entries → IfOk result (λ bytes. bytes.names ≡ name_index_bytes units.now old_strings entries) }
+    ensures strings { (entries : List Entry) → AreMadeOf units.now abbreviations.now items.now entries → IfOk result (λ bytes. bytes.strings ≡ name_index_strings units.now entries) }
+    ensures fits { (entries : List Entry) → AreMadeOf units.now abbreviations.now items.now entries → OnOk result (Fits units.now old_strings entries) }
+    ensures too_large { (entries : List Entry) → AreMadeOf units.now abbreviations.now items.now entries → IfErr result (λ stop. stop ≡ stops.TooLarge → ¬ Fits units.now old_strings entries) }
+{
+    let groups = groups_of(alloc, items)?;
+    let named = sorted_names(alloc, &groups, old_strings)?;
+    let names = index_bytes(alloc, units, places, abbreviations, &named.names)?;
     let strings = strings_of(alloc, &groups, (named.strings_end - old_strings) as usize)?;
     Ok(NameBytes {
         names: List::of(names),
