@@ -1,7 +1,7 @@
 -- Sorted keys without repetitions, and the groups among them.
-use Rattle.std.proofs.Common.{◌≡◌, ℕ, zero, suc, ◌+◌, ◌-◌, ◌<◌, ◌≤◌, Bool, true, false, eqb, ltb, List, [], ◌∷◌, length, get_or, take, drop, map, refl, sym, ap, ◌∙◌, arith}
+use Rattle.std.proofs.Common.{◌≡◌, ℕ, zero, suc, ◌+◌, ◌-◌, ◌<◌, ◌≤◌, Bool, true, false, not, eqb, ltb, List, [], ◌∷◌, ◌++◌, length, get_or, take, drop, map, refl, sym, ap, ◌∙◌, arith}
 use mathlib.Core.Bool.{◌||◌, ◌&&◌, true≢false}
-use Rattle.std.specs.Prelude.{bytes_eq, slice_range}
+use Rattle.std.specs.Prelude.{bytes_eq, filter, slice_range}
 use Rattle.std.specs.List.{list_any, AllByRecursion, dedup, dedup_from}
 use Rattle.std.specs.List.Sorted.{IsStrictlySortedBy, IsPermutation, IsSorted}
 use Rattle.std.specs.Ordering.{is_eq, nat_cmp, ordering_then, eq_by_cmp}
@@ -12,13 +12,15 @@ use Rattle.std.proofs.lemmas.Map.Text.{is_eq-slice_cmp}
 use Rattle.std.specs.declared.cmp.Ordering.{Ordering}
 use Rattle.std.specs.declared.cmp.Ordering.TheVariants.{Less, Equal, Greater}
 use Rattle.std.proofs.lemmas.Bool.Decides.{nat_tests}
-use Rattle.std.proofs.lemmas.List.{get_or-drop, length-drop, drop-drop, drop_more}
+use Rattle.std.proofs.lemmas.List.{get_or-drop, length-drop, drop-drop, drop_more, take_more, map-append}
+use Rattle.std.proofs.lemmas.List.Elements.{filter-append}
 use Rattle.std.proofs.lemmas.List.Sorted.{list_any-IsPermutation}
 use Rattle.std.proofs.lemmas.List.Kept.{IsStrictlySortedBy-dedup}
 use Rattle.query_engine.proofs.TextOrder.{same_from_eq, eq_from_same, equal_is_same}
 use Rattle.query_engine.proofs.CountLaws.{any_map}
+use Rattle.index_model.specs.declared.entry.Entry.{Entry}
 use Rattle.gdbindex_write.specs.declared.keys.Key.{Key}
-use Rattle.gdbindex_write.specs.Keys.{Pair, pair_cmp, pair_seen, pairs_seen, AreSortOf}
+use Rattle.gdbindex_write.specs.Keys.{Pair, pair_cmp, pair_seen, pairs_seen, pairs_by, element_by, AreSortOf}
 use Rattle.gdbindex_write.specs.Symbols.{groups, onto_first, goes_on_at}
 use Rattle.gdbindex_write.proofs.GroupLaws.{first_name, number_is}
 
@@ -174,3 +176,13 @@ group_at all start end lt within on off =
 
     to : (start + 1) + (end - start - 1) ≡ end
     to = omega arith
+
+-- ---- the pairs of entries
+
+-- those of one entry more
+pub pairs_more : (ns : List ℕ) (es : List Entry) (i : ℕ) (e : Entry) (ps : List Pair) → i < length es → e ≡ get_or es i e → ps ≡ pairs_by ns (take i es) → ps ++ pairs_by ns (e ∷ []) ≡ pairs_by ns (take (i + 1) es)
+pairs_more ns es i e ps lt is made =
+    let plain : Entry → Bool = λ x. not x.linkage in
+    let pair : Entry → Pair = λ x. (x.name, element_by ns x) in
+    let front : take (i + 1) es ≡ take i es ++ e ∷ [] = take_more es i e lt ∙ ap (λ (x : Entry). take i es ++ x ∷ []) (sym is) in
+    ap (λ (w : List Pair). w ++ pairs_by ns (e ∷ [])) made ∙ sym (ap (pairs_by ns) front ∙ ap (map pair) (filter-append plain (take i es) (e ∷ [])) ∙ map-append pair (filter plain (take i es)) (filter plain (e ∷ [])))

@@ -1,6 +1,6 @@
 -- What was prepared and written is the index.
-use Rattle.std.proofs.Common.{◌≡◌, ℕ, ◌+◌, ◌<◌, ◌≤◌, true, cond, nat_eq, List, [], ◌∷◌, ◌++◌, length, get_or, map, position, Option, Some, refl, sym, ap, ◌∙◌, subst, arith}
-use Rattle.std.specs.Prelude.{flat_map, bytes_eq, ◌==◌, All}
+use Rattle.std.proofs.Common.{◌≡◌, ℕ, ◌+◌, ◌<◌, ◌≤◌, true, cond, nat_eq, List, [], ◌∷◌, ◌++◌, length, get_or, map, position, Option, Some, Result, Ok, Err, refl, sym, ap, ◌∙◌, subst, arith}
+use Rattle.std.specs.Prelude.{flat_map, bytes_eq, ◌==◌, All, IsErrAnd}
 use Rattle.std.specs.List.{list_any}
 use Rattle.std.proofs.lemmas.List.{get_or-map, length-map}
 use Rattle.std.proofs.lemmas.List.Folds.{list_any_at}
@@ -19,6 +19,8 @@ use Rattle.index_model.specs.Ordered.{distinct, place_of}
 use Rattle.index_model.specs.GdbIndex.{Pool, pool_of, index_names, index_number, vector, cu_list, types_list, symbol_table, shortcut, vector_bytes, gdb_index_bytes}
 use Rattle.gdbindex_write.specs.declared.places.Place.{Place}
 use Rattle.gdbindex_write.specs.declared.sizes.Sizes.{Sizes}
+use Rattle.gdbindex_write.specs.declared.stop.WriteStop.{WriteStop}
+use Rattle.gdbindex_write.specs.declared.stop.WriteStop.TheVariants.{TooLarge, Memory}
 use Rattle.gdbindex_write.specs.declared.symbols.Symbol.{Symbol}
 use Rattle.gdbindex_write.specs.declared.symbols.Symbols.{Symbols}
 use Rattle.gdbindex_write.specs.declared.vectors.Vectors.{Vectors}
@@ -109,3 +111,10 @@ slots_within names k n d lt is =
 pub count_le : (xs : List Symbol) → length xs ≤ names_size (names_of xs)
 count_le [] = omega arith
 count_le (x ∷ xs) = omega (arith, sum_by-cons (λ (n : List ℕ). length n + 1) x.name.now (names_of xs), count_le xs)
+
+-- ---- stops
+
+-- where memory was refused the index isn't too large
+pub not_too_large : {A : Type 0} (r : Result A WriteStop) → IsErrAnd r (λ stop. stop ≡ Memory) → r ≡ Err TooLarge → ⊥
+not_too_large (Ok x) memory large = memory
+not_too_large (Err stop) memory large = let both : Memory ≡ TooLarge = cc in absurd cc

@@ -27,25 +27,42 @@ impl<'s> Vectors<'s> {
         requires { AreWithin (length symbols.now.elements.items) symbols.now.list.items }
         ensures { IfOk result (AreVectorsOf (vectors_of symbols.now.elements.items symbols.now.list.items)) }
     {
-        let mut numbers = Vec::with_capacity(alloc, symbols.list.len())?;
-        let distinct = distinct_vectors(alloc, symbols, &mut numbers)?;
-        Ok(Vectors { distinct, numbers })
+        let numbers = Vec::with_capacity(alloc, symbols.list.len())?;
+        let mut vectors = Vectors {
+            distinct: Vec::new(alloc),
+            numbers,
+        };
+        vectors.fill(alloc, symbols)?;
+        Ok(vectors)
     }
-}
 
-// The distinct vectors. The number of each symbol's own is appended to the numbers.
-fn distinct_vectors<'s>(
-    alloc: Global,
-    symbols: &'s Symbols<'_>,
-    numbers: &mut Vec<usize>,
-) -> Result<Vec<&'s [u32]>, NoMemory>
-    requires within { AreWithin (length symbols.now.elements.items) symbols.now.list.items }
-    requires empty { numbers.now.items ≡ [] }
-    ensures { IfOk result (λ v. AreVectorsOf (vectors_of symbols.now.elements.items symbols.now.list.items) (record { distinct = v; numbers = numbers.new })) }
-{
-    let mut set = IndexSet::with_capacity(alloc, symbols.list.len())?;
-    number_vectors(symbols, &mut set, numbers)?;
-    Ok(Vec::from_slice(alloc, set.as_slice())?)
+    // Fills empty ones with the vectors of the symbols.
+    fn fill(&mut self, alloc: Global, symbols: &'s Symbols<'_>) -> Result<(), NoMemory>
+        requires within { AreWithin (length symbols.now.elements.items) symbols.now.list.items }
+        requires no_vector { self.now.distinct.items ≡ [] }
+        requires no_number { self.now.numbers.items ≡ [] }
+        ensures { OnOk result (AreVectorsOf (vectors_of symbols.now.elements.items symbols.now.list.items) self.new) }
+    {
+        let mut set = IndexSet::with_capacity(alloc, symbols.list.len())?;
+        self.fill_by(&mut set, symbols)
+    }
+
+    // The same by a set without keys.
+    fn fill_by(
+        &mut self,
+        set: &mut IndexSet<&'s [u32]>,
+        symbols: &'s Symbols<'_>,
+    ) -> Result<(), NoMemory>
+        requires within { AreWithin (length symbols.now.elements.items) symbols.now.list.items }
+        requires no_key { set.now.keys ≡ [] }
+        requires no_vector { self.now.distinct.items ≡ [] }
+        requires no_number { self.now.numbers.items ≡ [] }
+        ensures { OnOk result (AreVectorsOf (vectors_of symbols.now.elements.items symbols.now.list.items) self.new) }
+    {
+        number_vectors(symbols, set, &mut self.numbers)?;
+        self.distinct.extend_from_slice(set.as_slice())?;
+        Ok(())
+    }
 }
 
 // Adds each symbol's vector to an empty set, and appends its number there.

@@ -1,5 +1,6 @@
 use Rattle.std.proofs.Common.{◌≡◌, ℕ, List, [], ◌++◌, length, sym, ap, ◌∙◌, arith}
 use Rattle.std.specs.Prelude.{flat_map, option_map}
+use Rattle.std.proofs.lemmas.Result.{IfOk-from_err}
 use denote.Ref.{Bor}
 use Rattle.index_model.specs.Seen.{main_seen}
 use Rattle.index_model.specs.Layout.{ended}
@@ -13,7 +14,7 @@ use Rattle.gdbindex_write.specs.Pools.{pool_seen, vectors_seen}
 use Rattle.gdbindex_write.specs.Sizes.{sizes_of, total, names_size, vectors_size}
 use Rattle.gdbindex_write.specs.Slots.{numbers_in_slots}
 use Rattle.gdbindex_write.specs.Symbols.{names_of, vectors_of}
-use Rattle.gdbindex_write.proofs.WriteLaws.{total_is, whole, numbers_within}
+use Rattle.gdbindex_write.proofs.WriteLaws.{total_is, whole, numbers_within, not_too_large}
 use Rattle.gdbindex_write.proofs.index.index_bytes.Goals as goal
 
 pub returns-in_default-clause-too_large : goal.returns-in_default-clause-too_large
@@ -59,3 +60,31 @@ returns-clause-fits c = λ entries ready.
     let bytes = ap length (returns-clause-bytes c entries ready) in
     let own = ap (total c.args.version) sizes in
     omega (arith, c.in-Some.ensures.fits, whole_size, bytes, own)
+
+pub returns-in_err-vectors : goal.returns-in_err-vectors
+returns-in_err-vectors c = record {
+  bytes = λ entries ready. IfOk-from_err c.from_residual.result _ c.from_residual.ensures.0;
+  fits = λ entries ready. IfOk-from_err c.from_residual.result _ c.from_residual.ensures.0;
+  too_large = λ entries ready large. absurd (not_too_large c.from_residual.result c.from_residual.ensures.1 large);
+}
+
+pub returns-in_err-out : goal.returns-in_err-out
+returns-in_err-out c = record {
+  bytes = λ entries ready. IfOk-from_err c.from_residual-in_err-out.result _ c.from_residual-in_err-out.ensures.0;
+  fits = λ entries ready. IfOk-from_err c.from_residual-in_err-out.result _ c.from_residual-in_err-out.ensures.0;
+  too_large = λ entries ready large. absurd (not_too_large c.from_residual-in_err-out.result c.from_residual-in_err-out.ensures.1 large);
+}
+
+pub returns-in_err-put_units : goal.returns-in_err-put_units
+returns-in_err-put_units c = record {
+  bytes = λ entries ready. IfOk-from_err c.from_residual-in_err-put_units.result _ c.from_residual-in_err-put_units.ensures.0;
+  fits = λ entries ready. IfOk-from_err c.from_residual-in_err-put_units.result _ c.from_residual-in_err-put_units.ensures.0;
+  too_large = λ entries ready large. absurd (not_too_large c.from_residual-in_err-put_units.result c.from_residual-in_err-put_units.ensures.1 large);
+}
+
+pub returns-in_err-put_symbols : goal.returns-in_err-put_symbols
+returns-in_err-put_symbols c = record {
+  bytes = λ entries ready. IfOk-from_err c.from_residual-in_err-put_symbols.result _ c.from_residual-in_err-put_symbols.ensures.0;
+  fits = λ entries ready. IfOk-from_err c.from_residual-in_err-put_symbols.result _ c.from_residual-in_err-put_symbols.ensures.0;
+  too_large = λ entries ready large. absurd (not_too_large c.from_residual-in_err-put_symbols.result c.from_residual-in_err-put_symbols.ensures.1 large);
+}

@@ -1,6 +1,5 @@
 use Rattle.std.proofs.Common.{◌≡◌, ℕ, ◌<◌, List, [], length, get_or, sym, ap, ◌∙◌, arith}
-use Rattle.std.specs.Prelude.{slice_range, bytes_eq}
-use Rattle.std.specs.List.{position_or_len}
+use Rattle.std.specs.Prelude.{slice_range}
 use Rattle.std.proofs.lemmas.List.{get_or-map, length-map}
 use Rattle.gdbindex_write.specs.declared.symbols.Symbol.{Symbol}
 use Rattle.gdbindex_write.specs.Pools.{vectors_seen}

@@ -1,4 +1,4 @@
-use Rattle.std.proofs.Common.{length, sym, ◌∙◌, arith}
+use Rattle.std.proofs.Common.{length}
 use Rattle.std.specs.Prelude.{flat_map}
 use Rattle.common_laws.proofs.Appended.{two_parts, no_part, more_parts, all_parts}
 use Rattle.index_model.specs.Layout.{u32_bytes}

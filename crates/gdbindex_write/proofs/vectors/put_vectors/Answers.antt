@@ -1,4 +1,4 @@
-use Rattle.std.proofs.Common.{ℕ, List, ◌++◌, sym, ap, ◌∙◌, arith}
+use Rattle.std.proofs.Common.{ℕ, List, ◌++◌, sym, ap, ◌∙◌}
 use denote.Ref.{Bor}
 use Rattle.common_laws.proofs.Appended.{no_part, more_parts, all_parts, flat_map-map}
 use Rattle.index_model.specs.GdbIndex.{vector_bytes}
