@@ -20,9 +20,6 @@ module _ (units : List UnitHeader) (rows : List IndexRow) (names : List Name) (m
   pool_too_large pass = let size = laid_size units rows names in omega (arith, size)
 
   module _ (places : UnitPlaces) (p : ArePlacesOf units places) (table : ℕ) (is_table : table ≡ length (abbreviation_table rows)) where
-    pub front_too_large : most < 36 + (places.compile_units + places.type_units) * 4 + length names * 16 + table → most < length (laid_out units rows names)
-    front_too_large pass = let size = laid_size units rows names in omega (arith, size, p.compile, p.types)
-
     pub size_is : (first pool all : ℕ) → first ≡ 36 + (places.compile_units + places.type_units) * 4 + length names * 16 + table → pool ≡ length (pool_bytes rows names) → all ≡ first + pool → all ≡ length (laid_out units rows names)
     size_is first pool all is_first is_pool is_all = let size = laid_size units rows names in omega (arith, size, p.compile, p.types)
 

@@ -1,5 +1,5 @@
 -- The bytes of an index over names in their order.
-use Rattle.std.specs.Prelude.{ℕ, true, false, List, [], ◌∷◌, ◌++◌, length, map, flat_map}
+use Rattle.std.specs.Prelude.{ℕ, ◌+◌, ◌*◌, true, false, List, [], ◌∷◌, ◌++◌, length, map, flat_map}
 use Rattle.index_model.specs.declared.unit.Unit.{Unit as UnitHeader}
 use Rattle.index_model.specs.Layout.{below, u16_bytes, u32_bytes, ended, start_of}
 use Rattle.index_model.specs.NameIndex.{Row as IndexRow, unit_offsets, bucket, abbreviation_table, entry_bytes, counts_of}
@@ -27,6 +27,14 @@ head_bytes units names table = u16_bytes 5 ++ u16_bytes 0 ++ flat_map u32_bytes 
 -- the same with these counts
 abbrev pub head_with : UnitPlaces → ℕ → ℕ → List ℕ
 head_with places names size = u16_bytes 5 ++ u16_bytes 0 ++ flat_map u32_bytes (places.compile_units ∷ places.type_units ∷ 0 ∷ names ∷ names ∷ size ∷ 0 ∷ [])
+
+-- how many bytes stand in the index beside the abbreviations and the entries, with these counts
+abbrev pub front_size : UnitPlaces → ℕ → ℕ
+front_size places names = 36 + (places.compile_units + places.type_units) * 4 + names * 16
+
+-- of each bucket the place of its first name
+abbrev pub all_buckets : List Name → List ℕ
+all_buckets names = map (bucket (texts names)) (below (length names))
 
 -- the places of the first names of the buckets
 abbrev pub bucket_bytes : List Name → List ℕ

@@ -1,10 +1,10 @@
 //! The bytes of the index (DWARF 5, section 6.1.1.4).
 
-ghost use Rattle.std.specs.Prelude.{◌≡◌, ◌<◌, ◌≤◌, ◌++◌, true, false, length, flat_map, All, OnOk};
+ghost use Rattle.std.specs.Prelude.{◌≡◌, ◌<◌, ◌≤◌, ◌+◌, ◌++◌, true, false, length, flat_map, All, OnOk};
 ghost use Rattle.index_model.specs.Layout.{u32_bytes};
-ghost use Rattle.index_model.specs.NameIndex.{unit_offsets};
+ghost use Rattle.index_model.specs.NameIndex.{abbreviation_table, unit_offsets};
 ghost use Rattle.debugnames_write.specs.Answers.{Answers};
-ghost use Rattle.debugnames_write.specs.Laid.{laid_out, head_with, hash_bytes, string_bytes};
+ghost use Rattle.debugnames_write.specs.Laid.{laid_out, front_size, head_with, all_buckets, hash_bytes, string_bytes, pool_bytes};
 ghost use Rattle.debugnames_write.specs.Names.{HaveBuckets, HaveRows};
 ghost use Rattle.debugnames_write.specs.Units.{ArePlacesOf};
 
@@ -51,18 +51,28 @@ pub(crate) fn index_bytes(
 {
     let table_size = abbreviations.size()?;
     let pool = pool_places(alloc, abbreviations, names)?;
-    let listed = places.compile_units as u64 + places.type_units as u64;
-    let front = HEADER_SIZE + listed * UNIT_SIZE + names.len() as u64 * NAME_SIZE;
-    let size = grown(grown(front, table_size, MAX_INDEX)?, pool.size, MAX_INDEX)?;
-    let buckets = buckets_of(alloc, names)?;
+    let count = names.len() as u32;
+    let size = index_size(places, count, table_size, pool.size)?;
     let mut out = Vec::with_capacity(alloc, size as usize)?;
     let length = (size - LENGTH_SIZE) as u32;
-    let count = names.len() as u32;
     push_front(&mut out, length, units, places, count, table_size as u32)?;
-    push_names(&mut out, &buckets, names, &pool.starts)?;
-    abbreviations.push(&mut out)?;
-    push_pool(&mut out, abbreviations, names)?;
+    push_tables(alloc, &mut out, abbreviations, names, &pool.starts)?;
     Ok(out)
+}
+
+// How many bytes the index has, with so many names and with tables of these sizes.
+fn index_size(
+    places: &UnitPlaces,
+    names: u32,
+    table_size: u64,
+    pool_size: u64,
+) -> Result<u64, WriteStop>
+    ensures { Answers result (λ size. (size ≡ front_size places.now names + table_size + pool_size) × (size ≤ 4294967283)) (4294967283 < front_size places.now names + table_size + pool_size) }
+{
+    let listed = u64::from(places.compile_units) + u64::from(places.type_units);
+    let front = HEADER_SIZE + listed * UNIT_SIZE + u64::from(names) * NAME_SIZE;
+    let behind_table = grown(front, table_size, MAX_INDEX)?;
+    grown(behind_table, pool_size, MAX_INDEX)
 }
 
 // Appends what stands before the names: the length, the counts, and where the units begin.
@@ -84,19 +94,51 @@ fn push_front(
     Ok(())
 }
 
-// Appends the tables of the names: the buckets, the hashes, and where their strings and their entries stand.
-fn push_names(
+// Appends the tables of the names, the abbreviations and the entries.
+fn push_tables(
+    alloc: Global,
     out: &mut Vec<u8>,
-    buckets: &[u32],
+    abbreviations: &Abbreviations,
     names: &[Name<'_>],
     starts: &[u32],
 ) -> Result<(), AllocError>
-    ensures { OnOk result (out.new.items ≡ (((out.old.items ++ flat_map u32_bytes buckets.now) ++ hash_bytes names.now) ++ string_bytes names.now) ++ flat_map u32_bytes starts.now) }
+    requires few { length names.now < 4294967296 }
+    requires buckets { HaveBuckets names.now }
+    requires rows { All (λ n. HaveRows abbreviations.now n.items.now) names.now }
+    ensures { OnOk result (out.new.items ≡ (((((out.old.items ++ flat_map u32_bytes (all_buckets names.now)) ++ hash_bytes names.now) ++ string_bytes names.now) ++ flat_map u32_bytes starts.now) ++ abbreviation_table abbreviations.now) ++ pool_bytes abbreviations.now names.now) }
 {
-    push_u32s(out, buckets)?;
+    push_names(alloc, out, names, starts)?;
+    abbreviations.push(out)?;
+    push_pool(out, abbreviations, names)?;
+    Ok(())
+}
+
+// Appends the tables of the names: the buckets, the hashes, and where their strings and their entries stand.
+fn push_names(
+    alloc: Global,
+    out: &mut Vec<u8>,
+    names: &[Name<'_>],
+    starts: &[u32],
+) -> Result<(), AllocError>
+    requires few { length names.now < 4294967296 }
+    requires buckets { HaveBuckets names.now }
+    ensures { OnOk result (out.new.items ≡ (((out.old.items ++ flat_map u32_bytes (all_buckets names.now)) ++ hash_bytes names.now) ++ string_bytes names.now) ++ flat_map u32_bytes starts.now) }
+{
+    push_buckets(alloc, out, names)?;
     push_hashes(out, names)?;
     push_strings(out, names)?;
     push_u32s(out, starts)?;
+    Ok(())
+}
+
+// Appends the buckets.
+fn push_buckets(alloc: Global, out: &mut Vec<u8>, names: &[Name<'_>]) -> Result<(), AllocError>
+    requires few { length names.now < 4294967296 }
+    requires buckets { HaveBuckets names.now }
+    ensures { OnOk result (out.new.items ≡ out.old.items ++ flat_map u32_bytes (all_buckets names.now)) }
+{
+    let buckets = buckets_of(alloc, names)?;
+    push_u32s(out, &buckets)?;
     Ok(())
 }
 
@@ -117,7 +159,8 @@ fn push_counts(
     push_u32s(
         out,
         &[compile_units, type_units, 0, names, names, table_size, 0],
-    )
+    )?;
+    Ok(())
 }
 
 // Appends the hash of each name.

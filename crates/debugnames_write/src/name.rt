@@ -1,6 +1,6 @@
 //! The names in the order of the index (DWARF 5, sections 6.1.1.4.4 to 6.1.1.4.6).
 
-ghost use Rattle.std.specs.Prelude.{◌≡◌, nat_eq, Some, refl, OnOk, IsPermutation, IsSorted};
+ghost use Rattle.std.specs.Prelude.{◌≡◌, nat_eq, [], Some, refl, OnOk, IsPermutation, IsSorted};
 ghost use Rattle.std.specs.Ordering.{nat_cmp};
 ghost use Rattle.std.specs.Cmp.{partial_equiv_from_equiv, on_per, on_equiv, on_po, on_total};
 ghost use Rattle.std.specs.Cmp.Lexicographic.{pointwise, slice_cmp, nat_list_eq_equiv, nat_list_cmp_total, texts_ties, texts_po};
@@ -104,6 +104,20 @@ fn names_of<'r>(
     ensures { Answers result (AreNamesOf groups.now old_strings) (StringsPass groups.now old_strings) }
 {
     let mut names = Vec::with_capacity(alloc, groups.len())?;
+    let strings_end = push_names(&mut names, groups, old_strings)?;
+    Ok(Names { names, strings_end })
+}
+
+// Appends the names to none. Gives the place behind their strings.
+fn push_names<'r>(
+    names: &mut Vec<Name<'r>>,
+    groups: &[Group<'r>],
+    old_strings: u64,
+) -> Result<u64, WriteStop>
+    requires rises { Rises bytes_lt (group_names groups.now) }
+    requires none { names.now.items ≡ [] }
+    ensures { Answers result (λ end. AreNamesOf groups.now old_strings (record { names = names.new; strings_end = end })) (StringsPass groups.now old_strings) }
+{
     let mut end = grown(old_strings, 0, MAX_STRINGS)?;
     for group in groups {
         let hash = name_hash(group.name);
@@ -116,10 +130,7 @@ fn names_of<'r>(
         })?;
         end = grown(end, group.name.len() as u64 + 1, MAX_STRINGS)?;
     }
-    Ok(Names {
-        names,
-        strings_end: end,
-    })
+    Ok(end)
 }
 
 // Sorts names into the order of the index.

@@ -1,6 +1,6 @@
 //! The entry pool of the index (DWARF 5, section 6.1.1.4.8).
 
-ghost use Rattle.std.specs.Prelude.{◌≡◌, ◌<◌, ◌≤◌, ◌++◌, length, map, All, OnOk};
+ghost use Rattle.std.specs.Prelude.{◌≡◌, ◌<◌, ◌≤◌, ◌++◌, [], length, map, All, OnOk};
 ghost use Rattle.index_model.specs.Layout.{below, start_of};
 ghost use Rattle.debugnames_write.specs.Answers.{Answers};
 ghost use Rattle.debugnames_write.specs.Laid.{entries_bytes, groups_bytes, pool_bytes};
@@ -31,12 +31,26 @@ pub(crate) fn pool_places(
     ensures { Answers result (ArePlacesIn abbreviations.now names.now) (4294967283 < length (pool_bytes abbreviations.now names.now)) }
 {
     let mut starts = Vec::with_capacity(alloc, names.len())?;
+    let size = push_starts(&mut starts, abbreviations, names)?;
+    Ok(PoolPlaces { starts, size })
+}
+
+// Appends where the entries of each name begin to none. Gives the size of the pool.
+fn push_starts(
+    starts: &mut Vec<u32>,
+    abbreviations: &Abbreviations,
+    names: &[Name<'_>],
+) -> Result<u64, WriteStop>
+    requires rows { All (λ n. HaveRows abbreviations.now n.items.now) names.now }
+    requires none { starts.now.items ≡ [] }
+    ensures { Answers result (λ size. ArePlacesIn abbreviations.now names.now (record { starts = starts.new; size = size })) (4294967283 < length (pool_bytes abbreviations.now names.now)) }
+{
     let mut size = 0;
     for name in names {
         starts.push(size as u32)?;
         size = grown(size, group_size(abbreviations, name.items)?, MAX_INDEX)?;
     }
-    Ok(PoolPlaces { starts, size })
+    Ok(size)
 }
 
 /// Appends the entries of all names.

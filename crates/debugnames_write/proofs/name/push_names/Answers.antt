@@ -4,7 +4,7 @@ use Rattle.debugnames_write.specs.Groups.{group_names}
 use Rattle.debugnames_write.specs.Names.{IsNameOf}
 use Rattle.debugnames_write.proofs.NamesMade.{name_right, end_more, end_passes, kept_more}
 use Rattle.debugnames_write.proofs.Stops.{stopped}
-use Rattle.debugnames_write.proofs.name.names_of.Goals as goal
+use Rattle.debugnames_write.proofs.name.push_names.Goals as goal
 
 pub returns-in_err-end-2 : goal.returns-in_err-end-2
 returns-in_err-end-2 c =
@@ -19,7 +19,7 @@ loop-group-preserved c =
     let inv = c.loop-group.invariant in
     rw c.in_ok-push.ensures.items (record {
       kept = kept_more gs k _ lt c.loop-group.names.items _ inv.kept refl;
-      each = All-push (IsNameOf (group_names gs) c.args.old_strings) c.loop-group.names.items _ inv.each (name_right gs k _ lt c.requires c.args.old_strings c.loop-group.end _ refl c.name_hash-hash.ensures refl refl inv.end);
+      each = All-push (IsNameOf (group_names gs) c.args.old_strings) c.loop-group.names.items _ inv.each (name_right gs k _ lt c.requires.rises c.args.old_strings c.loop-group.end _ refl c.name_hash-hash.ensures refl refl inv.end);
       end = end_more gs k _ lt c.args.old_strings c.loop-group.end c.in_ok-end-2.end inv.end c.in_ok-end-2.ensures.0;
       fits = c.in_ok-end-2.ensures.1;
     })

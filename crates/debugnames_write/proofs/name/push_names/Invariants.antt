@@ -3,7 +3,7 @@ use Rattle.std.specs.Prelude.{flat_map}
 use Rattle.index_model.specs.Layout.{ended}
 use Rattle.debugnames_write.specs.Groups.{group_names}
 use Rattle.debugnames_write.specs.Names.{kept_of_name, kept_of_group, IsNameOf}
-use Rattle.debugnames_write.proofs.name.names_of.Given as goal
+use Rattle.debugnames_write.proofs.name.push_names.Given as goal
 
 abbrev pub invariant-loop-group : goal.invariant-loop-group
 invariant-loop-group l = record {

@@ -1,6 +1,6 @@
 use Rattle.debugnames_write.proofs.PoolLaws.{one_passes, pool_passes, pool_more, starts_more, places_all}
 use Rattle.debugnames_write.proofs.Stops.{stopped}
-use Rattle.debugnames_write.proofs.pool.pool_places.Goals as goal
+use Rattle.debugnames_write.proofs.pool.push_starts.Goals as goal
 
 pub returns-in_err-group_size : goal.returns-in_err-group_size
 returns-in_err-group_size c =

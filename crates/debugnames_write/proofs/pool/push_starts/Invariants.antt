@@ -3,7 +3,7 @@ use Rattle.std.specs.Prelude.{flat_map}
 use Rattle.index_model.specs.Layout.{below, start_of}
 use Rattle.debugnames_write.specs.Laid.{groups_bytes}
 use Rattle.debugnames_write.proofs.PoolLaws.{name_bytes}
-use Rattle.debugnames_write.proofs.pool.pool_places.Given as goal
+use Rattle.debugnames_write.proofs.pool.push_starts.Given as goal
 
 abbrev pub invariant-loop-name : goal.invariant-loop-name
 invariant-loop-name l = record {

@@ -1,7 +1,7 @@
-use Rattle.std.proofs.Common.{◌≡◌, take, map}
+use Rattle.std.proofs.Common.{◌≡◌, take}
 use Rattle.std.specs.Prelude.{flat_map}
 use Rattle.index_model.specs.Layout.{ended}
 use Rattle.debugnames_write.proofs.strings.strings_of.Given as goal
 
 abbrev pub invariant-loop-group : goal.invariant-loop-group
-invariant-loop-group l = l.strings.items ≡ flat_map ended (map (λ g. g.name.now) (take l.group-index l.groups))
+invariant-loop-group l = l.strings.items ≡ flat_map (λ g. ended g.name.now) (take l.group-index l.groups)

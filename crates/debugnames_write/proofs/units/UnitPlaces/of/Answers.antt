@@ -1,4 +1,9 @@
-use Rattle.std.proofs.Common.{true, false, refl, sym, ◌∙◌, arith}
+use Rattle.std.proofs.Common.{◌≡◌, ℕ, true, false, List, length, map, refl, sym, ap, ◌∙◌, arith}
+use Rattle.std.proofs.lemmas.List.{take_all}
+use Rattle.index_model.specs.declared.unit.Unit.{Unit as UnitHeader}
+use Rattle.index_model.specs.Layout.{below}
+use Rattle.index_model.specs.NameIndex.{units_of_sort}
+use Rattle.debugnames_write.specs.Units.{place_at}
 use Rattle.debugnames_write.proofs.UnitLaws.{place_push, count_own, count_other, one_at_most}
 use Rattle.debugnames_write.proofs.units.UnitPlaces.of.Goals as goal
 use Rattle.debugnames_write.proofs.units.UnitPlaces.of.Goals.{then-is_type_unit+in_ok-push, else-is_type_unit+in_ok-push-2}
@@ -31,3 +36,24 @@ loop-unit-preserved c =
             few_types = omega (arith, inv.few_types);
           })
     ]
+
+pub loop-unit-init : goal.loop-unit-init
+loop-unit-init c = record { places = c.in_ok-places.ensures.items; compile = refl; types = refl; few_compile = omega arith; few_types = omega arith }
+
+pub overflow_add-type_units : goal.overflow_add-type_units
+overflow_add-type_units c = omega (arith, c.requires, c.loop-unit.invariant.few_types, c.loop-unit-test.true, one_at_most _ _ c.count_in_info-type_units.ensures)
+
+pub overflow_add-compile_units : goal.overflow_add-compile_units
+overflow_add-compile_units c = omega (arith, c.requires, c.loop-unit.invariant.few_compile, c.loop-unit-test.true, one_at_most _ _ c.count_in_info-compile_units.ensures)
+
+pub returns : goal.returns
+returns c =
+    let units = c.args.units.now in
+    let all : c.loop-unit.unit-index ≡ length units = omega arith in
+    let front = take_all c.loop-unit.unit-index units c.loop-unit-test.false in
+    let inv = c.loop-unit.invariant in
+    record {
+      places = inv.places ∙ ap (λ (n : ℕ). map (place_at units) (below n)) all;
+      compile = inv.compile ∙ ap (λ (w : List UnitHeader). length (units_of_sort false w)) front;
+      types = inv.types ∙ ap (λ (w : List UnitHeader). length (units_of_sort true w)) front;
+    }
