@@ -1,10 +1,10 @@
 -- The areas that were found, and their items.
-use Rattle.std.specs.Prelude.{◌<◌, ◌≤◌, ℕ, ◌+◌, ◌*◌, ◌%◌, ◌==◌, ◌||◌, nat_le, length, take, drop, Result}
+use Rattle.std.specs.Prelude.{◌≡◌, ◌<◌, ◌≤◌, ℕ, ◌+◌, ◌*◌, ◌%◌, ◌==◌, ◌||◌, nat_le, List, length, take, drop, Result, Ok}
 use Rattle.ix_base.specs.declared.fault.Fault.{Fault}
 use Rattle.ix_base.specs.Reading.{Input}
 use Rattle.index_model.specs.declared.index_code.TheConstants.{GDB_OFFSETS, GDB_UNIT_LIST}
 use Rattle.index_model.specs.Meaning.{◌>>◌, fault, holds_or}
-use Rattle.index_model.specs.GdbAreas.{Areas as AreasOf}
+use Rattle.index_model.specs.GdbAreas.{areas, Areas as AreasOf}
 use Rattle.gdbindex_read.specs.declared.area.Area.{Area}
 use Rattle.gdbindex_read.specs.declared.areas.Areas.{Areas}
 
@@ -33,3 +33,8 @@ HasShortcut a = 0 < length a.shortcut.bytes.now → 8 ≤ length a.shortcut.byte
 -- in version 9 the area of the shortcut has all of its bytes
 abbrev pub checked_shortcut : ℕ → Input → Result (record {}) Fault
 checked_shortcut version shortcut = holds_or (version == 8 || nat_le 8 (length shortcut.rest)) (fault GDB_OFFSETS 20)
+
+-- the areas are those of the section, and end with whole entries of their lists of units
+pub record AreAreasOf (section : List ℕ) (a : Areas) : Type 0 where
+  pub are : areas section ≡ Ok (areas_seen a)
+  pub whole : whole_lists (areas_seen a) ≡ Ok (record {})

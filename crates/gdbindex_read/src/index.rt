@@ -1,9 +1,10 @@
 //! The whole index, and its look-ups.
 
-ghost use Rattle.std.specs.Prelude.{◌≡◌, option_map};
+ghost use Rattle.std.specs.Prelude.{◌≡◌, ◌<◌, ◌^◌, List, ℕ, length, option_map};
 ghost use Rattle.index_model.specs.GdbIndexRead.{gdb_index, gdb_index_hits, main_name, number_at};
 ghost use Rattle.index_model.specs.Gives.{GivesAlways};
 ghost use Rattle.index_model.specs.Seen.{main_seen};
+ghost use Rattle.gdbindex_read.specs.Areas.{AreAreasOf, HasShortcut};
 
 use crate::addresses::AddressArea;
 use crate::areas::Areas;
@@ -46,9 +47,19 @@ impl<'a> GdbIndex<'a> {
     {
         let areas = Areas::open(bytes)?;
         areas.check_units()?;
-        let addresses = AddressArea::open(&areas)?;
-        let symbols = SymbolTable::open(&areas)?;
-        let main = Shortcut::open(&areas)?;
+        GdbIndex::of(&areas)
+    }
+
+    // The index in areas whose lists of units are whole.
+    fn of(areas: &Areas<'a>) -> Result<GdbIndex<'a>, Fault>
+        requires made { (section : List ℕ) × AreAreasOf section areas.now }
+        requires small { length areas.now.table.bytes.now < 2 ^ 32 }
+        requires shortcut { HasShortcut areas.now }
+        ensures { (section : List ℕ) → AreAreasOf section areas.now → GivesAlways (λ i. i) result (gdb_index section) }
+    {
+        let addresses = AddressArea::open(areas)?;
+        let symbols = SymbolTable::open(areas)?;
+        let main = Shortcut::open(areas)?;
         symbols.check_paths()?;
         Ok(GdbIndex {
             addresses,
