@@ -102,7 +102,7 @@ pub(crate) struct Tables<'a> {
 }
 
 impl<'a> Tables<'a> {
-    ghost use Rattle.debugnames_read.specs.Tables.{counts_seen, tables_at, tables_seen};
+    ghost use Rattle.debugnames_read.specs.Tables.{counts_seen, tables_at, tables_listed, tables_seen};
 
     /// The counts and the tables behind the padding, None where one of them passes the end.
     #[tactic(auto, unfolding(crate::specs::Tables::tables_at))]
@@ -116,13 +116,22 @@ impl<'a> Tables<'a> {
     }
 
     // The tables behind the counts.
-    #[tactic(auto, unfolding(index_model::specs::NameTables::tables_behind))]
+    #[tactic(auto, unfolding(index_model::specs::NameTables::tables_behind, crate::specs::Tables::tables_listed))]
     fn behind(wide: bool, counts: Counts, mut cursor: Cursor<'a>) -> Option<Tables<'a>>
         requires { cursor.at + length cursor.rest < 2 ^ 63 }
         ensures { option_map tables_seen result ≡ tables_behind wide (counts_seen counts) cursor.entry }
     {
         cursor.part(counts.augmentation_length())?;
         cursor.part(counts.units_length(wide))?;
+        Tables::listed(wide, counts, cursor)
+    }
+
+    // The tables behind the lists of units.
+    #[tactic(auto, unfolding(crate::specs::Tables::tables_listed))]
+    fn listed(wide: bool, counts: Counts, mut cursor: Cursor<'a>) -> Option<Tables<'a>>
+        requires { cursor.at + length cursor.rest < 2 ^ 63 }
+        ensures { option_map tables_seen result ≡ tables_listed wide (counts_seen counts) cursor.entry }
+    {
         let buckets = Numbers::read(false, counts.buckets, &mut cursor)?;
         let hashes = Numbers::read(false, counts.hashes(), &mut cursor)?;
         let strings = Numbers::read(wide, counts.names, &mut cursor)?;
