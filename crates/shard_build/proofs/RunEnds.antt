@@ -1,10 +1,10 @@
 -- The units of a run, up to its end or to its first fault.
-use Rattle.std.proofs.Common.{◌≡◌, ℕ, ◌+◌, ◌-◌, ◌<◌, ◌≤◌, List, [], ◌∷◌, ◌++◌, length, take, drop, get_or, Some, Result, Ok, Err, refl, sym, ap, subst, ◌∙◌, arith, append_assoc, length-drop, length-take}
+use Rattle.std.proofs.Common.{◌≡◌, ℕ, ◌+◌, ◌-◌, ◌<◌, ◌≤◌, List, [], ◌∷◌, ◌++◌, length, take, drop, get_or, Some, Result, Ok, Err, refl, sym, ap, subst, ◌∙◌, arith, append_assoc, length-drop, length-take, inl, inr}
 use Rattle.std.specs.Prelude.{slice_get, codes, IsOkAnd}
 use Rattle.std.specs.List.{enumerate_from}
 use Rattle.std.proofs.lemmas.List.{get_or-drop, get_or-take, take_more}
 use Rattle.std.proofs.lemmas.List.FromFn.{length-enumerate_from, get_or-enumerate_from}
-use Rattle.std.proofs.lemmas.Option.{get_or_from_slice_get}
+use Rattle.std.proofs.lemmas.Option.{get_or_from_slice_get, slice_get_cases}
 use Rattle.std.proofs.Math.Seq.{take-add}
 use Rattle.ix_base.specs.declared.code.TheConstants.{BAD_ABBREVIATION}
 use Rattle.ix_base.specs.declared.fault.Fault.{Fault}
@@ -72,6 +72,13 @@ module _ (ss : List Section) (us : List UnitHeader) (first count : ℕ) (fits : 
 
   enough : first + length all ≡ length us
   enough = omega (arith, fits, length-drop first (enumerate_from 0 us), length-enumerate_from 0 us)
+
+  -- a number below the end of the run is that of a unit
+  pub in_run : (n : ℕ) → n < first + count → (u : UnitHeader) × (slice_get us n ≡ Some u)
+  in_run n high = elim (slice_get_cases us n).1 as (λ _. (u : UnitHeader) × (slice_get us n ≡ Some u)) [
+    | inl here ↦ (here.0, here.2)
+    | inr past ↦ absurd (omega (arith, fits, high, past.0))
+  ]
 
   -- the unit with a number
   unit_at : (n : ℕ) (u : UnitHeader) (d : Numbered) → first ≤ n → n < first + count → slice_get us n ≡ Some u → get_or all (n - first) d ≡ (n, u)

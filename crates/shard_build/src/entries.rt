@@ -96,9 +96,8 @@ impl<'s, 'f> Entries<'s, 'f> {
         let home = Home::of(self.image, span.unit);
         let section = self.image.sections().get(b".debug_abbrev");
         let table = Table::of_sound(alloc, section, &home.unit, self.at_hand.take())?;
-        let node = home.node_within(&table.abbrevs, span, offset);
-        self.at_hand = Some(table);
-        Ok(node)
+        let table = self.at_hand.insert(table);
+        Ok(home.node_within(&table.abbrevs, span, offset))
     }
 
     /// The node of the entry that a reference of a unit's entry names (DWARF 5, section 7.5.5), None where it names none.

@@ -1,11 +1,15 @@
 //! The shard of a run of units.
 
-ghost use Rattle.std.specs.Prelude.{◌+◌, ◌≤◌, length, take, drop};
+ghost use Rattle.std.specs.Prelude.{◌≡◌, ◌+◌, ◌<◌, ◌≤◌, Some, codes, length, slice_get, take, drop};
 ghost use Rattle.std.specs.List.{enumerate_from};
+ghost use Rattle.std.specs.Option.{ForSome};
 ghost use Rattle.index_model.specs.Faults.{scanned};
 ghost use Rattle.index_model.specs.Gives.{GivesFor};
 ghost use Rattle.index_model.specs.Meaning.{each};
+ghost use Rattle.index_model.specs.Sections.{section_bytes};
 ghost use Rattle.index_model.specs.Shards.{StandsFor};
+ghost use Rattle.index_model.specs.declared.unit.Unit.{Unit as UnitHeader};
+ghost use Rattle.shard_build.specs.Runs.{HoldsOneMore, IsAtOffset};
 
 use crate::home::Home;
 use crate::run::Run;
@@ -27,15 +31,29 @@ pub fn scan<'f>(alloc: Global, image: &Image<'f>, first: u32, count: u32) -> Res
 {
     // There are at most `MAX_UNITS` of them, so their numbers don't wrap.
     let _units = image.units();
-    let end = first + count;
-    let section = image.sections().get(b".debug_abbrev");
     let mut run = Run::new(alloc);
     let mut at_hand = None;
-    for number in first..end {
-        let home = Home::of(image, number);
-        let table = Table::of(alloc, section, &home.unit, at_hand)?;
-        run.unit(&home, &table.abbrevs)?;
-        at_hand = Some(table);
+    for number in first..first + count {
+        add_unit(alloc, image, number, &mut run, &mut at_hand)?;
     }
     Ok(run.shard(first))
+}
+
+// Takes in the unit with this number. Its table of abbreviations is then the one at hand.
+fn add_unit<'f>(
+    alloc: Global,
+    image: &Image<'f>,
+    number: u32,
+    run: &mut Run<'f>,
+    at_hand: &mut Option<Table>,
+) -> Result<(), Stop>
+    requires within { number < length image.now.units }
+    requires hand { ForSome at_hand.old (IsAtOffset (section_bytes image.now.sections (codes ".debug_abbrev"))) }
+    ensures value { (u : UnitHeader) → slice_get image.now.units number ≡ Some u → GivesFor (λ _ w. HoldsOneMore image.now.sections run.old run.new w) result (scanned image.now.sections (number, u)) }
+    ensures hand { ForSome at_hand.new (IsAtOffset (section_bytes image.now.sections (codes ".debug_abbrev"))) }
+{
+    let home = Home::of(image, number);
+    let section = image.sections().get(b".debug_abbrev");
+    let table = Table::of(alloc, section, &home.unit, at_hand.take())?;
+    run.unit(&home, &at_hand.insert(table).abbrevs)
 }

@@ -1,4 +1,6 @@
+use Rattle.std.specs.Prelude.{codes}
 use Rattle.std.specs.Option.{ForSome}
+use Rattle.index_model.specs.Sections.{section_bytes}
 use Rattle.shard_build.specs.Runs.{IsAtOffset}
 use Rattle.shard_build.proofs.RunEnds.{SoFar}
 use Rattle.shard_build.proofs.shard.scan.Given as goal
@@ -7,5 +9,5 @@ use Rattle.shard_build.proofs.shard.scan.Given as goal
 abbrev pub invariant-loop-number : goal.invariant-loop-number
 invariant-loop-number l = record {
   kept : SoFar l.image.sections l.image.units l.first l.number l.run;
-  hand : ForSome l.at_hand (IsAtOffset l.section);
+  hand : ForSome l.at_hand (IsAtOffset (section_bytes l.image.sections (codes ".debug_abbrev")));
 }

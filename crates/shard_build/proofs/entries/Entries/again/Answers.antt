@@ -1,9 +1,11 @@
 use Rattle.std.proofs.Common.{◌≡◌, ℕ, ◌<◌, length, List, Some, Ok, sym, ap, subst, ◌∙◌}
 use Rattle.std.specs.Prelude.{slice_get, codes}
+use Rattle.index_model.specs.Abbreviations.{table}
 use Rattle.index_model.specs.Faults.{program_of}
 use Rattle.index_model.specs.Program.{Program}
 use Rattle.index_model.specs.Sections.{Section, section_bytes}
 use Rattle.file_image.specs.Images.{image_of, unit_bytes}
+use Rattle.shard_build.specs.declared.tables.Table.{Table}
 use Rattle.shard_build.specs.Entries.{EntriesOf}
 use Rattle.shard_build.specs.Found.{IsWithin}
 use Rattle.shard_build.proofs.FoundSpans.{span_number}
@@ -37,8 +39,8 @@ of_sound-requires-clause-sound c =
     let section : c.get-section.result.now ≡ section_bytes im.sections (codes ".debug_abbrev") = c.get-section.ensures.value ∙ ap (λ (ss : List Section). section_bytes ss (codes ".debug_abbrev")) c.sections.ensures in
     some_table im image p is h.home h.unit home c.of-home.ensures.sections (c.of-home.ensures.number ∙ number) unit c.get-section.result.now section
 
-pub node_within-node-requires-clause-sound : goal.node_within-node-requires-clause-sound
-node_within-node-requires-clause-sound c =
+pub node_within-requires-clause-sound : goal.node_within-requires-clause-sound
+node_within-requires-clause-sound c =
     let im = c.self.inside.image.now in
     let file : im.file ≡ c.args.self.now.image.file = ap (λ (e : EntriesOf). e.image.file) c.self.view_is in
     let image : image_of im.file ≡ Ok im = c.units-units.ensures.of_file in
@@ -51,11 +53,12 @@ node_within-node-requires-clause-sound c =
     let unit = subst (λ (n : ℕ). slice_get im.units n ≡ Some home.unit) number c.of-home.ensures.unit in
     let section : c.get-section.result.now ≡ section_bytes im.sections (codes ".debug_abbrev") = c.get-section.ensures.value ∙ ap (λ (ss : List Section). section_bytes ss (codes ".debug_abbrev")) c.sections.ensures in
     let own : home.bytes.now ≡ unit_bytes home.sections.now home.unit = c.of-home.ensures.own ∙ ap (λ (ss : List Section). unit_bytes ss home.unit) (sym c.of-home.ensures.sections) in
-    let a = c.in_ok-table.table.abbrevs in
-    sound im image p is h.home h.unit home c.of-home.ensures.sections (c.of-home.ensures.number ∙ number) unit own c.of-home.ensures.header c.get-section.result.now section a c.in_ok-table.ensures.value
+    let t = c.insert-table.result.now in
+    let read = subst (λ (x : Table). table c.get-section.result.now home.unit.«abbrev» ≡ Some x.abbrevs) (sym c.insert-table.ensures.value) c.in_ok-table.ensures.value in
+    sound im image p is h.home h.unit home c.of-home.ensures.sections (c.of-home.ensures.number ∙ number) unit own c.of-home.ensures.header c.get-section.result.now section t.abbrevs read
 
-pub node_within-node-requires-clause-span : goal.node_within-node-requires-clause-span
-node_within-node-requires-clause-span c =
+pub node_within-requires-clause-span : goal.node_within-requires-clause-span
+node_within-requires-clause-span c =
     let im = c.self.inside.image.now in
     let file : im.file ≡ c.args.self.now.image.file = ap (λ (e : EntriesOf). e.image.file) c.self.view_is in
     let image : image_of im.file ≡ Ok im = c.units-units.ensures.of_file in
@@ -68,11 +71,12 @@ node_within-node-requires-clause-span c =
     let unit = subst (λ (n : ℕ). slice_get im.units n ≡ Some home.unit) number c.of-home.ensures.unit in
     let section : c.get-section.result.now ≡ section_bytes im.sections (codes ".debug_abbrev") = c.get-section.ensures.value ∙ ap (λ (ss : List Section). section_bytes ss (codes ".debug_abbrev")) c.sections.ensures in
     let own : home.bytes.now ≡ unit_bytes home.sections.now home.unit = c.of-home.ensures.own ∙ ap (λ (ss : List Section). unit_bytes ss home.unit) (sym c.of-home.ensures.sections) in
-    let a = c.in_ok-table.table.abbrevs in
-    in_spans im image p is h.home h.unit home c.of-home.ensures.sections (c.of-home.ensures.number ∙ number) unit own c.of-home.ensures.header c.get-section.result.now section a c.in_ok-table.ensures.value c.args.span.now h.span
+    let t = c.insert-table.result.now in
+    let read = subst (λ (x : Table). table c.get-section.result.now home.unit.«abbrev» ≡ Some x.abbrevs) (sym c.insert-table.ensures.value) c.in_ok-table.ensures.value in
+    in_spans im image p is h.home h.unit home c.of-home.ensures.sections (c.of-home.ensures.number ∙ number) unit own c.of-home.ensures.header c.get-section.result.now section t.abbrevs read c.args.span.now h.span
 
-pub node_within-node-requires-clause-parent : goal.node_within-node-requires-clause-parent
-node_within-node-requires-clause-parent c =
+pub node_within-requires-clause-parent : goal.node_within-requires-clause-parent
+node_within-requires-clause-parent c =
     let im = c.self.inside.image.now in
     let file : im.file ≡ c.args.self.now.image.file = ap (λ (e : EntriesOf). e.image.file) c.self.view_is in
     let image : image_of im.file ≡ Ok im = c.units-units.ensures.of_file in
@@ -85,8 +89,9 @@ node_within-node-requires-clause-parent c =
     let unit = subst (λ (n : ℕ). slice_get im.units n ≡ Some home.unit) number c.of-home.ensures.unit in
     let section : c.get-section.result.now ≡ section_bytes im.sections (codes ".debug_abbrev") = c.get-section.ensures.value ∙ ap (λ (ss : List Section). section_bytes ss (codes ".debug_abbrev")) c.sections.ensures in
     let own : home.bytes.now ≡ unit_bytes home.sections.now home.unit = c.of-home.ensures.own ∙ ap (λ (ss : List Section). unit_bytes ss home.unit) (sym c.of-home.ensures.sections) in
-    let a = c.in_ok-table.table.abbrevs in
-    span_of_parent im image p is h.home h.unit home c.of-home.ensures.sections (c.of-home.ensures.number ∙ number) unit own c.of-home.ensures.header c.get-section.result.now section a c.in_ok-table.ensures.value c.args.span.now c.args.offset h.parent
+    let t = c.insert-table.result.now in
+    let read = subst (λ (x : Table). table c.get-section.result.now home.unit.«abbrev» ≡ Some x.abbrevs) (sym c.insert-table.ensures.value) c.in_ok-table.ensures.value in
+    span_of_parent im image p is h.home h.unit home c.of-home.ensures.sections (c.of-home.ensures.number ∙ number) unit own c.of-home.ensures.header c.get-section.result.now section t.abbrevs read c.args.span.now c.args.offset h.parent
 
 pub returns-clause-value : goal.returns-clause-value
 returns-clause-value c p given =
@@ -100,5 +105,6 @@ returns-clause-value c p given =
     let unit = subst (λ (n : ℕ). slice_get im.units n ≡ Some home.unit) number c.of-home.ensures.unit in
     let section : c.get-section.result.now ≡ section_bytes im.sections (codes ".debug_abbrev") = c.get-section.ensures.value ∙ ap (λ (ss : List Section). section_bytes ss (codes ".debug_abbrev")) c.sections.ensures in
     let own : home.bytes.now ≡ unit_bytes home.sections.now home.unit = c.of-home.ensures.own ∙ ap (λ (ss : List Section). unit_bytes ss home.unit) (sym c.of-home.ensures.sections) in
-    let a = c.in_ok-table.table.abbrevs in
-    node_there im image p is h.home h.unit home c.of-home.ensures.sections (c.of-home.ensures.number ∙ number) unit own c.of-home.ensures.header c.get-section.result.now section a c.in_ok-table.ensures.value c.args.span.now c.args.offset h.same c.node_within-node.result c.node_within-node.ensures
+    let t = c.insert-table.result.now in
+    let read = subst (λ (x : Table). table c.get-section.result.now home.unit.«abbrev» ≡ Some x.abbrevs) (sym c.insert-table.ensures.value) c.in_ok-table.ensures.value in
+    node_there im image p is h.home h.unit home c.of-home.ensures.sections (c.of-home.ensures.number ∙ number) unit own c.of-home.ensures.header c.get-section.result.now section t.abbrevs read c.args.span.now c.args.offset h.same c.node_within.result c.node_within.ensures
