@@ -10,29 +10,22 @@ use Rattle.common_laws.proofs.Lists.{all_zip_append}
 use Rattle.ix_base.specs.declared.fault.Fault.{Fault}
 use Rattle.ix_base.specs.declared.fault.Stop.{Stop}
 use Rattle.ix_base.specs.declared.fault.Stop.TheVariants as stops
-use Rattle.file_image.specs.Images.{Image}
 use Rattle.index_model.specs.declared.shard.LinkedEntry.{LinkedEntry}
-use Rattle.index_model.specs.declared.shard.Linked.{Linked}
 use Rattle.index_model.specs.declared.shard.Shard.{Shard}
-use Rattle.index_model.specs.Faults.{program_of}
 use Rattle.index_model.specs.Gives.{StopsAs}
 use Rattle.index_model.specs.Meaning.{◌>>=◌, at_place, each}
 use Rattle.index_model.specs.Links.{Link, link_of, links_in, is_link_indexed, indexed_in}
 use Rattle.index_model.specs.Program.{Walked, Program, Located}
 use Rattle.index_model.specs.Sections.{Section}
-use Rattle.index_model.specs.Shards.{AreShardsOf, IsLinked, IsLinkedEntryOf, IsRunOf, StandsFor}
+use Rattle.index_model.specs.Shards.{AreShardsOf, IsLinkedEntryOf, IsRunOf, StandsFor}
 use Rattle.index_model.specs.ShardParts.{kept_in}
 use Rattle.index_model.proofs.ShardRoots.{joined}
-use Rattle.parent_resolve.specs.Runs.{is_followed, links_at, IsLinkedNode}
+use Rattle.parent_resolve.specs.Runs.{is_followed, links_at, AddsLinks, AreLinksOf, IsLinkedNode}
 use Rattle.parent_resolve.proofs.KeptLaws.{kept_followed}
-
--- whatever program the shards are of, and whatever run of it this one stands for
-abbrev pub ForStanding : Image → List Shard → Shard → (Program → List Walked → Type 0) → Type 0
-ForStanding image shards shard Holds = (p : Program) (run : List Walked) → program_of image.file ≡ Ok p → AreShardsOf p shards → IsRunOf p run → StandsFor p.sections shard run → Holds p run
 
 -- this is what the links of the run's first nodes say
 abbrev pub IsTaken : Program → List Walked → ℕ → List LinkedEntry → Type 0
-IsTaken p run n es = IsOkAnd (links_at p (take n (kept_in run))) (λ ks. AllZip (IsLinkedEntryOf p) es (indexed_in ks))
+IsTaken p run n es = IsOkAnd (links_at p (take n (kept_in run))) (AreLinksOf p es)
 
 -- ---- lists
 
@@ -154,22 +147,30 @@ module _ (p : Program) where
   unfolding links_in
   of_run runs k run is = ap (each one) (sym (kept_followed p run)) ∙ ap (λ (o : Option (List Walked)). links_in p (unwrap_or o [])) (sym is)
 
+  -- behind some entries come those of one more node
+  pub adds : (o : Option LinkedEntry) (old new : List LinkedEntry) (ks : List Link) → new ≡ old ++ option_to_list o → IsLinkedNode p o ks → AddsLinks p old new ks
+  adds o old new ks longer h ls are =
+      subst (λ (xs : List LinkedEntry). AreLinksOf p xs (ls ++ ks)) (sym longer)
+      (subst (λ (ys : List Link). AllZip (IsLinkedEntryOf p) (old ++ option_to_list o) ys) (sym (filter-append is_link_indexed ls ks)) (all_zip_append (IsLinkedEntryOf p) old (indexed_in ls) (option_to_list o) (indexed_in ks) are h))
+
+  -- and so where the links are given
+  pub adds_given : (o : Option LinkedEntry) (old new : List LinkedEntry) (r : Result (List Link) Fault) → new ≡ old ++ option_to_list o → IsOkAnd r (IsLinkedNode p o) → IsOkAnd r (AddsLinks p old new)
+  adds_given o old new (Ok ks) longer h = adds o old new ks longer h
+  adds_given o old new (Err e) longer h = h
+
   module _ (run : List Walked) (n : ℕ) (es : List LinkedEntry) (taken : IsTaken p run n es) (d : Located) where
-    before : (ks : List Link) × (links_at p (take n (kept_in run)) ≡ Ok ks) × AllZip (IsLinkedEntryOf p) es (indexed_in ks)
-    before = ok_in (λ ks. AllZip (IsLinkedEntryOf p) es (indexed_in ks)) (links_at p (take n (kept_in run))) taken
+    before : (ks : List Link) × (links_at p (take n (kept_in run)) ≡ Ok ks) × AreLinksOf p es ks
+    before = ok_in (AreLinksOf p es) (links_at p (take n (kept_in run))) taken
 
     -- with one more node
-    pub takes_more : take (suc n) (kept_in run) ≡ take n (kept_in run) ++ d ∷ [] → (o : Option LinkedEntry) → IsOkAnd (links_at p (d ∷ [])) (IsLinkedNode p o) → (m : ℕ) → m ≡ suc n → (all : List LinkedEntry) → all ≡ es ++ option_to_list o → IsTaken p run m all
-    takes_more next o h m more all longer =
+    pub takes_more : take (suc n) (kept_in run) ≡ take n (kept_in run) ++ d ∷ [] → (all : List LinkedEntry) → IsOkAnd (links_at p (d ∷ [])) (AddsLinks p es all) → (m : ℕ) → m ≡ suc n → IsTaken p run m all
+    takes_more next all h m more =
         let b = before in
-        let e = ok_in (IsLinkedNode p o) (links_at p (d ∷ [])) h in
+        let e = ok_in (AddsLinks p es all) (links_at p (d ∷ [])) h in
         let both : links_at p (take m (kept_in run)) ≡ Ok (b.0 ++ e.0) =
         ap (λ (j : ℕ). links_at p (take j (kept_in run))) more ∙ ap (links_at p) next ∙ links_append (take n (kept_in run)) (d ∷ []) ∙
         ap (λ (r : Result (List Link) Fault). r >>= λ front. with_front one front (links_at p (d ∷ []))) b.1 ∙ ap (with_front one b.0) e.1 in
-        let zipped : AllZip (IsLinkedEntryOf p) all (indexed_in (b.0 ++ e.0)) =
-        subst (λ (xs : List LinkedEntry). AllZip (IsLinkedEntryOf p) xs (indexed_in (b.0 ++ e.0))) (sym longer)
-        (subst (λ (ys : List Link). AllZip (IsLinkedEntryOf p) (es ++ option_to_list o) ys) (sym (filter-append is_link_indexed b.0 e.0)) (all_zip_append (IsLinkedEntryOf p) es (indexed_in b.0) (option_to_list o) (indexed_in e.0) b.2 e.2)) in
-        subst (λ (r : Result (List Link) Fault). IsOkAnd r (λ ks. AllZip (IsLinkedEntryOf p) all (indexed_in ks))) (sym both) zipped
+        subst (λ (r : Result (List Link) Fault). IsOkAnd r (AreLinksOf p all)) (sym both) (e.2 b.0 b.2)
 
     -- the first fault is the run's
     pub stops_here : (rest : List Located) → take n (kept_in run) ++ d ∷ rest ≡ kept_in run → (stop : Stop) → StopsAs stop (links_at p (d ∷ [])) → StopsAs stop (links_at p (kept_in run))
@@ -180,7 +181,5 @@ module _ (p : Program) where
         ap (with_front one before.0) (links_append (d ∷ []) rest ∙ ap (λ (r : Result (List Link) Fault). r >>= λ front. with_front one front (links_at p rest)) h)
 
   -- all of them
-  pub all_taken : (run : List Walked) (n : ℕ) (es : List LinkedEntry) → IsTaken p run n es → take n (kept_in run) ≡ kept_in run → (linked : Linked) → linked.entries ≡ es → (links : Result (List Link) Fault) → links_at p (kept_in run) ≡ links → IsOkAnd links (IsLinked p linked)
-  all_taken run n es taken whole linked is links own =
-      let here : IsOkAnd links (λ ks. AllZip (IsLinkedEntryOf p) es (indexed_in ks)) = subst (λ (r : Result (List Link) Fault). IsOkAnd r (λ ks. AllZip (IsLinkedEntryOf p) es (indexed_in ks))) (ap (links_at p) whole ∙ own) taken in
-      subst (λ (xs : List LinkedEntry). IsOkAnd links (λ ks. AllZip (IsLinkedEntryOf p) xs (indexed_in ks))) (sym is) here
+  pub all_taken : (run : List Walked) (n : ℕ) (es : List LinkedEntry) → IsTaken p run n es → take n (kept_in run) ≡ kept_in run → IsOkAnd (links_at p (kept_in run)) (AreLinksOf p es)
+  all_taken run n es taken whole = subst (λ (ds : List Located). IsOkAnd (links_at p ds) (AreLinksOf p es)) whole taken

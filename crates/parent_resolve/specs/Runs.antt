@@ -1,5 +1,5 @@
 -- The links of a shard's run, by the nodes of the shard.
-use Rattle.std.specs.Prelude.{◌≡◌, ℕ, Bool, ◌&&◌, List, [], filter, Contains, slice_get, unwrap_or, Option, option_to_list, Result, Ok}
+use Rattle.std.specs.Prelude.{◌≡◌, ℕ, Bool, ◌&&◌, List, [], ◌++◌, filter, Contains, slice_get, unwrap_or, Option, option_to_list, Result, Ok}
 use Rattle.std.specs.List.{AllZip}
 use Rattle.ix_base.specs.declared.fault.Fault.{Fault}
 use Rattle.file_image.specs.Images.{Image}
@@ -28,9 +28,21 @@ is_followed p d = is_in_table d.item.tag && is_visited (is_ada (class_of_unit p 
 abbrev pub links_at : Program → List Located → Result (List Link) Fault
 links_at p ds = each (λ d. at_place d.item.at (link_of p d)) (filter (is_followed p) ds)
 
+-- these entries are what these links say of the indexed ones
+abbrev pub AreLinksOf : Program → List LinkedEntry → List Link → Type 0
+AreLinksOf p es ks = AllZip (IsLinkedEntryOf p) es (indexed_in ks)
+
 -- these are the links of one node at most, and this is what they say of an indexed entry
 abbrev pub IsLinkedNode : Program → Option LinkedEntry → List Link → Type 0
 IsLinkedNode p e ks = AllZip (IsLinkedEntryOf p) (option_to_list e) (indexed_in ks)
+
+-- behind these entries come those of these links
+abbrev pub AddsLinks : Program → List LinkedEntry → List LinkedEntry → List Link → Type 0
+AddsLinks p old new ks = (ls : List Link) → AreLinksOf p old ls → AreLinksOf p new (ls ++ ks)
+
+-- Whatever run of the file's units the shard stands for: what holds of the run.
+abbrev pub ForStanding : EntriesOf → Shard → (Program → List Walked → Type 0) → Type 0
+ForStanding e shard Holds = (p : Program) (run : List Walked) → program_of e.image.file ≡ Ok p → AreShardsOf p e.shards → IsRunOf p run → StandsFor p.sections shard run → Holds p run
 
 -- Whatever run of the file's units the shard stands for: what holds of the entry whose node it is.
 abbrev pub ForKept : EntriesOf → Shard → Node → (Program → Located → Type 0) → Type 0

@@ -15,7 +15,7 @@ use shard_build::Entries;
 use std::alloc::Global;
 
 /// What the entries of a chain say.
-#[derive(Clone, Copy, Debug, PartialEq, Eq)]
+#[derive(Clone, Copy)]
 pub(crate) struct Chain<'f> {
     /// The last of them.
     pub(crate) end: Node<'f>,

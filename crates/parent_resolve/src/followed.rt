@@ -3,7 +3,7 @@
 use index_model::Node;
 
 /// An entry with what its chain and its signature give (DWARF 5, sections 2.13.2, 3.3.8 and 7.32).
-#[derive(Clone, Copy, Debug, PartialEq, Eq)]
+#[derive(Clone, Copy)]
 pub struct Followed<'f> {
     /// The last entry of its chain.
     pub end: Node<'f>,

@@ -5,8 +5,9 @@ ghost use Rattle.std.specs.Arc.{arc_value};
 ghost use Rattle.index_model.specs.Rules.{is_ada};
 ghost use Rattle.index_model.specs.Gives.{GivesFor};
 ghost use Rattle.index_model.specs.Shards.{IsLinked};
+ghost use Rattle.index_model.specs.ShardParts.{kept_in};
 ghost use Rattle.shard_build.specs.Entries.{AreShardsOfFile};
-ghost use Rattle.parent_resolve.specs.Runs.{links_at, ForKept, ForRun, IsLinkedNode};
+ghost use Rattle.parent_resolve.specs.Runs.{links_at, AddsLinks, AreLinksOf, ForKept, ForRun, ForStanding, IsLinkedNode};
 
 use crate::classes::class_of;
 use crate::entry::link_entry;
@@ -38,18 +39,62 @@ pub fn link<'f>(
     requires within { k < length shards.now }
     ensures { ForRun image.now (map arc_value shards.now) k (λ p links. GivesFor (IsLinked p) result links) }
 {
-    let shard: &Shard<'f> = &shards[k];
     let mut paths = Paths::new(alloc, image, shards)?;
+    linked(alloc, &shards[k], shards, &mut paths)
+}
+
+// What the references of the shard's entries give.
+fn linked<'f>(
+    alloc: Global,
+    shard: &Shard<'f>,
+    shards: &[Arc<Shard<'f>>],
+    paths: &mut Paths<'_, 'f>,
+) -> Result<Linked<'f>, Stop>
+    requires { paths.old.shards ≡ map arc_value shards.now }
+    ensures { ForStanding paths.old shard.now (λ p run. GivesFor (IsLinked p) result (links_at p (kept_in run))) }
+{
     let mut languages = Languages::new(shards);
-    let mut entries = Vec::new(alloc);
-    for node in shard.nodes.as_slice() {
-        if let Some(entry) = link_node(alloc, shard, &mut languages, &mut paths, node)? {
-            entries.push(entry)?;
-        }
-    }
+    let entries = links_of(alloc, shard, &mut languages, paths)?;
     Ok(Linked {
         entries: List::of(entries),
     })
+}
+
+// The entries that are followed and indexed, with what their references give.
+fn links_of<'f>(
+    alloc: Global,
+    shard: &Shard<'f>,
+    languages: &mut Languages<'_, 'f>,
+    paths: &mut Paths<'_, 'f>,
+) -> Result<Vec<LinkedEntry<'f>>, Stop>
+    requires { paths.old.shards ≡ languages.old }
+    ensures { ForStanding paths.old shard.now (λ p run. GivesFor (λ v. AreLinksOf p v.items) result (links_at p (kept_in run))) }
+{
+    let mut entries = Vec::new(alloc);
+    for node in shard.nodes.as_slice() {
+        add_link(alloc, shard, languages, paths, node, &mut entries)?;
+    }
+    Ok(entries)
+}
+
+// Adds what the references of a node's entry give.
+fn add_link<'f>(
+    alloc: Global,
+    shard: &Shard<'f>,
+    languages: &mut Languages<'_, 'f>,
+    paths: &mut Paths<'_, 'f>,
+    node: &Node<'f>,
+    entries: &mut Vec<LinkedEntry<'f>>,
+) -> Result<(), Stop>
+    requires { paths.old.shards ≡ languages.old }
+    ensures value { ForKept paths.old shard.now node.now (λ p d. GivesFor (λ _. AddsLinks p entries.old.items entries.new.items) result (links_at p (d ∷ []))) }
+    ensures languages { languages.new ≡ languages.old }
+    ensures paths { paths.new ≡ paths.old }
+{
+    if let Some(entry) = link_node(alloc, shard, languages, paths, node)? {
+        entries.push(entry)?;
+    }
+    Ok(())
 }
 
 // What the references of a node's entry give, if they are followed and the entry is indexed.

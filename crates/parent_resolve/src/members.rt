@@ -18,7 +18,7 @@ use std::alloc::Global;
 
 /// One member of a scope path: what it gives to C++ names, and the joint offset of the lexical parent of its chain's end. None
 /// where the path ends.
-#[derive(Clone, Copy, Debug, PartialEq, Eq)]
+#[derive(Clone, Copy)]
 pub(crate) struct Step<'f> {
     pub(crate) component: Option<&'f [u8]>,
     pub(crate) around: Option<u64>,

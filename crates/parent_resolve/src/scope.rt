@@ -31,7 +31,7 @@ const ANONYMOUS: &[u8] = b"(anonymous namespace)";
 
 /// The members of a scope path, the root counted, and the length of what they put before a name, or the greatest `usize`
 /// where it is greater.
-#[derive(Clone, Copy, Debug, PartialEq, Eq)]
+#[derive(Clone, Copy)]
 pub(crate) struct Scope {
     pub(crate) steps: u32,
     pub(crate) length: usize,

@@ -9,7 +9,7 @@ use ix_base::{MAX_UNITS, NoMemory};
 use std::alloc::Global;
 
 /// A type unit, by what a signature is looked up for.
-#[derive(Clone, Copy, Debug, PartialEq, Eq)]
+#[derive(Clone, Copy)]
 pub(crate) struct TypeUnit {
     pub(crate) signature: u64,
     /// The number of the unit in section order, counted from 0.
