@@ -139,6 +139,10 @@ module _ (ss : List Section) (u : ℕ × UnitHeader) where
   abbrev pub has_node : Frame → Option Open → Item → Bool
   has_node f outer d = d.depth == 0 || is_visited_in outer f.ada
 
+  -- what the texts of an entry give, or the first fault of them
+  abbrev pub with_texts : {A : Type 0} → Option ℕ → Item → (Texts → A) → Result A Fault
+  with_texts base d made = at_place d.at (texts_by ss base u.1.wide d) >>= λ t. Ok (made t)
+
   -- the node of an entry, or the first fault of its texts
   unfoldable pub nodes_by : Frame → Option Open → Item → Result (List NodeSeen) Fault
   nodes_by f outer d = do
@@ -150,6 +154,14 @@ module _ (ss : List Section) (u : ℕ × UnitHeader) where
   nodes_added f outer ns d = nodes_by f outer d >>= λ more. Ok (ns ++ more)
 
   -- ---- tokens
+
+  -- with what of an entry isn't its node
+  abbrev pub with_others : Behind → Item → Bool → Behind
+  with_others b d visited = record b {
+    opened = opened_by d visited (length b.spans) b.opened;
+    spans = b.spans ++ spans_by d;
+    imports = b.imports ++ imports_by d;
+  }
 
   -- behind an entry
   unfoldable pub entered : Behind → Item → Result Behind Fault

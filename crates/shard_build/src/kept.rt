@@ -1,8 +1,8 @@
 //! What is kept of the entries.
 
-ghost use Rattle.std.specs.Prelude.{◌≡◌, ◌+◌, ◌<◌, ◌^◌, ◌++◌, ℕ, length, map, reverse, OnOk};
+ghost use Rattle.std.specs.Prelude.{◌≡◌, ◌+◌, ◌<◌, ◌^◌, ◌++◌, ◌∷◌, [], ℕ, length, map, reverse, OnOk};
 ghost use Rattle.index_model.specs.Gives.{Gives};
-ghost use Rattle.shard_build.specs.Kept.{node_seen, nodes_added, spans_by, opened_by, imports_by, ended_at};
+ghost use Rattle.shard_build.specs.Kept.{node_seen, node_by, nodes_added, with_texts, spans_by, opened_by, imports_by, ended_at};
 ghost use Rattle.shard_build.specs.Texts.{HoldsTexts};
 
 use crate::attributes::Attributes;
@@ -39,11 +39,25 @@ pub(crate) fn add_node<'f>(
 {
     let base = frame.str_offsets_base;
     if entry.item().depth() == 0 || is_visited_in(outer, frame.ada) {
-        let texts = home.texts(base, entry)?;
-        nodes.push(home.node(outer, entry, texts))?;
+        add_node_with_texts(nodes, home, base, outer, entry)
     } else {
-        home.test(base, entry)?;
+        home.test(base, entry)
     }
+}
+
+// Adds the node of an entry, with its texts.
+fn add_node_with_texts<'f>(
+    nodes: &mut Vec<Node<'f>>,
+    home: &Home<'_, 'f>,
+    base: Option<u64>,
+    outer: Option<Open>,
+    entry: &Attributes<'_>,
+) -> Result<(), Stop>
+    requires { HoldsTexts home.now.bytes.now home.now.unit entry.now }
+    ensures { Gives (λ _. map node_seen nodes.new.items) result (with_texts home.now.sections.now (home.now.number, home.now.unit) base entry.now (λ t. map node_seen nodes.old.items ++ node_by home.now.sections.now (home.now.number, home.now.unit) outer entry.now t ∷ [])) }
+{
+    let texts = home.texts(base, entry)?;
+    nodes.push(home.node(outer, entry, texts))?;
     Ok(())
 }
 

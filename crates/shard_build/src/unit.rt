@@ -1,11 +1,11 @@
 //! The tokens of a unit, one after the other.
 
-ghost use Rattle.std.specs.Prelude.{◌≡◌, ◌+◌, ◌<◌, ◌^◌, Contains, reverse};
+ghost use Rattle.std.specs.Prelude.{◌≡◌, ◌+◌, ◌<◌, ◌^◌, Contains, OnOk, reverse};
 ghost use Rattle.ix_base.specs.declared.fault.Fault.{Fault as FaultOf};
 ghost use Rattle.entry_scan.specs.Tokens.{token_seen};
 ghost use Rattle.index_model.specs.Gives.{Gives, GivesAlways};
 ghost use Rattle.index_model.specs.Walk.{Item as EntryOf, items};
-ghost use Rattle.shard_build.specs.Kept.{kept_seen, entered, closed, behind};
+ghost use Rattle.shard_build.specs.Kept.{kept_seen, entered, with_others, closed, behind};
 ghost use Rattle.shard_build.specs.Texts.{HoldsTexts};
 ghost use Rattle.shard_build.specs.Tokens.{OnEntry, ended, behind_walk};
 
@@ -14,7 +14,7 @@ use crate::home::Home;
 use crate::kept::{Kept, add_import, add_node, add_span, end_span, open};
 use crate::open::{innermost, is_visited_in};
 use entry_scan::{Token, Walk};
-use ix_base::{Fault, Stop};
+use ix_base::{Fault, NoMemory, Stop};
 
 impl<'f> Kept<'f> {
     // Takes in an entry.
@@ -28,10 +28,23 @@ impl<'f> Kept<'f> {
         let outer = innermost(&self.opened);
         let visited = is_visited_in(outer, self.frame.ada);
         add_node(&mut self.nodes, home, &self.frame, outer, entry)?;
+        self.add_others(home, entry, visited)?;
+        Ok(())
+    }
+
+    // Takes in what of an entry isn't its node.
+    fn add_others(
+        &mut self,
+        home: &Home<'_, 'f>,
+        entry: &Attributes<'_>,
+        visited: bool,
+    ) -> Result<(), NoMemory>
+        requires { home.now.unit.start + home.now.unit.length < 2 ^ 63 }
+        ensures { OnOk result (kept_seen self.new ≡ with_others home.now.sections.now (home.now.number, home.now.unit) (kept_seen self.old) entry.now visited) }
+    {
         open(&mut self.opened, entry.item(), visited, self.spans.len())?;
         add_span(&mut self.spans, home, entry.item())?;
-        add_import(&mut self.imports, home, entry)?;
-        Ok(())
+        add_import(&mut self.imports, home, entry)
     }
 
     // Takes in a null, which ends the children of the innermost open entry.
