@@ -1,10 +1,11 @@
 -- What is known of an indexed entry, by its node and by what its references say.
-use Rattle.std.specs.Prelude.{◌≡◌, true, Contains, Ok}
+use Rattle.std.specs.Prelude.{◌≡◌, true, List, Contains, Ok}
+use Rattle.std.specs.List.{AllZip}
 use Rattle.index_model.specs.declared.rules.Class.{Class}
 use Rattle.index_model.specs.declared.shard.Node.{Node}
 use Rattle.index_model.specs.Chains.{chain_end}
 use Rattle.index_model.specs.Faults.{program_of}
-use Rattle.index_model.specs.Links.{Link, link_of, is_link_indexed}
+use Rattle.index_model.specs.Links.{Link, link_of, is_link_indexed, indexed_in}
 use Rattle.index_model.specs.Program.{Program}
 use Rattle.index_model.specs.ShardParts.{IsNodeOf}
 use Rattle.index_model.specs.Shards.{AreShardsOf, IsLinkedEntryOf}
@@ -42,6 +43,18 @@ pub record HasLink (e : EntriesOf) (x : Indexed) : Type 0 where
   pub shards : AreShardsOf program e.shards
   pub link : Link
   pub is : IsIndexed program x link
+
+-- these entries have links in the file, one by one
+pub record HaveLinks (e : EntriesOf) (xs : List Indexed) : Type 0 where
+  pub program : Program
+  pub file : program_of e.image.file ≡ Ok program
+  pub shards : AreShardsOf program e.shards
+  pub links : List Link
+  pub are : AllZip (IsIndexed program) xs (indexed_in links)
+
+-- whatever links these are the indexed ones of
+abbrev pub ForLinksOf : EntriesOf → List Indexed → (Program → List Link → Type 0) → Type 0
+ForLinksOf e xs Holds = (p : Program) → program_of e.image.file ≡ Ok p → AreShardsOf p e.shards → (ks : List Link) → AllZip (IsIndexed p) xs (indexed_in ks) → Holds p ks
 
 -- the node is that of the last entry of the chain
 pub record IsEnd (p : Program) (k : Link) (end : Node) : Type 0 where

@@ -1,6 +1,6 @@
 //! The entries of an index: an indexed entry with its qualified name, and its linkage entry (DWARF 5, section 6.1.1.1).
 
-ghost use Rattle.std.specs.Prelude.{◌≡◌, ◌++◌, option_map, IfOk, OnOk};
+ghost use Rattle.std.specs.Prelude.{◌≡◌, ◌++◌, ◌∷◌, option_map, option_to_list, IfOk, OnOk};
 ghost use Rattle.index_model.specs.Entries.{entries_of_link, entry_of, linkage_entry_of, may_have_linkage};
 ghost use Rattle.qualified_names.specs.Indexed.{ForLink, HasLink};
 
@@ -29,7 +29,18 @@ pub(crate) fn push_entries<'f>(
     ensures kept { names.new ≡ names.old }
 {
     let entry = entry_of(names, alloc, indexed)?;
-    let linkage = linkage_entry_of(&entry, indexed.links.linkage);
+    push_with_linkage(entries, entry, indexed.links.linkage)
+}
+
+// Adds an entry, and at once its linkage entry.
+fn push_with_linkage<'f>(
+    entries: &mut Vec<Entry<'f>>,
+    entry: Entry<'f>,
+    linkage: Option<&'f [u8]>,
+) -> Result<(), NoMemory>
+    ensures { OnOk result (entries.new.items ≡ entries.old.items ++ entry.entry ∷ option_to_list (linkage_entry_of entry.entry (option_map (λ t. t.now) linkage.entry))) }
+{
+    let linkage = linkage_entry_of(&entry, linkage);
     entries.push(entry)?;
     if let Some(linkage) = linkage {
         entries.push(linkage)?;

@@ -13,7 +13,7 @@ use name_forms::ada_tail;
 const ANONYMOUS: &[u8] = b"(anonymous namespace)";
 
 /// The node of an indexed entry, and what its references say of it.
-#[derive(Clone, Copy, Debug, PartialEq, Eq)]
+#[derive(Clone, Copy)]
 pub(crate) struct Indexed<'f> {
     pub(crate) node: Node<'f>,
     pub(crate) links: LinkedEntry<'f>,

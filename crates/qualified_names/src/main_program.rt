@@ -1,10 +1,12 @@
 //! The main program (DWARF 5, section 3.3.1).
 
-ghost use Rattle.std.specs.Prelude.{◌≡◌, ◌==◌, not, filter, find, length, map, IfOk};
+ghost use Rattle.std.specs.Prelude.{◌≡◌, ◌==◌, not, filter, find, length, map, IfOk, Some};
 ghost use Rattle.std.specs.Arc.{arc_value};
 ghost use Rattle.index_model.specs.Languages.{language_of};
+ghost use Rattle.index_model.specs.Links.{qualified_of};
 ghost use Rattle.index_model.specs.MainProgram.{main_in, main_of};
 ghost use Rattle.qualified_names.specs.Files.{AreLinkedOfFile, ForLinks};
+ghost use Rattle.qualified_names.specs.Indexed.{ForLink, HasLink};
 ghost use Rattle.qualified_names.specs.Nodes.{all_indexed};
 ghost use Rattle.qualified_names.specs.Sought.{ForAllCounted, is_main_by, IsFound};
 
@@ -12,9 +14,9 @@ use crate::indexed::Indexed;
 use crate::names::Names;
 use crate::nodes::IndexedNodes;
 use crate::sought::Sought;
-use entry_rules::class;
+use entry_rules::{Class, class};
 use file_image::Image;
-use index_model::{Linked, Main, Shard};
+use index_model::{Linked, Main, Shard, Text};
 use ix_base::NoMemory;
 use parent_resolve::Languages;
 use std::alloc::Global;
@@ -38,9 +40,23 @@ pub fn main_of<'f>(
         return Ok(None);
     };
     let language = languages.of(found.node.unit);
-    let mut names = Names::new(alloc, image, shards)?;
-    let name = names.qualified(alloc, &found, class(language))?;
+    let name = name_of(alloc, image, shards, &found, class(language))?;
     Ok(Some(Main { language, name }))
+}
+
+// The qualified name of an indexed entry, in a unit of this class.
+fn name_of<'f>(
+    alloc: Global,
+    image: &Image<'f>,
+    shards: &[Arc<Shard<'f>>],
+    entry: &Indexed<'f>,
+    class: Class,
+) -> Result<Text<'f>, NoMemory>
+    requires { HasLink (record { image = image.now; shards = map arc_value shards.now }) entry.now }
+    ensures { ForLink (record { image = image.now; shards = map arc_value shards.now }) entry.now (λ p k. class ≡ k.class → IfOk result (λ t. qualified_of k ≡ Some t)) }
+{
+    let mut names = Names::new(alloc, image, shards)?;
+    names.qualified(alloc, entry, class)
 }
 
 // The entry of the main program.

@@ -4,6 +4,8 @@ ghost use Rattle.std.specs.Prelude.{◌≡◌, ◌<◌, length, map, IfOk};
 ghost use Rattle.std.specs.Arc.{arc_value};
 ghost use Rattle.index_model.specs.Entries.{entries_of};
 ghost use Rattle.qualified_names.specs.Files.{AreLinkedOfFile, ForLinkedRun};
+ghost use Rattle.qualified_names.specs.Indexed.{ForLinksOf, HaveLinks};
+ghost use Rattle.qualified_names.specs.Nodes.{indexed_nodes};
 
 use crate::entry::push_entries;
 use crate::names::Names;
@@ -32,13 +34,24 @@ pub fn run_of<'f>(
     requires within { k < length shards.now }
     ensures { ForLinkedRun image.now (map arc_value shards.now) (map arc_value linked.now) k (λ p ks. IfOk result (λ run. run ≡ entries_of p ks)) }
 {
-    let shard = &shards[k];
-    let links = &linked[k];
     let mut names = Names::new(alloc, image, shards)?;
-    let mut entries = Vec::with_capacity(alloc, links.entries.as_slice().len())?;
-    let mut left = IndexedNodes::of(shard, links);
+    entries_of(alloc, &mut names, &shards[k], &linked[k])
+}
+
+// The entries of a shard, with what the references of its entries give.
+fn entries_of<'f>(
+    alloc: Global,
+    names: &mut Names<'_, 'f>,
+    shard: &Shard<'f>,
+    linked: &Linked<'f>,
+) -> Result<Run<'f>, NoMemory>
+    requires { HaveLinks names.old (indexed_nodes shard.now.nodes linked.now.entries) }
+    ensures { ForLinksOf names.old (indexed_nodes shard.now.nodes linked.now.entries) (λ p ks. IfOk result (λ run. run ≡ entries_of p ks)) }
+{
+    let mut entries = Vec::with_capacity(alloc, linked.entries.as_slice().len())?;
+    let mut left = IndexedNodes::of(shard, linked);
     while let Some((indexed, others)) = left.split_first() {
-        push_entries(&mut entries, &mut names, alloc, &indexed)?;
+        push_entries(&mut entries, names, alloc, &indexed)?;
         left = others;
     }
     Ok(List::of(entries))

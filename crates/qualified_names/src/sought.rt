@@ -19,7 +19,7 @@ const SUBPROGRAM: u64 = 0x2e;
 const MAIN: &[u8] = b"main";
 
 /// How the main program is told.
-#[derive(Clone, Copy, Debug, PartialEq, Eq)]
+#[derive(Clone, Copy)]
 pub(crate) enum Sought {
     /// By an entry that says it itself.
     Said,

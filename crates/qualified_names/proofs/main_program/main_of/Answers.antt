@@ -1,11 +1,9 @@
-use Rattle.std.proofs.Common.{map, sym, ap, subst, ◌∙◌, arith}
+use Rattle.std.proofs.Common.{map, sym, subst, ◌∙◌, arith}
 use Rattle.std.proofs.lemmas.List.{length-map}
 use Rattle.std.specs.Arc.{arc_value}
-use Rattle.index_model.specs.Faults.{program_of}
 use Rattle.index_model.specs.Links.{indexed_in}
 use Rattle.index_model.specs.Program.{Program}
 use Rattle.index_model.specs.Shards.{AreShardsOf}
-use Rattle.shard_build.specs.Entries.{EntriesOf}
 use Rattle.qualified_names.proofs.Mains.{class_here, language_here, main_given, no_main, none_found, one_found}
 use Rattle.qualified_names.proofs.RunLaws.{as_many, file_links, file_zip}
 use Rattle.qualified_names.proofs.main_program.main_of.Goals as goal
@@ -14,8 +12,8 @@ pub main_entry-requires : goal.main_entry-requires
 main_entry-requires c =
     omega (arith, as_many c.args.image.now (map arc_value c.args.shards.now) (map arc_value c.args.linked.now) c.requires, length-map c.args.shards.now arc_value, length-map c.args.linked.now arc_value)
 
-pub qualified-requires : goal.qualified-requires
-qualified-requires c =
+pub name_of-requires : goal.name_of-requires
+name_of-requires c =
     let r = c.requires in
     let image = c.args.image.now in
     let S = map arc_value c.args.shards.now in
@@ -26,8 +24,8 @@ qualified-requires c =
     let found = one_found r.program c.in-Some.found _ (c.in-Some.ensures.value image.file r.program r.is own (indexed_in e.0) z.1) in
     record {
       program = r.program;
-      file = ap (λ (e : EntriesOf). program_of e.image.file) c.in_ok-names.ensures ∙ r.is;
-      shards = subst (AreShardsOf r.program) (sym (ap (λ (e : EntriesOf). e.shards) c.in_ok-names.ensures)) r.are;
+      file = r.is;
+      shards = r.are;
       link = found.0;
       is = found.2;
     }
@@ -56,6 +54,4 @@ returns c p file ks is =
     let asked = subst (AreShardsOf p) (sym (c.in-Some.ensures.kept ∙ c.new-languages.ensures)) are in
     let here = language_here image.file p file _ asked c.in-Some.found found.0 found.2 c.of-language.result c.of-language.ensures.value in
     let class = class_here image.file p file _ asked c.in-Some.found found.0 found.2 c.of-language.result c.of-language.ensures.value in
-    let file_ = ap (λ (e : EntriesOf). program_of e.image.file) c.in_ok-names.ensures ∙ file in
-    let shards = subst (AreShardsOf p) (sym (ap (λ (e : EntriesOf). e.shards) c.in_ok-names.ensures)) are in
-    main_given p ks found.0 found.1 _ here (c.in_ok-name.ensures.value p file_ shards found.0 found.2 (c.class.ensures ∙ class))
+    main_given p ks found.0 found.1 _ here (c.in_ok-name.ensures p file are found.0 found.2 (c.class.ensures ∙ class))
