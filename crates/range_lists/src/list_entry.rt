@@ -11,7 +11,7 @@ use ix_base::Cursor;
 use ix_base::code::BAD_RANGE;
 
 /// How a list is written.
-#[derive(Clone, Copy, Debug, PartialEq, Eq)]
+#[derive(Clone, Copy)]
 pub(crate) enum Format {
     /// Pairs of addresses, in `.debug_ranges`.
     Pairs,
@@ -20,7 +20,7 @@ pub(crate) enum Format {
 }
 
 /// An entry of a list.
-#[derive(Clone, Copy, Debug, PartialEq, Eq)]
+#[derive(Clone, Copy)]
 pub(crate) enum Entry {
     /// The list ends.
     End,

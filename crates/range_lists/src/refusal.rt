@@ -6,7 +6,7 @@ ghost use Rattle.range_lists.specs.declared.refusal.Refusal.TheVariants as refus
 use ix_base::NoMemory;
 
 /// Why ranges weren't read.
-#[derive(Clone, Copy, Debug, PartialEq, Eq)]
+#[derive(Clone, Copy)]
 pub(crate) enum Refusal {
     /// A code of `ix_base::code`.
     Code(u8),

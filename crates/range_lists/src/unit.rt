@@ -64,7 +64,22 @@ impl Home<'_> {
         Ok(())
     }
 
-    // The ranges of the root, or else those of the linked subprograms. The nodes are those of the unit.
+    // Adds the ranges of the root, or else those of the linked subprograms. The nodes are those of the unit.
+    fn add_nodes(
+        &self,
+        ranges: &mut Vec<Range>,
+        nodes: &[Node<'_>],
+        entries: &[LinkedEntry<'_>],
+    ) -> Result<(), Stop>
+        ensures { EntriesRise entries.now → Gives (λ _. ranges.new.items) result (behind ranges.old.items (all_node_ranges self.now.sections.now (unit_with self.now) (nodes_with_ranges entries.now nodes.now))) }
+    {
+        match nodes {
+            [root, ..] if has_ranges(root) => self.add_node(ranges, root),
+            _ => self.add_subprograms(ranges, nodes, entries),
+        }
+    }
+
+    // These ranges alone.
     pub(crate) fn ranges_of_nodes(
         &self,
         alloc: Global,
@@ -74,10 +89,7 @@ impl Home<'_> {
         ensures { EntriesRise entries.now → Gives (λ v. v.items) result (all_node_ranges self.now.sections.now (unit_with self.now) (nodes_with_ranges entries.now nodes.now)) }
     {
         let mut ranges = Vec::new(alloc);
-        match nodes {
-            [root, ..] if has_ranges(root) => self.add_node(&mut ranges, root)?,
-            _ => self.add_subprograms(&mut ranges, nodes, entries)?,
-        }
+        self.add_nodes(&mut ranges, nodes, entries)?;
         Ok(ranges)
     }
 }
