@@ -28,7 +28,7 @@ pub enum Token<'a> {
 }
 
 /// Where in the tree a place stands.
-#[derive(Clone, Copy, Debug, PartialEq, Eq)]
+#[derive(Clone, Copy)]
 pub(crate) struct Levels {
     /// Whether the root was read.
     pub root: bool,

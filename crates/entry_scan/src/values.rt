@@ -15,7 +15,7 @@ use ix_base::Cursor;
 use ix_base::code::TRUNCATED;
 
 /// How the numbers of a unit's entries are written.
-#[derive(Clone, Copy, Debug, PartialEq, Eq)]
+#[derive(Clone, Copy)]
 pub(crate) struct Format {
     pub version: u16,
     pub wide: bool,
