@@ -4,10 +4,10 @@
 
 ghost use Rattle.std.specs.Prelude.{◌≡◌, ◌≢◌};
 ghost use Rattle.ix_base.specs.Moves.{MovesOn};
-ghost use Rattle.ix_base.specs.Reading.{number, offset, uleb, sleb, bytes, skip};
+ghost use Rattle.ix_base.specs.Reading.{number, offset, uleb, sleb, zstr, bytes, skip};
 ghost use Rattle.index_model.specs.Meaning.{some_or};
 ghost use Rattle.index_model.specs.Gives.{GivesAlways};
-ghost use Rattle.index_model.specs.Forms.{by, Signed, Wide, reader_of, plain_forms, indirect, value_at};
+ghost use Rattle.index_model.specs.Forms.{by, counted, Block, Inline, Signed, Wide, reader_of, plain_forms, indirect, value_at};
 ghost use Rattle.entry_scan.specs.FormNumbers.{other_forms};
 ghost use Rattle.index_model.specs.FormSeen.{seen};
 
@@ -42,6 +42,50 @@ fn signed<'a>(cursor: &mut Cursor<'a>) -> Result<Value<'a>, u8>
     Ok(Value::Signed(cursor.sleb().ok_or(TRUNCATED)?))
 }
 
+// The value of form block1.
+fn block1<'a>(cursor: &mut Cursor<'a>) -> Result<Value<'a>, u8>
+    ensures value { GivesAlways (λ v. (seen v, cursor.new)) result (by (counted (number 1)) Block cursor.old) }
+    ensures place { MovesOn cursor.old cursor.new }
+{
+    let count = one(cursor)?;
+    Ok(Value::Block(block(count, cursor)?))
+}
+
+// The value of form block2.
+fn block2<'a>(cursor: &mut Cursor<'a>) -> Result<Value<'a>, u8>
+    ensures value { GivesAlways (λ v. (seen v, cursor.new)) result (by (counted (number 2)) Block cursor.old) }
+    ensures place { MovesOn cursor.old cursor.new }
+{
+    let count = two(cursor)?;
+    Ok(Value::Block(block(count, cursor)?))
+}
+
+// The value of form block4.
+fn block4<'a>(cursor: &mut Cursor<'a>) -> Result<Value<'a>, u8>
+    ensures value { GivesAlways (λ v. (seen v, cursor.new)) result (by (counted (number 4)) Block cursor.old) }
+    ensures place { MovesOn cursor.old cursor.new }
+{
+    let count = four(cursor)?;
+    Ok(Value::Block(block(count, cursor)?))
+}
+
+// The value of the forms block and exprloc.
+fn block_leb<'a>(cursor: &mut Cursor<'a>) -> Result<Value<'a>, u8>
+    ensures value { GivesAlways (λ v. (seen v, cursor.new)) result (by (counted uleb) Block cursor.old) }
+    ensures place { MovesOn cursor.old cursor.new }
+{
+    let count = leb(cursor)?;
+    Ok(Value::Block(block(count, cursor)?))
+}
+
+// The value of form string.
+fn string<'a>(cursor: &mut Cursor<'a>) -> Result<Value<'a>, u8>
+    ensures value { GivesAlways (λ v. (seen v, cursor.new)) result (by zstr Inline cursor.old) }
+    ensures place { MovesOn cursor.old cursor.new }
+{
+    Ok(Value::Inline(cursor.zstr().ok_or(TRUNCATED)?))
+}
+
 // The value of a form that stands for itself.
 fn plain<'a>(wide: bool, version: u16, form: u64, cursor: &mut Cursor<'a>) -> Result<Value<'a>, u8>
     ensures value { GivesAlways (λ v. (seen v, cursor.new)) result (reader_of (plain_forms version wide) form cursor.old) }
@@ -65,11 +109,11 @@ fn other<'a>(form: u64, cursor: &mut Cursor<'a>) -> Result<Value<'a>, u8>
         form::FLAG_PRESENT => Ok(Value::Flag(true)),
         form::DATA16 => sixteen(cursor),
         form::SDATA => signed(cursor),
-        form::BLOCK1 => Ok(Value::Block(block(one(cursor)?, cursor)?)),
-        form::BLOCK2 => Ok(Value::Block(block(two(cursor)?, cursor)?)),
-        form::BLOCK4 => Ok(Value::Block(block(four(cursor)?, cursor)?)),
-        form::BLOCK | form::EXPRLOC => Ok(Value::Block(block(leb(cursor)?, cursor)?)),
-        form::STRING => Ok(Value::Inline(cursor.zstr().ok_or(TRUNCATED)?)),
+        form::BLOCK1 => block1(cursor),
+        form::BLOCK2 => block2(cursor),
+        form::BLOCK4 => block4(cursor),
+        form::BLOCK | form::EXPRLOC => block_leb(cursor),
+        form::STRING => string(cursor),
         form::REF_SUP4 | form::STRP_SUP | form::REF_SUP8 => Err(SUPPLEMENTARY),
         _ => Err(UNKNOWN_FORM),
     }
