@@ -17,12 +17,12 @@ use index_model::Value;
 use ix_base::Cursor;
 use ix_base::code::{SUPPLEMENTARY, TRUNCATED, UNKNOWN_FORM};
 
-// The next `count` bytes.
-fn block<'a>(count: u64, cursor: &mut Cursor<'a>) -> Result<&'a [u8], u8>
-    ensures value { GivesAlways (λ b. (b.now, cursor.new)) result (some_or (bytes count cursor.old) TRUNCATED) }
+// The block of the next `count` bytes.
+fn block<'a>(count: u64, cursor: &mut Cursor<'a>) -> Result<Value<'a>, u8>
+    ensures value { GivesAlways (λ v. (seen v, cursor.new)) result (by (bytes count) Block cursor.old) }
     ensures place { MovesOn cursor.old cursor.new }
 {
-    Ok(cursor.bytes(count).ok_or(TRUNCATED)?)
+    Ok(Value::Block(cursor.bytes(count).ok_or(TRUNCATED)?))
 }
 
 // The value of form data16, which isn't kept.
@@ -48,7 +48,7 @@ fn block1<'a>(cursor: &mut Cursor<'a>) -> Result<Value<'a>, u8>
     ensures place { MovesOn cursor.old cursor.new }
 {
     let count = one(cursor)?;
-    Ok(Value::Block(block(count, cursor)?))
+    block(count, cursor)
 }
 
 // The value of form block2.
@@ -57,7 +57,7 @@ fn block2<'a>(cursor: &mut Cursor<'a>) -> Result<Value<'a>, u8>
     ensures place { MovesOn cursor.old cursor.new }
 {
     let count = two(cursor)?;
-    Ok(Value::Block(block(count, cursor)?))
+    block(count, cursor)
 }
 
 // The value of form block4.
@@ -66,7 +66,7 @@ fn block4<'a>(cursor: &mut Cursor<'a>) -> Result<Value<'a>, u8>
     ensures place { MovesOn cursor.old cursor.new }
 {
     let count = four(cursor)?;
-    Ok(Value::Block(block(count, cursor)?))
+    block(count, cursor)
 }
 
 // The value of the forms block and exprloc.
@@ -75,7 +75,7 @@ fn block_leb<'a>(cursor: &mut Cursor<'a>) -> Result<Value<'a>, u8>
     ensures place { MovesOn cursor.old cursor.new }
 {
     let count = leb(cursor)?;
-    Ok(Value::Block(block(count, cursor)?))
+    block(count, cursor)
 }
 
 // The value of form string.
