@@ -3,29 +3,31 @@
 use ix_base::{Cursor, Initial};
 
 // DWARF 5, section 7.6: the tables of examples of unsigned and of signed LEB128 numbers.
+const UNSIGNED: [(&[u8], u64); 5] = [
+    (&[0x02], 2),
+    (&[0x7f], 127),
+    (&[0x80, 0x01], 128),
+    (&[0x81, 0x01], 129),
+    (&[0xb9, 0x64], 12857),
+];
+
+const SIGNED: [(&[u8], i64); 7] = [
+    (&[0x02], 2),
+    (&[0x7e], -2),
+    (&[0xff, 0x00], 127),
+    (&[0x81, 0x7f], -127),
+    (&[0x80, 0x01], 128),
+    (&[0x80, 0x7f], -128),
+    (&[0xff, 0x7e], -129),
+];
+
 #[test]
 fn leb128_numbers(rt: HostRuntime) {
-    let unsigned: [(&[u8], u64); 5] = [
-        (&[0x02], 2),
-        (&[0x7f], 127),
-        (&[0x80, 0x01], 128),
-        (&[0x81, 0x01], 129),
-        (&[0xb9, 0x64], 12857),
-    ];
-    for (bytes, value) in unsigned {
-        assert_eq!(rt; Cursor::new(bytes, 0).uleb(), Some(value));
+    for (bytes, value) in &UNSIGNED {
+        assert_eq!(rt; Cursor::new(bytes, 0).uleb(), Some(*value));
     }
-    let signed: [(&[u8], i64); 7] = [
-        (&[0x02], 2),
-        (&[0x7e], -2),
-        (&[0xff, 0x00], 127),
-        (&[0x81, 0x7f], -127),
-        (&[0x80, 0x01], 128),
-        (&[0x80, 0x7f], -128),
-        (&[0xff, 0x7e], -129),
-    ];
-    for (bytes, value) in signed {
-        assert_eq!(rt; Cursor::new(bytes, 0).sleb(), Some(value));
+    for (bytes, value) in &SIGNED {
+        assert_eq!(rt; Cursor::new(bytes, 0).sleb(), Some(*value));
     }
 }
 

@@ -25,16 +25,21 @@ fn whole(tag: u64, class: Class) -> Facts {
     }
 }
 
+// The kind of a tag, whether an entry of it stands in tables, and whether a name of it is static in C, C++ and Ada.
+fn ruled(tag: u64) -> (Option<Kind>, bool, [bool; 3]) {
+    let stands = in_table(tag) && indexed(&whole(tag, Class::C));
+    let statics = [
+        is_static(&whole(tag, Class::C)),
+        is_static(&whole(tag, Class::Cxx)),
+        is_static(&whole(tag, Class::Ada)),
+    ];
+    (kind(tag), stands, statics)
+}
+
 #[test]
 fn entries_of_each_kind(rt: HostRuntime) {
-    for (tag, named, statics) in TAGS {
-        assert_eq!(rt; kind(tag), Some(named), "tag {tag}");
-        assert!(rt;
-            in_table(tag) && indexed(&whole(tag, Class::C)),
-            "tag {tag}"
-        );
-        let got = [Class::C, Class::Cxx, Class::Ada].map(|class| is_static(&whole(tag, class)));
-        assert_eq!(rt; got, statics, "tag {tag}");
+    for (tag, kind, statics) in &TAGS {
+        assert_eq!(rt; ruled(*tag), (Some(*kind), true, *statics), "tag {tag}");
     }
     // a compile unit
     assert!(rt; kind(0x11).is_none() && !in_table(0x11));

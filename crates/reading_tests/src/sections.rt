@@ -5,50 +5,70 @@ use index_model::{Part, Unit, UnitSort};
 use std::test::Fail;
 use test_files::programs::{PLAIN, THREE_UNITS};
 
+// Whether a section has the bytes of the file from one place to another.
+fn stands_at(sections: &Sections<'_>, name: &[u8], from: usize, to: usize) -> bool {
+    PLAIN.get(from..to) == Some(sections.get(name))
+}
+
+fn compared(sections: &Sections<'_>) -> [bool; 4] {
+    [
+        stands_at(sections, b".debug_abbrev", 64, 91),
+        stands_at(sections, b".debug_info", 91, 140),
+        stands_at(sections, b".debug_str", 0, 0),
+        stands_at(sections, b"", 0, 0),
+    ]
+}
+
 #[test]
 fn sections_by_name(rt: HostRuntime) -> Result<(), Fail> {
     let sections = Sections::open(rt.alloc(), &PLAIN)?;
-    for (name, bytes) in [
-        (&b".debug_abbrev"[..], &PLAIN[64..91]),
-        (b".debug_info", &PLAIN[91..140]),
-        (b".debug_str", b""),
-        (b"", b""),
-    ] {
-        assert_eq!(rt; sections.get(name), bytes);
-    }
-    assert_eq!(rt; units(rt.alloc(), &sections)?.len(), 1);
+    let found = compared(&sections);
+    let units = units(rt.alloc(), &sections)?.len();
+    assert_eq!(rt; (found, units), ([true; 4], 1));
     Ok(())
+}
+
+const FIRST: Unit = Unit {
+    start: 0,
+    part: Part::Info,
+    length: 0x25,
+    version: 5,
+    wide: false,
+    sort: UnitSort::Compile,
+    abbrev: 0,
+    body: 12,
+    signature: 0,
+    type_offset: 0,
+};
+
+const UNITS: [Unit; 3] = [
+    FIRST,
+    Unit {
+        start: 0x25,
+        length: 0x19,
+        ..FIRST
+    },
+    Unit {
+        start: 0x3e,
+        length: 0x20,
+        ..FIRST
+    },
+];
+
+fn has_units(image: &Image<'_>) -> bool {
+    image.units() == UNITS.as_slice()
+}
+
+fn has_second_at(image: &Image<'_>, from: usize, to: usize) -> bool {
+    let info = image.sections().get(b".debug_info");
+    image.units().len() == 3 && Some(image.unit_bytes(1)) == info.get(from..to)
 }
 
 #[test]
 fn units_one_after_the_other(rt: HostRuntime) -> Result<(), Fail> {
     let image = Image::open(rt.alloc(), &THREE_UNITS)?;
-    let first = Unit {
-        start: 0,
-        part: Part::Info,
-        length: 0x25,
-        version: 5,
-        wide: false,
-        sort: UnitSort::Compile,
-        abbrev: 0,
-        body: 12,
-        signature: 0,
-        type_offset: 0,
-    };
-    let second = Unit {
-        start: 0x25,
-        length: 0x19,
-        ..first
-    };
-    let third = Unit {
-        start: 0x3e,
-        length: 0x20,
-        ..first
-    };
-    assert_eq!(rt; image.units(), [first, second, third].as_slice());
-    assert!(rt; image.units().len() == 3);
-    let info = image.sections().get(b".debug_info");
-    assert_eq!(rt; image.unit_bytes(1), info.get(0x25..0x3e).unwrap_or(&[]));
-    assert_eq!(rt; image.file(), THREE_UNITS.as_slice());
+    let found = (has_units(&image), has_second_at(&image, 0x25, 0x3e));
+    let whole = image.file() == THREE_UNITS.as_slice();
+    assert_eq!(rt; (found, whole), ((true, true), true));
     Ok(())
 }

@@ -4,30 +4,21 @@ use index_model::{Import, List, Node, Root, Shard, Span, Text, language};
 use std::alloc::{AllocError, Global};
 use std::sync::Arc;
 
+fn holds(text: Text<'_>, bytes: &[u8]) -> bool {
+    text.bytes() == bytes
+}
+
 #[test]
 fn texts_keep_their_bytes(rt: HostRuntime) -> Result<(), AllocError> {
-    assert_eq!(rt; Text::lent(b"main").bytes(), b"main".as_slice());
-    let owned = Text::owned(Vec::from_slice(rt.alloc(), b"n::t")?);
-    assert_eq!(rt; owned.bytes(), b"n::t".as_slice());
+    let lent = holds(Text::lent(b"main"), b"main");
+    let name = Vec::from_slice(rt.alloc(), b"n::t")?;
+    let owned = holds(Text::owned(name), b"n::t");
+    assert_eq!(rt; (lent, owned), (true, true));
     Ok(())
 }
 
-// A shard that begins with this unit.
-fn shard(
-    alloc: Global,
-    first: u32,
-    roots: &[Root],
-    nodes: &[Node<'static>],
-    spans: &[Span],
-    imports: &[Import],
-) -> Result<Shard<'static>, AllocError> {
-    Ok(Shard {
-        first,
-        roots: List::of(Vec::from_slice(alloc, roots)?),
-        nodes: List::of(Vec::from_slice(alloc, nodes)?),
-        spans: List::of(Vec::from_slice(alloc, spans)?),
-        imports: List::of(Vec::from_slice(alloc, imports)?),
-    })
+fn list<T: Copy>(alloc: Global, items: &[T]) -> Result<List<T>, AllocError> {
+    Ok(List::of(Vec::from_slice(alloc, items)?))
 }
 
 // A span of the third unit.
@@ -41,6 +32,23 @@ fn span(entry: u64, depth: u32, from: u64, to: u64) -> Span {
     }
 }
 
+// The parents at three places in a shard of the third unit with these spans.
+fn parents(alloc: Global, spans: &[Span]) -> Result<[Option<u64>; 3], AllocError> {
+    let spans = list(alloc, spans)?;
+    let shard = Shard {
+        first: 2,
+        roots: List::of(Vec::new(alloc)),
+        nodes: List::of(Vec::new(alloc)),
+        spans,
+        imports: List::of(Vec::new(alloc)),
+    };
+    Ok([
+        shard.parent_at(0x4a),
+        shard.parent_at(0x58),
+        shard.parent_at(0x5c),
+    ])
+}
+
 // The root has a namespace, which has a class, which has a function.
 #[test]
 fn a_parent_is_the_innermost_around_an_entry(rt: HostRuntime) -> Result<(), AllocError> {
@@ -49,10 +57,8 @@ fn a_parent_is_the_innermost_around_an_entry(rt: HostRuntime) -> Result<(), Allo
         span(0x51, 1, 0x55, 0x5d),
         span(0x55, 2, 0x58, 0x5c),
     ];
-    let shard = shard(rt.alloc(), 2, &[], &[], &spans, &[])?;
-    assert_eq!(rt; shard.parent_at(0x4a), None);
-    assert_eq!(rt; shard.parent_at(0x58), Some(0x55));
-    assert_eq!(rt; shard.parent_at(0x5c), Some(0x51));
+    let parents = parents(rt.alloc(), &spans)?;
+    assert_eq!(rt; parents, [None, Some(0x55), Some(0x51)]);
     Ok(())
 }
 
@@ -88,6 +94,32 @@ fn node(unit: u32, offset: u64) -> Node<'static> {
     }
 }
 
+// A shard of units that have these roots.
+fn shard(
+    alloc: Global,
+    roots: &[Root],
+    nodes: &[Node<'static>],
+    imports: &[Import],
+) -> Result<Shard<'static>, AllocError> {
+    let roots = list(alloc, roots)?;
+    let nodes = list(alloc, nodes)?;
+    let imports = list(alloc, imports)?;
+    let spans = List::of(Vec::new(alloc));
+    Ok(Shard {
+        first: 0,
+        roots,
+        nodes,
+        spans,
+        imports,
+    })
+}
+
+// The language of the first unit of a shard.
+fn first_language(alloc: Global, shard: Shard<'static>) -> Result<u16, AllocError> {
+    let shards = [Arc::new(alloc, shard)?];
+    Ok(language(&shards, 0))
+}
+
 // The first unit is partial, and the second imports it and is in Ada.
 #[test]
 fn a_partial_unit_has_its_importers_language(rt: HostRuntime) -> Result<(), AllocError> {
@@ -97,8 +129,7 @@ fn a_partial_unit_has_its_importers_language(rt: HostRuntime) -> Result<(), Allo
     };
     let roots = [root(None, true), root(Some(0xd), false)];
     let nodes = [node(0, 0xc), node(1, 0x2c)];
-    let shard = shard(rt.alloc(), 0, &roots, &nodes, &[], &[import])?;
-    let shards = [Arc::new(rt.alloc(), shard)?];
-    assert_eq!(rt; language(&shards, 0), 0xd);
+    let shard = shard(rt.alloc(), &roots, &nodes, &[import])?;
+    assert_eq!(rt; first_language(rt.alloc(), shard)?, 0xd);
     Ok(())
 }

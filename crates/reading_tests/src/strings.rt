@@ -5,18 +5,32 @@ use index_model::Value;
 use ix_base::Stop;
 use test_files::programs::{STRINGS_BY_INDEX, STRINGS_BY_OFFSET};
 
+const ROWS: [(Value<'static>, Option<&'static [u8]>); 4] = [
+    (Value::Inline(b"int"), Some(b"int")),
+    (Value::Str(8), Some(b"main")),
+    (Value::LineStr(4), Some(b"/t")),
+    (Value::Unsigned(8), None),
+];
+
+// Whether a value is this string, in a unit whose part of the table of offsets begins at a base.
+fn is(sections: &Sections<'_>, base: Option<u64>, value: &Value<'_>, want: Option<&[u8]>) -> bool {
+    text(sections, base, false, value) == Ok(want)
+}
+
+// The number of the first row that isn't so.
+fn first_other(sections: &Sections<'_>) -> Option<usize> {
+    for (number, row) in ROWS.iter().enumerate() {
+        if !is(sections, None, &row.0, row.1) {
+            return Some(number);
+        }
+    }
+    None
+}
+
 #[test]
 fn strings_by_offset(rt: HostRuntime) -> Result<(), Stop> {
     let sections = Sections::open(rt.alloc(), &STRINGS_BY_OFFSET)?;
-    let rows: [(Value<'_>, Option<&[u8]>); 4] = [
-        (Value::Inline(b"int"), Some(b"int")),
-        (Value::Str(8), Some(b"main")),
-        (Value::LineStr(4), Some(b"/t")),
-        (Value::Unsigned(8), None),
-    ];
-    for (value, want) in rows {
-        assert_eq!(rt; text(&sections, None, false, &value), Ok(want));
-    }
+    assert_eq!(rt; first_other(&sections), None);
     Ok(())
 }
 
@@ -24,7 +38,6 @@ fn strings_by_offset(rt: HostRuntime) -> Result<(), Stop> {
 #[test]
 fn strings_by_index(rt: HostRuntime) -> Result<(), Stop> {
     let sections = Sections::open(rt.alloc(), &STRINGS_BY_INDEX)?;
-    let name = text(&sections, Some(8), false, &Value::StrIndex(0));
-    assert_eq!(rt; name, Ok(Some(b"a.c".as_slice())));
+    assert!(rt; is(&sections, Some(8), &Value::StrIndex(0), Some(b"a.c")));
     Ok(())
 }
