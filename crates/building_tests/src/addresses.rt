@@ -3,35 +3,45 @@
 use address_map::{AddressMap, Range, UnitRange};
 use ix_base::NoMemory;
 
-fn range(unit: u32, low: u64, end: u64) -> UnitRange {
+// A unit, and where a range of it begins and ends.
+type Row = (u32, u64, u64);
+
+// A unit in front hides the middle of one behind it, and touching pieces of one unit are one.
+const RANGES: [Row; 6] = [
+    (3, 40, 50),
+    (4, 10, 90),
+    (5, 0, 30),
+    (5, 90, 95),
+    (5, 95, 99),
+    (6, 20, 20),
+];
+
+const PIECES: [Row; 5] = [
+    (5, 0, 10),
+    (4, 10, 40),
+    (3, 40, 50),
+    (4, 50, 90),
+    (5, 90, 99),
+];
+
+fn range(row: Row) -> UnitRange {
+    let (unit, low, end) = row;
     UnitRange {
         unit,
         range: Range { low, end },
     }
 }
 
-// A unit in front hides the middle of one behind it, and touching pieces of one unit are one.
+fn has_pieces(map: &AddressMap) -> bool {
+    let pieces = PIECES.map(|row| range(row));
+    map.pieces() == pieces.as_slice()
+}
+
 #[test]
 fn pieces_are_cut_and_joined(rt: HostRuntime) -> Result<(), NoMemory> {
-    let ranges = [
-        range(3, 40, 50),
-        range(4, 10, 90),
-        range(5, 0, 30),
-        range(5, 90, 95),
-        range(5, 95, 99),
-        range(6, 20, 20),
-    ];
-    let map = AddressMap::build(rt.alloc(), &ranges)?;
-    let pieces = [
-        range(5, 0, 10),
-        range(4, 10, 40),
-        range(3, 40, 50),
-        range(4, 50, 90),
-        range(5, 90, 99),
-    ];
-    assert_eq!(rt; map.pieces(), pieces.as_slice());
-    for (address, unit) in [(0, Some(5)), (49, Some(3)), (50, Some(4)), (99, None)] {
-        assert_eq!(rt; map.unit_at(address), unit, "at {address}");
-    }
+    let map = AddressMap::build(rt.alloc(), &RANGES.map(|row| range(row)))?;
+    let units = [0, 49, 50, 99].map(|address| map.unit_at(address));
+    let wanted = [Some(5), Some(3), Some(4), None];
+    assert_eq!(rt; (has_pieces(&map), units), (true, wanted));
     Ok(())
 }

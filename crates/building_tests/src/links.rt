@@ -3,51 +3,74 @@
 use crate::whole::scanned;
 use file_image::Image;
 use index_model::LinkedEntry;
-use parent_resolve::{Followed, References, link};
+use parent_resolve::{References, link};
 use std::alloc::Global;
 use std::test::Fail;
 use test_files::programs::THREE_UNITS;
 
-fn entry(offset: u64, external: bool, name: &[u8], length: u32) -> LinkedEntry<'_> {
-    LinkedEntry {
-        offset,
-        external,
-        name: Some(name),
-        linkage: None,
-        length,
-    }
-}
+// Offset, whether it is external, name, linkage name and length of the whole name.
+type Row = (u64, bool, Option<&'static [u8]>, Option<&'static [u8]>, u32);
 
 // `ns::C::f`, `ns` and `ns::C`.
+const ENTRIES: [Row; 3] = [
+    (0x13, true, Some(b"f"), None, 8),
+    (0x51, false, Some(b"ns"), None, 2),
+    (0x55, false, Some(b"C"), None, 5),
+];
+
+fn is(entry: &LinkedEntry<'_>, row: &Row) -> bool {
+    let names = (entry.name, entry.linkage);
+    (entry.offset, entry.external, names.0, names.1, entry.length) == *row
+}
+
+// Whether the entries are the rows.
+fn are(entries: &[LinkedEntry<'_>], rows: &[Row]) -> bool {
+    let mut same = entries.len() == rows.len();
+    for (entry, row) in entries.iter().zip(rows) {
+        same = same && is(entry, row);
+    }
+    same
+}
+
+fn linked(alloc: Global, image: &Image<'_>) -> Result<bool, Fail> {
+    let shards = scanned(alloc, image)?;
+    let linked = link(alloc, image, &shards, 0)?;
+    Ok(are(linked.entries.as_slice(), &ENTRIES))
+}
+
 #[test]
 fn entries_with_their_names(rt: HostRuntime) -> Result<(), Fail> {
     let image = Image::open(rt.alloc(), &THREE_UNITS)?;
-    let shards = scanned(rt.alloc(), &image)?;
-    let linked = link(rt.alloc(), &image, &shards, 0)?;
-    let entries = [
-        entry(0x13, true, b"f", 8),
-        entry(0x51, false, b"ns", 2),
-        entry(0x55, false, b"C", 5),
-    ];
-    assert_eq!(rt; linked.entries.as_slice(), entries.as_slice());
+    assert!(rt; linked(rt.alloc(), &image)?);
     Ok(())
 }
 
-// The references of the entry at an offset, followed.
-fn followed<'f>(alloc: Global, image: &Image<'f>, offset: u64) -> Result<Followed<'f>, Fail> {
+// The offset at which the chain of an entry's references ends, and whether it gives the entry this name and makes it external.
+fn end(
+    references: &mut References<'_, '_>,
+    alloc: Global,
+    name: &[u8],
+) -> Option<(u64, bool, bool)> {
+    let node = match references.at(alloc, 0x13) {
+        Ok(Some(node)) => node,
+        _ => return None,
+    };
+    match references.follow(alloc, &node, 0x13) {
+        Ok(end) => Some((end.end.offset, end.spelled == Some(name), end.external)),
+        Err(_) => None,
+    }
+}
+
+fn followed(alloc: Global, image: &Image<'_>) -> Result<Option<(u64, bool, bool)>, Fail> {
     let shards = scanned(alloc, image)?;
     let mut references = References::new(alloc, image, &shards)?;
-    match references.at(alloc, offset)? {
-        Some(node) => Ok(references.follow(alloc, &node, offset)?),
-        None => Err("no entry".into()),
-    }
+    Ok(end(&mut references, alloc, b"f"))
 }
 
 #[test]
 fn a_chain_over_three_units(rt: HostRuntime) -> Result<(), Fail> {
     let image = Image::open(rt.alloc(), &THREE_UNITS)?;
-    let followed = followed(rt.alloc(), &image, 0x13)?;
-    let got = (followed.end.offset, followed.spelled, followed.external);
-    assert_eq!(rt; got, (0x58, Some(b"f".as_slice()), true));
+    let end = followed(rt.alloc(), &image)?;
+    assert_eq!(rt; end, Some((0x58, true, true)));
     Ok(())
 }

@@ -15,6 +15,11 @@ fn ranges_of(alloc: Global, image: &Image<'_>) -> Result<Vec<Range>, Fail> {
     Ok(unit_ranges(alloc, image, &shards, &links, 0)?)
 }
 
+fn has_ranges(alloc: Global, image: &Image<'_>, want: &[Range]) -> Result<bool, Fail> {
+    let ranges = ranges_of(alloc, image)?;
+    Ok(ranges.as_slice() == want)
+}
+
 fn range(low: u64, end: u64) -> Range {
     Range { low, end }
 }
@@ -23,14 +28,13 @@ fn range(low: u64, end: u64) -> Range {
 fn ranges_of_a_root(rt: HostRuntime) -> Result<(), Fail> {
     let image = Image::open(rt.alloc(), &TWO_RANGES)?;
     let want = [range(0x1010, 0x1020), range(0x1000, 0x1008)];
-    assert_eq!(rt; ranges_of(rt.alloc(), &image)?.as_slice(), want.as_slice());
+    assert!(rt; has_ranges(rt.alloc(), &image, &want)?);
     Ok(())
 }
 
 #[test]
 fn ranges_of_a_subprogram(rt: HostRuntime) -> Result<(), Fail> {
     let image = Image::open(rt.alloc(), &THREE_UNITS)?;
-    let want = [range(0x2000, 0x2010)];
-    assert_eq!(rt; ranges_of(rt.alloc(), &image)?.as_slice(), want.as_slice());
+    assert!(rt; has_ranges(rt.alloc(), &image, &[range(0x2000, 0x2010)])?);
     Ok(())
 }

@@ -9,6 +9,7 @@ use std::alloc::{AllocError, Global};
 use std::marker::Brand;
 use std::sync::ledger::{Blank, Ledger};
 use std::test::Fail;
+use std::thread::Threads;
 
 // A function of this name, whose last byte is its simple name.
 fn function(name: &'static [u8]) -> Entry<'static>
@@ -26,13 +27,15 @@ fn function(name: &'static [u8]) -> Entry<'static>
     }
 }
 
-// So many entries, whose names are these in turn.
-fn run(alloc: Global, names: &[&'static [u8]; 3], count: usize) -> Result<Run<'static>, AllocError>
+const NAMES: [&[u8]; 3] = [b"ns::f", b"main", b"_f"];
+
+// So many entries, whose names are those in turn.
+fn run(alloc: Global, count: usize) -> Result<Run<'static>, AllocError>
     ensures { IfOk result (λ run. TailsFit run × (length run ≡ count)) }
 {
     let mut entries = Vec::with_capacity(alloc, count)?;
     for step in 0..count {
-        entries.push(function(names[step % 3]))?;
+        entries.push(function(NAMES[step % 3]))?;
     }
     Ok(List::of(entries))
 }
@@ -48,17 +51,23 @@ fn found<L: Ledger>(table: &Table<'_>, name: &[u8], simple: &[u8], blank: Blank)
     (named, table.by_simple(simple, &mut steps).len())
 }
 
+// A table of two runs, in which each name stands 20,000 times.
+fn merged<R: Threads + Sync>(rt: &R, alloc: Global) -> Result<Table<'static>, Fail> {
+    let mut runs = Vec::new(alloc);
+    runs.push(run(alloc, 30_000)?)?;
+    runs.push(run(alloc, 30_000)?)?;
+    Table::merge(rt, alloc, runs).map_err(|_| "memory".into())
+}
+
+// How many entries and how many names the table has.
+fn sizes(table: &Table<'_>) -> (usize, u64) {
+    (table.entries().len(), table.distinct())
+}
+
 #[test]
 fn many_entries_of_three_names(rt: HostRuntime) -> Result<(), Fail> {
-    let alloc = rt.alloc();
-    let mut runs = Vec::new(alloc);
-    let names: [&[u8]; 3] = [b"ns::f", b"main", b"_f"];
-    runs.push(run(alloc, &names, 30_000)?)?;
-    runs.push(run(alloc, &names, 30_000)?)?;
-    let table = Table::merge(&rt, alloc, runs).map_err(|_| "memory")?;
-    assert_eq!(rt; table.entries().len(), 60_000);
-    assert_eq!(rt; table.distinct(), 3);
+    let table = merged(&rt, rt.alloc())?;
     let counts = found::<Brand>(&table, b"main", b"f", Blank::new(1));
-    assert_eq!(rt; counts, (20_000, 40_000));
+    assert_eq!(rt; (sizes(&table), counts), ((60_000, 3), (20_000, 40_000)));
     Ok(())
 }
