@@ -5,39 +5,51 @@ use gdbindex_read::GdbIndex;
 use std::test::Fail;
 use test_files::indexes::{GDB8, GDB9, NAMES};
 
+// The only element of a name.
+fn only(index: &GdbIndex<'_>, name: &[u8]) -> Option<u32> {
+    let found = index.find(name);
+    if found.len() == 1 {
+        return Some(found.get(0));
+    }
+    None
+}
+
+// The element of `main`, how many a part of that name has, and the units at the last address of the program and behind it.
+fn looked_up(index: &GdbIndex<'_>) -> (Option<u32>, usize, [Option<u32>; 2]) {
+    let units = [index.unit_at(0x101f), index.unit_at(0x1020)];
+    (only(index, b"main"), index.find(b"mai").len(), units)
+}
+
 #[test]
 fn a_gdb_index_of_each_version(rt: HostRuntime) -> Result<(), Fail> {
-    for (bytes, main) in [
-        (GDB8.as_slice(), None),
-        (GDB9.as_slice(), Some((0xc, b"main".as_slice()))),
-    ] {
-        let index = GdbIndex::open(bytes).map_err(|_| "refused")?;
-        let found = index.find(b"main");
-        assert!(rt; found.len() == 1);
-        // a function of unit 0
-        assert_eq!(rt; found.get(0), 0x3000_0000);
-        assert_eq!(rt; index.find(b"mai").len(), 0);
-        assert_eq!(rt; index.unit_at(0x101f), Some(0));
-        assert_eq!(rt; index.unit_at(0x1020), None);
-        let told = index.main_name().map(|main| (main.language, main.name));
-        assert_eq!(rt; told, main);
-    }
+    let eight = GdbIndex::open(&GDB8).map_err(|_| "refused")?;
+    let nine = GdbIndex::open(&GDB9).map_err(|_| "refused")?;
+    // a function of unit 0
+    let wanted = (Some(0x3000_0000), 0, [Some(0), None]);
+    assert_eq!(rt; [looked_up(&eight), looked_up(&nine)], [wanted, wanted]);
+    let mains = [eight, nine].map(|index| index.main_name().map(|main| (main.language, main.name)));
+    assert_eq!(rt; mains, [None, Some((0xc, b"main".as_slice()))]);
     Ok(())
+}
+
+const MAIN: NameHit = NameHit {
+    sort: Sort::Compile,
+    unit: 0,
+    tag: 0x2e,
+    offset: 0x1e,
+};
+
+// The first two hits of a name.
+fn hits(index: &NameIndex<'_>, name: &[u8]) -> [Option<NameHit>; 2] {
+    let mut hits = index.find(name);
+    [hits.next(), hits.next()]
 }
 
 #[test]
 fn an_index_of_names(rt: HostRuntime) -> Result<(), Fail> {
     let index = NameIndex::open(rt.alloc(), &NAMES, b"main\0", 0).map_err(|_| "refused")?;
-    let hit = NameHit {
-        sort: Sort::Compile,
-        unit: 0,
-        tag: 0x2e,
-        offset: 0x1e,
-    };
-    let mut hits = index.find(b"main");
-    assert_eq!(rt; hits.next(), Some(hit));
-    assert_eq!(rt; hits.next(), None);
-    assert_eq!(rt; index.find(b"mai").next(), None);
+    let found = [hits(&index, b"main"), hits(&index, b"mai")];
+    assert_eq!(rt; found, [[Some(MAIN), None], [None, None]]);
     Ok(())
 }
 
@@ -48,20 +60,21 @@ const SHARED: &[u8; 76] =
       \0\0\0\0\0\0\0\0\x02\0\0\0\x04\0\0\0\0\0\0\0\x02\0\0\0\0\0\0\0\
       \x01\x2e\x03\x0b\0\0\0\x01\x10\x01\x20\0";
 
+// The offsets of the first three hits of a name.
+fn offsets(index: &NameIndex<'_>, name: &[u8]) -> [Option<u64>; 3] {
+    let mut hits = index.find(name);
+    [hits.next(), hits.next(), hits.next()].map(|hit| hit.map(|hit| hit.offset))
+}
+
 #[test]
 fn names_that_share_entries(rt: HostRuntime) -> Result<(), Fail> {
     let index = NameIndex::open(rt.alloc(), SHARED, b"a\0b\0c\0", 0).map_err(|_| "refused")?;
-    let names: [(&[u8], &[u64]); 3] = [
-        (b"a", &[0x10, 0x20]),
-        (b"b", &[0x20]),
-        (b"c", &[0x10, 0x20]),
+    let found = [
+        offsets(&index, b"a"),
+        offsets(&index, b"b"),
+        offsets(&index, b"c"),
     ];
-    for (name, offsets) in names {
-        let mut hits = index.find(name);
-        for offset in offsets {
-            assert_eq!(rt; hits.next().map(|hit| hit.offset), Some(*offset));
-        }
-        assert_eq!(rt; hits.next(), None);
-    }
+    let both = [Some(0x10), Some(0x20), None];
+    assert_eq!(rt; found, [both, [Some(0x20), None, None], both]);
     Ok(())
 }

@@ -93,30 +93,45 @@ fn is_too_large(alloc: Global, table: &Table<'_>) -> Result<bool, Fail> {
     Ok(matches!(written, Err(gdbindex_write::WriteStop::TooLarge)))
 }
 
-#[test]
-fn names_of_too_many_bytes(rt: HostRuntime) -> Result<(), Fail> {
-    let alloc = rt.alloc();
+// All numbers of 16 bits, again and again.
+fn text(alloc: Global) -> Result<Vec<u8>, AllocError> {
     let mut text = Vec::with_capacity(alloc, 16_777_216)?;
     for i in 0..8_388_608u32 {
         let number = i % 65_536;
         text.push((number / 256) as u8)?;
         text.push((number % 256) as u8)?;
     }
-    let table = table_of(&rt, alloc, &text)?;
-    assert!(rt; is_too_large(alloc, &table)?);
+    Ok(text)
+}
+
+#[test]
+fn names_of_too_many_bytes(rt: HostRuntime) -> Result<(), Fail> {
+    let text = text(rt.alloc())?;
+    let table = table_of(&rt, rt.alloc(), &text)?;
+    let too_large = is_too_large(rt.alloc(), &table)?;
+    assert!(rt; too_large);
     Ok(())
+}
+
+// How the names of the table are written behind so many bytes of strings: whether they are, and whether they are too large.
+fn written_behind(alloc: Global, table: &Table<'_>, bytes: u64) -> Option<(bool, bool)> {
+    let units = [UNIT];
+    if !are_inside(&units, table.entries()) {
+        return None;
+    }
+    match write_names(alloc, &units, bytes, table) {
+        Ok(_) => Some((true, false)),
+        Err(debugnames_write::WriteStop::TooLarge) => Some((false, true)),
+        Err(_) => Some((false, false)),
+    }
 }
 
 // `main` and its zero are added behind the strings that are there, of which `.debug_str` holds 4,294,967,295 bytes at most.
 #[test]
 fn strings_beyond_the_limit(rt: HostRuntime) -> Result<(), Fail> {
-    let alloc = rt.alloc();
-    let table = table(&rt, alloc)?;
-    let units = [UNIT];
-    assert!(rt; are_inside(&units, table.entries()));
-    let fits = write_names(alloc, &units, 4_294_967_290, &table);
-    assert!(rt; fits.is_ok());
-    let beyond = write_names(alloc, &units, 4_294_967_291, &table);
-    assert!(rt; matches!(beyond, Err(debugnames_write::WriteStop::TooLarge)));
+    let table = table(&rt, rt.alloc())?;
+    let fits = written_behind(rt.alloc(), &table, 4_294_967_290);
+    let beyond = written_behind(rt.alloc(), &table, 4_294_967_291);
+    assert_eq!(rt; (fits, beyond), (Some((true, false)), Some((false, true))));
     Ok(())
 }
