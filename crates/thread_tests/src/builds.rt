@@ -1,13 +1,14 @@
 //! index_pool: builds by several workers, also at gates, which hold jobs until others have come.
 
-ghost use Rattle.std.specs.Prelude.{◌<◌, ◌≤◌, length};
+ghost use Rattle.std.specs.Prelude.{◌≡◌, ◌<◌, ◌≤◌, length};
 ghost use Rattle.ix_base.specs.declared.limits.TheConstants.{MAX_FILE_BYTES};
+ghost use Rattle.stage_lock.specs.Seen.{IsPassOf, parted_pass};
 
 use crate::gates::{begin, each_other};
-use index_board::Board;
+use index_board::{Board, Pass};
 use index_model::{Answer, CacheKind, Job, Look, Moment, Query, Reply};
 use index_pool::{Ended, build};
-use ix_base::Fault;
+use ix_base::{Fault, NoMemory};
 use outside::{GateEvent, Hold, TestGate};
 use std::alloc::Global;
 use std::sync::Wait;
@@ -15,26 +16,33 @@ use std::test::Fail;
 use std::thread::Threads;
 use test_files::programs::{PLAIN, THREE_UNITS, TWO_DAMAGED_UNITS};
 
-/// What a reader replied, without what it borrows.
-#[derive(Clone, Copy, Debug, PartialEq, Eq)]
-enum Said {
-    /// The joint offset of the only entry.
-    Entry(u64),
-    Refused(Fault),
-    Other,
-}
+/// The joint offset of the only entry that was answered, or the fault for which there is no answer.
+type Said = Result<u64, Option<Fault>>;
 
 fn said_of(reply: &Reply<'_>) -> Said {
     match reply {
-        Reply::Refused(fault) => Said::Refused(*fault),
+        Reply::Refused(fault) => Err(Some(*fault)),
         Reply::Answer(Answer::Entries(hits)) => match hits.places {
             [place] => hits
                 .entries
                 .get(*place as usize)
-                .map_or(Said::Other, |entry| Said::Entry(entry.offset)),
-            _ => Said::Other,
+                .map(|entry| entry.offset)
+                .ok_or(None),
+            _ => Err(None),
         },
-        _ => Said::Other,
+        _ => Err(None),
+    }
+}
+
+// The mark at which a name is asked, and what is replied.
+fn asked<'f, R: Wait>(rt: &R, board: &Board<'f>, pass: &mut Pass<'f>, name: &[u8]) -> (u8, Said)
+    requires { IsPassOf board.now pass.old }
+    ensures { pass.new ≡ parted_pass pass.old }
+{
+    let mut reader = board.reader(pass);
+    match reader.query(rt, &Query::Name(name)) {
+        Ok(Look { stage, reply }) => (stage, said_of(&reply)),
+        Err(_) => (0, Err(None)),
     }
 }
 
@@ -47,22 +55,18 @@ fn built<R: Threads + Wait + Sync>(
     workers: u32,
     gate: &TestGate,
     name: &[u8],
-) -> Result<(Ended, u8, Said), Fail>
+) -> Result<(Ended, (u8, Said)), NoMemory>
     requires small { length file.now ≤ MAX_FILE_BYTES }
     requires shards { 0 < shards }
     requires few_shards { shards ≤ 256 }
     requires workers { 0 < workers }
     requires few_workers { workers ≤ 64 }
 {
-    let (board, mut pass) = Board::open(alloc, file, CacheKind::Gdb8, shards).map_err(
-        |_| "memory",
-    )?;
+    let (board, mut pass) = Board::open(alloc, file, CacheKind::Gdb8, shards)?;
     let ended = build(rt, alloc, &board, &mut pass, workers, gate);
-    let mut reader = board.reader(&mut pass);
-    match reader.query(rt, &Query::Name(name)) {
-        Ok(Look { stage, reply }) => Ok((ended, stage, said_of(&reply))),
-        Err(_) => Err("memory".into()),
-    }
+    let asked = asked(rt, &board, &mut pass, name);
+    board.close(pass);
+    Ok((ended, asked))
 }
 
 #[test]
@@ -70,11 +74,7 @@ fn one_two_and_eight_workers_build_the_same(rt: HostRuntime) -> Result<(), Fail>
     let gate = TestGate::new(rt.alloc(), &[])?;
     for workers in [1, 2, 8] {
         let got = built(&rt, rt.alloc(), &PLAIN, 4, workers, &gate, b"main")?;
-        assert_eq!(rt;
-            got,
-            (Ended::Done, 3, Said::Entry(0x1e)),
-            "{workers} workers"
-        );
+        assert_eq!(rt; got, (Ended::Done, (3, Ok(0x1e))), "{workers} workers");
     }
     Ok(())
 }
@@ -85,8 +85,8 @@ fn two_scans_each_wait_until_the_other_has_begun(rt: HostRuntime) -> Result<(), 
     let holds = each_other(begin(Job::Scan(0)), begin(Job::Scan(1)));
     let gate = TestGate::new(rt.alloc(), &holds)?;
     let got = built(&rt, rt.alloc(), &THREE_UNITS, 2, 2, &gate, b"ns::C::f")?;
-    assert_eq!(rt; got, (Ended::Done, 3, Said::Entry(0x13)));
-    assert!(rt; gate.all_met());
+    let wanted = (Ended::Done, (3, Ok(0x13)));
+    assert_eq!(rt; (got, gate.all_met()), (wanted, true));
     Ok(())
 }
 
@@ -99,7 +99,7 @@ fn the_earlier_fault_counts_though_it_is_found_later(rt: HostRuntime) -> Result<
     let gate = TestGate::new(rt.alloc(), &holds)?;
     let got = built(&rt, rt.alloc(), &TWO_DAMAGED_UNITS, 10, 8, &gate, b"main")?;
     let fault = Fault { code: 11, at: 0x60 };
-    assert_eq!(rt; got, (Ended::Refused, 4, Said::Refused(fault)));
-    assert!(rt; gate.all_met());
+    let wanted = (Ended::Refused, (4, Err(Some(fault))));
+    assert_eq!(rt; (got, gate.all_met()), (wanted, true));
     Ok(())
 }

@@ -2,6 +2,7 @@
 
 use index_model::{Job, Moment};
 use outside::{Gate, GateEvent, Hold, TestGate};
+use std::sync::Wait;
 use std::test::Fail;
 use std::thread::join;
 
@@ -37,6 +38,21 @@ fn two_threads_hold_each_other_until_both_have_come(rt: HostRuntime) -> Result<(
     Ok(())
 }
 
+// Another moment, another reader and another line.
+fn meets_others<R: Wait>(rt: &R, gate: &TestGate) -> bool {
+    gate.arrive(rt, Job::Main, Moment::End);
+    gate.asked(rt, 2, 2, 0);
+    gate.asked(rt, 1, 1, 0);
+    gate.arrive(rt, Job::Main, Moment::Begin);
+    gate.all_met()
+}
+
+fn meets_the_event<R: Wait>(rt: &R, gate: &TestGate) -> bool {
+    gate.asked(rt, 1, 2, 0);
+    gate.arrive(rt, Job::Main, Moment::Begin);
+    gate.all_met()
+}
+
 #[test]
 fn a_hold_whose_event_does_not_come_gives_up(rt: HostRuntime) -> Result<(), Fail> {
     let holds = [Hold {
@@ -44,14 +60,7 @@ fn a_hold_whose_event_does_not_come_gives_up(rt: HostRuntime) -> Result<(), Fail
         until: GateEvent::Asked { reader: 1, line: 2 },
     }];
     let gate = TestGate::with_looks(rt.alloc(), &holds, 3)?;
-    // Another moment, another reader and another line.
-    gate.arrive(&rt, Job::Main, Moment::End);
-    gate.asked(&rt, 2, 2, 0);
-    gate.asked(&rt, 1, 1, 0);
-    gate.arrive(&rt, Job::Main, Moment::Begin);
-    assert!(rt; !gate.all_met());
-    gate.asked(&rt, 1, 2, 0);
-    gate.arrive(&rt, Job::Main, Moment::Begin);
-    assert!(rt; gate.all_met());
+    let (others, the_event) = (meets_others(&rt, &gate), meets_the_event(&rt, &gate));
+    assert_eq!(rt; (others, the_event), (false, true));
     Ok(())
 }

@@ -5,9 +5,10 @@ ghost use Rattle.index_model.specs.Stages.{IsReachable};
 ghost use Rattle.stage_lock.specs.Seen.{IsPassOf, parted_pass};
 
 use index_model::Staged;
+use ix_base::NoMemory;
 use stage_lock::{Pass, StageLock};
+use std::alloc::Global;
 use std::sync::Wait;
-use std::test::Fail;
 use std::thread::{Threads, join, yield_now};
 
 // A build of the file with this number. Its stage rises with its turns.
@@ -135,22 +136,42 @@ fn all_at_once<R: Threads + Wait + Sync>(
     rising
 }
 
-#[test]
-fn turns_add_up_and_marks_never_fall(rt: HostRuntime) -> Result<(), Fail> {
+fn rises<R: Threads + Wait + Sync>(rt: &R, lock: &StageLock<Build>, pass: &mut Pass<Build>) -> bool
+    requires own { IsPassOf lock.now pass.old }
+    requires idle { pass.old.holding ≡ false }
+    ensures own { IsPassOf lock.now pass.new }
+    ensures idle { pass.new.holding ≡ false }
+{
+    let first = split_worker(lock, pass);
+    let second = split_worker(lock, pass);
+    let third = split_worker(lock, pass);
+    all_at_once(rt, first, second, third)
+}
+
+// The file, the stage and the turns at the end.
+fn end(build: Option<Build>) -> Option<(u32, u8, u32)> {
+    build.map(|build| (build.file, build.stage, build.turns))
+}
+
+// Whether no mark fell, and the build at the end.
+fn counted<R: Threads + Wait + Sync>(
+    rt: &R,
+    alloc: Global,
+) -> Result<(bool, Option<(u32, u8, u32)>), NoMemory> {
     let build = Build {
         file: 7,
         stage: 0,
         turns: 0,
     };
-    let (lock, mut pass) = StageLock::new(rt.alloc(), build).map_err(|_| "memory")?;
-    let first = split_worker(&lock, &mut pass);
-    let second = split_worker(&lock, &mut pass);
-    let third = split_worker(&lock, &mut pass);
-    assert!(rt; all_at_once(&rt, first, second, third));
-    let Some(build) = lock.close(pass) else {
-        return Err("the value is gone".into());
-    };
-    assert_eq!(rt; (build.file, build.stage, build.turns), (7, 3, 10_000));
+    let (lock, mut pass) = StageLock::new(alloc, build)?;
+    let rising = rises(rt, &lock, &mut pass);
+    Ok((rising, end(lock.close(pass))))
+}
+
+#[test]
+fn turns_add_up_and_marks_never_fall(rt: HostRuntime) -> Result<(), NoMemory> {
+    let counted = counted(&rt, rt.alloc())?;
+    assert_eq!(rt; counted, (true, Some((7, 3, 10_000))));
     Ok(())
 }
 
@@ -174,15 +195,19 @@ fn marks_around<R: Wait>(
     (before, within, lock.mark(pass))
 }
 
-#[test]
-fn a_stage_is_published_by_leave(rt: HostRuntime) -> Result<(), Fail> {
+fn marks<R: Wait>(rt: &R, alloc: Global) -> Result<(u8, u8, u8), NoMemory> {
     let build = Build {
         file: 7,
         stage: 0,
         turns: 2_499,
     };
-    let (lock, mut pass) = StageLock::new(rt.alloc(), build).map_err(|_| "memory")?;
+    let (lock, mut pass) = StageLock::new(alloc, build)?;
     let other = lock.split(&mut pass);
-    assert_eq!(rt; marks_around(&rt, &lock, &mut pass, other), (0, 0, 1));
+    Ok(marks_around(rt, &lock, &mut pass, other))
+}
+
+#[test]
+fn a_stage_is_published_by_leave(rt: HostRuntime) -> Result<(), NoMemory> {
+    assert_eq!(rt; marks(&rt, rt.alloc())?, (0, 0, 1));
     Ok(())
 }
