@@ -12,7 +12,7 @@ use Rattle.index_model.specs.Answers.{Refused as Refuses, entries_in}
 use Rattle.index_model.specs.Cache.{Cache, GdbBytes, NameBytes, DoesNotFit, cache_of, cache_in}
 use Rattle.index_model.specs.Faults.{Built, built_of, program_of, links_of, all_ranges, first_fault}
 use Rattle.index_model.specs.MainProgram.{main_of}
-use Rattle.index_model.specs.Outputs.{Subject, Summary, Makes, SummaryOf, TableOf, CacheOf}
+use Rattle.index_model.specs.Outputs.{Summary, Makes, SummaryOf, TableOf, CacheOf}
 use Rattle.index_model.specs.Parts.{Parts}
 use Rattle.index_model.specs.Pieces.{IsPieces}
 use Rattle.index_model.proofs.Meanings.{bind_ok, same_ok}

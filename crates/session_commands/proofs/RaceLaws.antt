@@ -5,7 +5,6 @@ use Rattle.std.specs.List.{list_any}
 use Rattle.std.proofs.lemmas.List.{length-replicate}
 use Rattle.std.proofs.lemmas.List.Elements.{All-nil, All-cons, All-replicate, All-weaker}
 use Rattle.std.proofs.lemmas.List.Folds.{Any-from_list_any, list_any_at}
-use Rattle.outside.specs.Counts.{Rose}
 use Rattle.outside.specs.Written.{Appends}
 use Rattle.outside.proofs.WrittenLaws.{appends_none, appends-prefix}
 use Rattle.index_model.specs.Outputs.{Subject}
@@ -33,7 +32,7 @@ use Rattle.session_commands.specs.Sessions.{AreDigits}
 use Rattle.session_commands.specs.declared.runner.Round.TheVariants.{During, After}
 use Rattle.session_commands.specs.declared.runner.Runner.{Runner}
 use Rattle.command_base.specs.declared.status.Status.{Status}
-use Rattle.command_base.specs.declared.status.Status.TheVariants.{Answered, Refused, Usage, ReadFault, StoreFault, WriteFault, InputFault, NoMemory, IndexRefused, IndexTooLarge, FileTooBig, InputTooLong, Stopped}
+use Rattle.command_base.specs.declared.status.Status.TheVariants.{Answered, Refused, InputTooLong, Stopped}
 use Rattle.session_commands.proofs.SessionTexts.{in_range, transcript_is}
 
 -- ---- marks of both sessions

@@ -1,4 +1,4 @@
-use Rattle.std.proofs.Common.{ap, sym, subst, ◌∙◌, refl}
+use Rattle.std.proofs.Common.{ap, sym, subst, refl}
 use Rattle.index_model.specs.Stages.{initial, IsReachable}
 use Rattle.session_commands.proofs.ListenLaws.{wrote_behind}
 use Rattle.session_commands.proofs.serve.serve_board.Goals as goal
