@@ -61,7 +61,8 @@ def look(top, told, seen):
         parent, spent, begun = numbers[number]
         # a number is given to another process once its own has ended
         key, over = (number, begun), (parent, numbers[parent][2] if parent in numbers else 0)
-        if key not in told:
+        # a process is looked at again until it works for a part: one that was just made still has the words of its maker
+        if not told.get(key):
             words = read("/proc/%d/cmdline" % number).decode(errors="replace").split("\0")
             try:
                 folder = os.readlink("/proc/%d/cwd" % number)
