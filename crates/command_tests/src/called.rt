@@ -3,7 +3,8 @@
 use index_cmd::run;
 use index_model::{Job, Moment};
 use outside::{GateEvent, Hold, MemShelf, MemSink, MemSource, TestGate};
-use std::alloc::Global;
+use std::alloc::{AllocError, Global};
+use std::process::Abort;
 use std::sync::Wait;
 use std::test::Fail;
 use std::thread::Threads;
@@ -42,38 +43,65 @@ impl Outside {
         words: &[&str],
         holds: &[Hold],
     ) -> Result<u8, Fail> {
-        let mut line = Vec::new(alloc);
-        for word in words {
-            line.push(String::from_str(alloc, word)?)?;
-        }
+        let line = line_of(alloc, words)?;
         let gate = TestGate::new(alloc, holds)?;
-        let Outside { shelf, input, out } = self;
-        let status = run(rt, alloc, &line, shelf, input, out, &gate);
+        let status = self.run_at(rt, alloc, &line, &gate);
         if !gate.all_met() {
             return Err(Fail::from("a hold gave up"));
         }
         Ok(status)
     }
 
-    /// What was written.
-    pub(crate) fn text(&self, alloc: Global) -> Result<String, Fail> {
-        Ok(String::from_utf8_lossy(alloc, self.out.bytes())?)
+    fn run_at<R: Threads + Wait + Sync>(
+        &mut self,
+        rt: &R,
+        alloc: Global,
+        line: &[String],
+        gate: &TestGate,
+    ) -> u8 {
+        let Outside { shelf, input, out } = self;
+        run(rt, alloc, line, shelf, input, out, gate)
+    }
+
+    /// Whether this is all that was written.
+    pub(crate) fn has_written(&self, text: &[u8]) -> bool {
+        self.out.bytes() == text
     }
 }
 
-/// The status of the words and what was written, of a program, a script and an input, where each hold has to be met.
-pub(crate) fn told<R: Threads + Wait + Sync>(
+fn line_of(alloc: Global, words: &[&str]) -> Result<Vec<String>, AllocError> {
+    let mut line = Vec::new(alloc);
+    for word in words {
+        line.push(String::from_str(alloc, word)?)?;
+    }
+    Ok(line)
+}
+
+// Asserts a status and a text.
+fn assert_are<R: Abort>(
+    rt: &R,
+    alloc: Global,
+    got: (u8, &[u8]),
+    want: (u8, &str),
+) -> Result<(), Fail> {
+    let text = String::from_utf8_lossy(alloc, got.1)?;
+    assert_eq!(rt; (got.0, text.as_str()), want);
+    Ok(())
+}
+
+/// Asserts the status of the words and what was written, of a program, a script and an input, where each hold has to be met.
+pub(crate) fn assert_tells<R: Abort + Threads + Wait + Sync>(
     rt: &R,
     alloc: Global,
     files: [&[u8]; 2],
     input: &[u8],
     words: &[&str],
     holds: &[Hold],
-) -> Result<(u8, String), Fail> {
-    let [program, script] = files;
-    let mut outside = Outside::new(alloc, program, script, input)?;
+    want: (u8, &str),
+) -> Result<(), Fail> {
+    let mut outside = Outside::new(alloc, files[0], files[1], input)?;
     let status = outside.run(rt, alloc, words, holds)?;
-    Ok((status, outside.text(alloc)?))
+    assert_are(rt, alloc, (status, outside.out.bytes()), want)
 }
 
 /// A job begins only once something has come.

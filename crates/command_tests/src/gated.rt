@@ -1,6 +1,6 @@
 //! index_cmd: commands whose jobs and readers are held until others have come.
 
-use crate::called::{asked, begins_after, goes_on_after, told};
+use crate::called::{asked, assert_tells, begins_after, goes_on_after};
 use index_model::{Job, Moment};
 use outside::GateEvent;
 use std::test::Fail;
@@ -23,8 +23,15 @@ fn commands_scan_on_two_threads(rt: HostRuntime) -> Result<(), Fail> {
         (&["drill", "7", "2000", "8"], OF_2000_UNITS),
     ];
     for (words, text) in rows {
-        let got = told(&rt, rt.alloc(), [&PLAIN, b""], b"", words, &holds)?;
-        assert_eq!(rt; (got.0, got.1.as_str()), (0, text));
+        assert_tells(
+            &rt,
+            rt.alloc(),
+            [&PLAIN, b""],
+            b"",
+            words,
+            &holds,
+            (0, text),
+        )?;
     }
     Ok(())
 }
@@ -36,11 +43,10 @@ fn two_readers_ask_before_main_begins(rt: HostRuntime) -> Result<(), Fail> {
         begins_after(Job::Main, asked(1, 1)),
     ];
     let words = ["race", "--readers", "2", "X", "T"];
-    let got = told(&rt, rt.alloc(), [&PLAIN, b"main\n"], b"", &words, &holds)?;
     let text =
         "during 0\n0 pending\nduring 1\n0 pending\nafter 0\n3 main c main\nafter 1\n3 main c main\n";
-    assert_eq!(rt; (got.0, got.1.as_str()), (0, text));
-    Ok(())
+    let files = [PLAIN.as_slice(), b"main\n"];
+    assert_tells(&rt, rt.alloc(), files, b"", &words, &holds, (0, text))
 }
 
 #[test]
@@ -50,13 +56,11 @@ fn a_reader_sees_the_stages_in_order(rt: HostRuntime) -> Result<(), Fail> {
         goes_on_after(1, Job::Merge),
         begins_after(Job::Write, asked(0, 3)),
     ];
-    let script = b"main\nname x\ncache\n";
+    let files = [PLAIN.as_slice(), b"main\nname x\ncache\n"];
     let words = ["race", "--readers", "1", "X", "T"];
-    let got = told(&rt, rt.alloc(), [&PLAIN, script], b"", &words, &holds)?;
     let text =
         "during 0\n0 pending\n2 found 0\n2 pending\nafter 0\n3 main c main\n3 found 0\n3 cache 89\n";
-    assert_eq!(rt; (got.0, got.1.as_str()), (0, text));
-    Ok(())
+    assert_tells(&rt, rt.alloc(), files, b"", &words, &holds, (0, text))
 }
 
 const SERVE: [&str; 4] = ["serve", "--workers", "1", "X"];
@@ -68,10 +72,8 @@ fn a_session_before_main_begins_and_after_write_ends(rt: HostRuntime) -> Result<
         goes_on_after(1, Job::Write),
     ];
     let input = b"main\nmain\ncache\n";
-    let got = told(&rt, rt.alloc(), [&PLAIN, b""], input, &SERVE, &holds)?;
-    let text = "0 pending\n3 main c main\n3 cache 89\n";
-    assert_eq!(rt; (got.0, got.1.as_str()), (0, text));
-    Ok(())
+    let want = (0, "0 pending\n3 main c main\n3 cache 89\n");
+    assert_tells(&rt, rt.alloc(), [&PLAIN, b""], input, &SERVE, &holds, want)
 }
 
 // The ten units are cut into four runs, of which the second has the first fault and the last is held.
@@ -82,10 +84,14 @@ fn a_session_before_a_fault_is_found_and_after_it(rt: HostRuntime) -> Result<(),
         goes_on_after(1, Job::Scan(3)),
     ];
     let files = [TWO_DAMAGED_UNITS.as_slice(), b""];
-    let got = told(&rt, rt.alloc(), files, b"main\nmain\n", &SERVE, &holds)?;
-    assert_eq!(rt;
-        (got.0, got.1.as_str()),
-        (1, "0 pending\n4 refused 11 60\n")
-    );
-    Ok(())
+    let want = (1, "0 pending\n4 refused 11 60\n");
+    assert_tells(
+        &rt,
+        rt.alloc(),
+        files,
+        b"main\nmain\n",
+        &SERVE,
+        &holds,
+        want,
+    )
 }
