@@ -16,15 +16,14 @@ import re
 import shutil
 import sys
 
+from vector_parts import PART, homes_of, joined, share
+
 TOOLS = os.path.dirname(os.path.abspath(__file__))
 CRATES = os.path.join(os.path.dirname(TOOLS), 'crates')
 CRATE = os.path.join(CRATES, 'index_vectors')
 ROWS = os.path.join(TOOLS, 'rows')
 LIST = os.path.join(TOOLS, 'rows.txt')
 WRITTEN = 'Written by tools/gen_vectors.py; not to be changed by hand.'
-# so many rows of bytes that stand twice become a part of their own, and a row has so many bytes
-SHARED_ROWS = 4
-ROW = 24
 # the crates whose definitions a computation opens, as far as the statements use them
 OPENED = ('ix_base', 'index_model', 'index_vectors')
 # modules of the crate that are written by hand, and the functions of those in src
@@ -66,94 +65,6 @@ def missing(found):
 def chain(numbers):
     """The bytes as a list, on one line."""
     return '(' + ' ∷ '.join(map(str, numbers)) + ' ∷ [])' if numbers else '[]'
-
-
-def rows_of(data):
-    """The bytes in rows."""
-    return [tuple(data[k:k + ROW]) for k in range(0, len(data), ROW)]
-
-
-def joined(items):
-    """Rows and names of parts, as one list: what stands between two parts is a list of its own."""
-    pieces, rows = [], []
-
-    def close(last):
-        if rows:
-            body = ' ∷\n    '.join(' ∷ '.join(map(str, row)) for row in rows) + ' ∷\n    []'
-            pieces.append(body if last and not pieces else '(' + body + ')')
-            rows.clear()
-
-    for item in items:
-        if isinstance(item, str):
-            close(False)
-            pieces.append(item)
-        else:
-            rows.append(item)
-    close(True)
-    return ' ++\n    '.join(pieces) or '[]'
-
-
-def twice(lists):
-    """The longest run of rows and parts that stands in two places of these lists, or None where none is long enough."""
-    places, best = {}, None
-    for at, items in enumerate(lists):
-        for k in range(len(items) - SHARED_ROWS + 1):
-            places.setdefault(tuple(items[k:k + SHARED_ROWS]), []).append((at, k))
-    for found in places.values():
-        for (a, i), (b, j) in zip(found, found[1:]):
-            most = j - i if a == b else len(lists[a])
-            size = 0
-            while size < most and i + size < len(lists[a]) and j + size < len(lists[b]) and lists[a][i + size] == lists[b][j + size]:
-                size += 1
-            if size >= SHARED_ROWS and (best is None or size > len(best)):
-                best = lists[a][i:i + size]
-    return best
-
-
-def with_part(items, run, part):
-    """The list with the number of a part in place of each such run."""
-    made, k = [], 0
-    while k < len(items):
-        if items[k:k + len(run)] == run:
-            made.append(part)
-            k += len(run)
-        else:
-            made.append(items[k])
-            k += 1
-    return made
-
-
-def in_order(parts):
-    """The numbers of the parts, each behind those that it is made of."""
-    order = []
-
-    def follow(k):
-        if k not in order:
-            for item in parts[k]:
-                if isinstance(item, int):
-                    follow(item)
-            order.append(k)
-
-    for k in range(len(parts)):
-        follow(k)
-    return order
-
-
-def share(files):
-    """The files by their keys, and the parts that they share by their names: lists of rows and of names of parts."""
-    lists, parts = [rows_of(data) for data in files.values()], []
-    while True:
-        run = twice(lists + parts)
-        if run is None:
-            break
-        lists = [with_part(items, run, len(parts)) for items in lists]
-        parts = [with_part(items, run, len(parts)) for items in parts] + [run]
-    names = {k: 'part_%d' % place for place, k in enumerate(in_order(parts))}
-
-    def named(items):
-        return [names[item] if isinstance(item, int) else item for item in items]
-
-    return dict(zip(files, map(named, lists))), {name: named(parts[k]) for k, name in names.items()}
 
 
 def text(data):
@@ -265,15 +176,10 @@ FILE = '''unfoldable pub {name} : List ℕ
 '''
 
 PARTS = '''-- {written}
--- Runs of bytes that stand in several places of the files.
+-- Runs of bytes that stand in several places of the files{which}.
 use Rattle.std.specs.Prelude.{{{plain}}}
-
+{others}
 {parts}'''
-
-PART = '''abbrev pub {name} : List ℕ
-{name} =
-    {bytes}
-'''
 
 HOLD = '''-- {written}
 -- Each row of {type}, by computation.
@@ -338,18 +244,17 @@ def stated(found):
         yield name, doc, group, {row: statement(group, row) for row in rows}
 
 
-def group_modules(name, doc, group, said, items):
+def group_modules(name, doc, group, said, items, homes):
     """What the script writes for a group: its files and its statement, a theorem for each row, and the answer to the goal of its function."""
     own = camel(name)
     files = ''.join(FILE.format(name=file, bytes=joined(items[own, file])) + '\n' for file in group.files.values())
     facts = ''.join('  %s : %s;\n' % fact for fact in said.items())
     words = listed(sorted(group.words))
-    parts = sorted(set(re.findall(r'\bpart_\d+\b', files)), key=lambda part: int(part[5:]))
     theorems = '\n'.join(FACT.format(row=row, said=fact, files=' '.join(dict.fromkeys(re.findall(r'\bfile_\d+\b', fact)))) for row, fact in said.items())
     return {
         'specs/%s.antt' % own: SPECS.format(
             written=WRITTEN, doc=doc, plain=listed(plain_words(files + facts, ['ℕ', 'List', '[]', '◌∷◌', '◌++◌', 'codes'])), words=words,
-            parts='use Rattle.index_vectors.specs.Parts.{%s}\n' % listed(parts) if parts else '', files=files.rstrip('\n') + '\n', type=own, facts=facts),
+            parts=uses_of(files, homes), files=files.rstrip('\n') + '\n', type=own, facts=facts),
         'proofs/%sHold.antt' % own: HOLD.format(
             written=WRITTEN, type=own, plain=listed(plain_words(facts, ['[]', '◌∷◌']) + ['refl']), words=words, files=listed(group.files.values()),
             codes='use Rattle.std.specs.Prelude.{codes}\n' if 'codes "' in facts else '', facts=theorems),
@@ -359,10 +264,23 @@ def group_modules(name, doc, group, said, items):
     }
 
 
-def part_module(parts):
-    """The parts that files share."""
-    body = '\n'.join(PART.format(name=name, bytes=joined(items)) for name, items in parts.items())
-    return PARTS.format(written=WRITTEN, plain=listed(plain_words(body, ['ℕ', 'List', '[]', '◌∷◌', '◌++◌'])), parts=body)
+def uses_of(body, homes, module=None):
+    """The lines that name the parts of other modules that a body uses."""
+    names = sorted(set(re.findall(r'\bpart_\d+\b', body)), key=lambda part: int(part[5:]))
+    by_module = {}
+    for name in names:
+        by_module.setdefault(homes[name], []).append(name)
+    return ''.join('use Rattle.index_vectors.specs.%s.{%s}\n' % (home, listed(own)) for home, own in by_module.items() if home != module)
+
+
+def part_modules(parts, homes):
+    """The modules of the parts that files share."""
+    modules = sorted(set(homes.values()), key=lambda module: int(module[5:]))
+    for module in modules:
+        body = '\n'.join(PART.format(name=name, bytes=joined(items)) for name, items in parts.items() if homes[name] == module)
+        yield 'specs/%s.antt' % module, PARTS.format(
+            written=WRITTEN, plain=listed(plain_words(body, ['ℕ', 'List', '[]', '◌∷◌', '◌++◌'])), parts=body, others=uses_of(body, homes, module),
+            which='' if module == modules[0] else ', made of those of the modules before as well')
 
 
 def lib(found):
@@ -420,11 +338,12 @@ def modules():
         sys.exit('rows without a folder: %s; folders that rows.txt does not list: %s' % (absent, unlisted))
     all_stated = list(stated(found))
     items, parts = share({(camel(name), file): data for name, _, group, _ in all_stated for data, file in group.files.items()})
+    homes = homes_of(parts)
     for name, doc, group, said in all_stated:
-        files.update(group_modules(name, doc, group, said, items))
-    files['specs/Parts.antt'] = part_module(parts)
+        files.update(group_modules(name, doc, group, said, items, homes))
+    files.update(part_modules(parts, homes))
     for kind in ('specs', 'proofs'):
-        own = BY_HAND[kind] + ['Opened' if kind == 'proofs' else 'Parts'] + [camel(name) + ('Hold' if kind == 'proofs' else '') for name, _, _ in found]
+        own = BY_HAND[kind] + (['Opened'] if kind == 'proofs' else list(dict.fromkeys(homes.values()))) + [camel(name) + ('Hold' if kind == 'proofs' else '') for name, _, _ in found]
         files['%s/Lib.antt' % kind] = '-- %s\n' % WRITTEN + ''.join('pub mod %s\n' % module for module in own)
     files['proofs/Opened.antt'] = opened()
     files['src/lib.rt'] = lib(found)

@@ -1,7 +1,11 @@
 -- Written by tools/gen_vectors.py; not to be changed by hand.
 -- Tables of abbreviations with a fault.
 use Rattle.std.specs.Prelude.{ℕ, List, [], ◌∷◌, ◌++◌, codes}
-use Rattle.index_vectors.specs.Parts.{part_22, part_24, part_25, part_54, part_94, part_102, part_103, part_104, part_132, part_169, part_189, part_193, part_211, part_212}
+use Rattle.index_vectors.specs.Parts1.{part_22, part_24, part_25}
+use Rattle.index_vectors.specs.Parts2.{part_54}
+use Rattle.index_vectors.specs.Parts3.{part_94, part_102, part_103, part_104, part_132}
+use Rattle.index_vectors.specs.Parts4.{part_169}
+use Rattle.index_vectors.specs.Parts5.{part_189, part_193, part_211, part_212}
 use Rattle.index_vectors.specs.Says.{Prints}
 
 unfoldable pub file_0 : List ℕ

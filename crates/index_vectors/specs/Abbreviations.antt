@@ -1,7 +1,10 @@
 -- Written by tools/gen_vectors.py; not to be changed by hand.
 -- Tables of abbreviations without a fault.
 use Rattle.std.specs.Prelude.{ℕ, List, [], ◌∷◌, ◌++◌, codes}
-use Rattle.index_vectors.specs.Parts.{part_26, part_44, part_60, part_65, part_102, part_104, part_211, part_212, part_213}
+use Rattle.index_vectors.specs.Parts1.{part_26}
+use Rattle.index_vectors.specs.Parts2.{part_44, part_60, part_65}
+use Rattle.index_vectors.specs.Parts3.{part_102, part_104}
+use Rattle.index_vectors.specs.Parts5.{part_211, part_212, part_213}
 use Rattle.index_vectors.specs.Says.{Prints}
 
 unfoldable pub file_0 : List ℕ

@@ -1,7 +1,9 @@
 -- Written by tools/gen_vectors.py; not to be changed by hand.
 -- Names that the Ada compiler encodes.
 use Rattle.std.specs.Prelude.{ℕ, List, [], ◌∷◌, ◌++◌, codes}
-use Rattle.index_vectors.specs.Parts.{part_124, part_136, part_138, part_140, part_141, part_142, part_146, part_149, part_150, part_155, part_234, part_235, part_236, part_237}
+use Rattle.index_vectors.specs.Parts3.{part_124}
+use Rattle.index_vectors.specs.Parts4.{part_136, part_138, part_140, part_141, part_142, part_146, part_149, part_150, part_155}
+use Rattle.index_vectors.specs.Parts6.{part_234, part_235, part_236, part_237}
 use Rattle.index_vectors.specs.Says.{Prints}
 
 unfoldable pub file_0 : List ℕ

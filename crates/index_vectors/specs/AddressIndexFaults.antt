@@ -1,7 +1,10 @@
 -- Written by tools/gen_vectors.py; not to be changed by hand.
 -- The first fault of indexed addresses.
 use Rattle.std.specs.Prelude.{ℕ, List, [], ◌∷◌, ◌++◌, codes}
-use Rattle.index_vectors.specs.Parts.{part_7, part_8, part_9, part_11, part_14, part_46, part_47, part_134, part_225, part_226, part_227, part_228}
+use Rattle.index_vectors.specs.Parts1.{part_7, part_8, part_9, part_11, part_14}
+use Rattle.index_vectors.specs.Parts2.{part_46, part_47}
+use Rattle.index_vectors.specs.Parts4.{part_134}
+use Rattle.index_vectors.specs.Parts5.{part_225, part_226, part_227, part_228}
 use Rattle.index_vectors.specs.Says.{Prints}
 
 unfoldable pub file_0 : List ℕ

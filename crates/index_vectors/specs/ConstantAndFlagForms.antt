@@ -1,7 +1,9 @@
 -- Written by tools/gen_vectors.py; not to be changed by hand.
 -- Attributes of the forms of constants, flags and expressions are passed by their length.
 use Rattle.std.specs.Prelude.{ℕ, List, [], ◌∷◌, ◌++◌, codes}
-use Rattle.index_vectors.specs.Parts.{part_60, part_63, part_66, part_68, part_76, part_80, part_81, part_82, part_83, part_133, part_194, part_197}
+use Rattle.index_vectors.specs.Parts2.{part_60, part_63, part_66, part_68, part_76, part_80, part_81, part_82, part_83}
+use Rattle.index_vectors.specs.Parts4.{part_133}
+use Rattle.index_vectors.specs.Parts5.{part_194, part_197}
 use Rattle.index_vectors.specs.Says.{Prints}
 
 unfoldable pub file_0 : List ℕ

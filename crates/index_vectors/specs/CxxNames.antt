@@ -1,7 +1,9 @@
 -- Written by tools/gen_vectors.py; not to be changed by hand.
 -- Names, scopes and kinds of C++ and C entries, over one and several units.
 use Rattle.std.specs.Prelude.{ℕ, List, [], ◌∷◌, ◌++◌, codes}
-use Rattle.index_vectors.specs.Parts.{part_93, part_111, part_114, part_116, part_131, part_145, part_151, part_154, part_155, part_159, part_160, part_171, part_177, part_178, part_215, part_221}
+use Rattle.index_vectors.specs.Parts3.{part_93, part_111, part_114, part_116, part_131}
+use Rattle.index_vectors.specs.Parts4.{part_145, part_151, part_154, part_155, part_159, part_160, part_171, part_177, part_178}
+use Rattle.index_vectors.specs.Parts5.{part_215, part_221}
 use Rattle.index_vectors.specs.Says.{Prints}
 
 unfoldable pub file_0 : List ℕ

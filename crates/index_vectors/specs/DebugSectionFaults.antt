@@ -1,7 +1,11 @@
 -- Written by tools/gen_vectors.py; not to be changed by hand.
 -- Compressed debug sections, and files without debug information.
 use Rattle.std.specs.Prelude.{ℕ, List, [], ◌∷◌, ◌++◌, codes}
-use Rattle.index_vectors.specs.Parts.{part_20, part_21, part_38, part_44, part_54, part_55, part_56, part_121, part_166, part_174, part_188}
+use Rattle.index_vectors.specs.Parts1.{part_20, part_21, part_38}
+use Rattle.index_vectors.specs.Parts2.{part_44, part_54, part_55, part_56}
+use Rattle.index_vectors.specs.Parts3.{part_121}
+use Rattle.index_vectors.specs.Parts4.{part_166, part_174}
+use Rattle.index_vectors.specs.Parts5.{part_188}
 use Rattle.index_vectors.specs.Says.{Prints}
 
 unfoldable pub file_0 : List ℕ

@@ -1,7 +1,7 @@
 -- Written by tools/gen_vectors.py; not to be changed by hand.
 -- The first fault of a file header.
 use Rattle.std.specs.Prelude.{ℕ, List, [], ◌∷◌, ◌++◌, codes}
-use Rattle.index_vectors.specs.Parts.{part_28}
+use Rattle.index_vectors.specs.Parts1.{part_28}
 use Rattle.index_vectors.specs.Says.{Prints}
 
 unfoldable pub file_0 : List ℕ

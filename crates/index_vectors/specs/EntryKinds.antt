@@ -1,7 +1,9 @@
 -- Written by tools/gen_vectors.py; not to be changed by hand.
 -- Which entries are indexed, by tag, address and value.
 use Rattle.std.specs.Prelude.{ℕ, List, [], ◌∷◌, ◌++◌, codes}
-use Rattle.index_vectors.specs.Parts.{part_112, part_113, part_115, part_142, part_148, part_182, part_217}
+use Rattle.index_vectors.specs.Parts3.{part_112, part_113, part_115}
+use Rattle.index_vectors.specs.Parts4.{part_142, part_148}
+use Rattle.index_vectors.specs.Parts5.{part_182, part_217}
 use Rattle.index_vectors.specs.Says.{Prints}
 
 unfoldable pub file_0 : List ℕ

@@ -1,7 +1,10 @@
 -- Written by tools/gen_vectors.py; not to be changed by hand.
 -- The first fault of the forms of attributes.
 use Rattle.std.specs.Prelude.{ℕ, List, [], ◌∷◌, ◌++◌, codes}
-use Rattle.index_vectors.specs.Parts.{part_26, part_58, part_60, part_63, part_68, part_70, part_75, part_80, part_84, part_107, part_194, part_195}
+use Rattle.index_vectors.specs.Parts1.{part_26}
+use Rattle.index_vectors.specs.Parts2.{part_58, part_60, part_63, part_68, part_70, part_75, part_80, part_84}
+use Rattle.index_vectors.specs.Parts3.{part_107}
+use Rattle.index_vectors.specs.Parts5.{part_194, part_195}
 use Rattle.index_vectors.specs.Says.{Prints}
 
 unfoldable pub file_0 : List ℕ

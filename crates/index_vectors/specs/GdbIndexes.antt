@@ -1,7 +1,9 @@
 -- Written by tools/gen_vectors.py; not to be changed by hand.
 -- The bytes of `.gdb_index` of small files, versions 8 and 9.
 use Rattle.std.specs.Prelude.{ℕ, List, [], ◌∷◌}
-use Rattle.index_vectors.specs.Parts.{part_5, part_29, part_37, part_205, part_240}
+use Rattle.index_vectors.specs.Parts1.{part_5, part_29, part_37}
+use Rattle.index_vectors.specs.Parts5.{part_205}
+use Rattle.index_vectors.specs.Parts6.{part_240}
 use Rattle.index_vectors.specs.Says.{WritesGdb8, WritesGdb9}
 
 unfoldable pub file_0 : List ℕ

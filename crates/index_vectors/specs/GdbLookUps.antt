@@ -1,7 +1,8 @@
 -- Written by tools/gen_vectors.py; not to be changed by hand.
 -- Look-ups in a `.gdb_index`.
 use Rattle.std.specs.Prelude.{ℕ, List, [], ◌∷◌, codes}
-use Rattle.index_vectors.specs.Parts.{part_205, part_240}
+use Rattle.index_vectors.specs.Parts5.{part_205}
+use Rattle.index_vectors.specs.Parts6.{part_240}
 use Rattle.index_vectors.specs.Says.{GdbOffersNot, GdbPrints}
 
 unfoldable pub file_0 : List ℕ

@@ -1,7 +1,11 @@
 -- Written by tools/gen_vectors.py; not to be changed by hand.
 -- Headers of units that are cut, or leave their section.
 use Rattle.std.specs.Prelude.{ℕ, List, [], ◌∷◌, ◌++◌, codes}
-use Rattle.index_vectors.specs.Parts.{part_25, part_33, part_84, part_92, part_95, part_98, part_122, part_126, part_128, part_147, part_152, part_162, part_163, part_164, part_167, part_168, part_189, part_190, part_206, part_207, part_208}
+use Rattle.index_vectors.specs.Parts1.{part_25, part_33}
+use Rattle.index_vectors.specs.Parts2.{part_84}
+use Rattle.index_vectors.specs.Parts3.{part_92, part_95, part_98, part_122, part_126, part_128}
+use Rattle.index_vectors.specs.Parts4.{part_147, part_152, part_162, part_163, part_164, part_167, part_168}
+use Rattle.index_vectors.specs.Parts5.{part_189, part_190, part_206, part_207, part_208}
 use Rattle.index_vectors.specs.Says.{Prints}
 
 unfoldable pub file_0 : List ℕ

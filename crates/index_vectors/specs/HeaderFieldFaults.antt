@@ -1,7 +1,10 @@
 -- Written by tools/gen_vectors.py; not to be changed by hand.
 -- The first fault of the version, the unit type and the address size of a header.
 use Rattle.std.specs.Prelude.{ℕ, List, [], ◌∷◌, ◌++◌, codes}
-use Rattle.index_vectors.specs.Parts.{part_24, part_25, part_31, part_33, part_91, part_97, part_99, part_128, part_152, part_161, part_189, part_191, part_206, part_209}
+use Rattle.index_vectors.specs.Parts1.{part_24, part_25, part_31, part_33}
+use Rattle.index_vectors.specs.Parts3.{part_91, part_97, part_99, part_128}
+use Rattle.index_vectors.specs.Parts4.{part_152, part_161}
+use Rattle.index_vectors.specs.Parts5.{part_189, part_191, part_206, part_209}
 use Rattle.index_vectors.specs.Says.{Prints}
 
 unfoldable pub file_0 : List ℕ

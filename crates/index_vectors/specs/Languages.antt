@@ -1,7 +1,12 @@
 -- Written by tools/gen_vectors.py; not to be changed by hand.
 -- Partial units and their importers, languages, and the main program.
 use Rattle.std.specs.Prelude.{ℕ, List, [], ◌∷◌, ◌++◌, codes}
-use Rattle.index_vectors.specs.Parts.{part_19, part_35, part_61, part_62, part_105, part_118, part_119, part_120, part_123, part_139, part_140, part_141, part_153, part_180, part_184, part_185, part_186, part_204, part_208, part_233, part_234, part_238, part_239}
+use Rattle.index_vectors.specs.Parts1.{part_19, part_35}
+use Rattle.index_vectors.specs.Parts2.{part_61, part_62}
+use Rattle.index_vectors.specs.Parts3.{part_105, part_118, part_119, part_120, part_123}
+use Rattle.index_vectors.specs.Parts4.{part_139, part_140, part_141, part_153}
+use Rattle.index_vectors.specs.Parts5.{part_180, part_184, part_185, part_186, part_204, part_208}
+use Rattle.index_vectors.specs.Parts6.{part_233, part_234, part_238, part_239}
 use Rattle.index_vectors.specs.Says.{Prints}
 
 unfoldable pub file_0 : List ℕ

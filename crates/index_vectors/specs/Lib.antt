@@ -2,7 +2,12 @@
 pub mod LookTexts
 pub mod Says
 pub mod Limits
-pub mod Parts
+pub mod Parts1
+pub mod Parts2
+pub mod Parts3
+pub mod Parts4
+pub mod Parts5
+pub mod Parts6
 pub mod ElfFaults
 pub mod SectionTableFaults
 pub mod DebugSectionFaults

@@ -1,7 +1,11 @@
 -- Written by tools/gen_vectors.py; not to be changed by hand.
 -- The unit at an address, by low and high addresses of units and of their subprograms (DWARF 4, 2.17).
 use Rattle.std.specs.Prelude.{ℕ, List, [], ◌∷◌, ◌++◌, codes}
-use Rattle.index_vectors.specs.Parts.{part_4, part_10, part_14, part_100, part_127, part_131, part_134, part_135, part_139, part_149, part_179, part_182, part_183, part_193, part_197, part_204, part_215, part_217, part_233}
+use Rattle.index_vectors.specs.Parts1.{part_4, part_10, part_14}
+use Rattle.index_vectors.specs.Parts3.{part_100, part_127, part_131}
+use Rattle.index_vectors.specs.Parts4.{part_134, part_135, part_139, part_149, part_179}
+use Rattle.index_vectors.specs.Parts5.{part_182, part_183, part_193, part_197, part_204, part_215, part_217}
+use Rattle.index_vectors.specs.Parts6.{part_233}
 use Rattle.index_vectors.specs.Says.{Prints}
 
 unfoldable pub file_0 : List ℕ

@@ -1,7 +1,7 @@
 -- Written by tools/gen_vectors.py; not to be changed by hand.
 -- The bytes of `.debug_names` of small files, and the strings that it adds.
 use Rattle.std.specs.Prelude.{ℕ, List, [], ◌∷◌}
-use Rattle.index_vectors.specs.Parts.{part_29, part_37}
+use Rattle.index_vectors.specs.Parts1.{part_29, part_37}
 use Rattle.index_vectors.specs.Says.{WritesNames}
 
 unfoldable pub file_0 : List ℕ

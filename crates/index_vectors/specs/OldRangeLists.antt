@@ -1,7 +1,9 @@
 -- Written by tools/gen_vectors.py; not to be changed by hand.
 -- The unit at an address, by range lists of versions 2 to 4 (DWARF 4, 2.17).
 use Rattle.std.specs.Prelude.{ℕ, List, [], ◌∷◌, ◌++◌, codes}
-use Rattle.index_vectors.specs.Parts.{part_16, part_17, part_18, part_47, part_181}
+use Rattle.index_vectors.specs.Parts1.{part_16, part_17, part_18}
+use Rattle.index_vectors.specs.Parts2.{part_47}
+use Rattle.index_vectors.specs.Parts5.{part_181}
 use Rattle.index_vectors.specs.Says.{Prints}
 
 unfoldable pub file_0 : List ℕ

@@ -1,7 +1,11 @@
 -- Written by tools/gen_vectors.py; not to be changed by hand.
 -- The first fault of range lists.
 use Rattle.std.specs.Prelude.{ℕ, List, [], ◌∷◌, ◌++◌, codes}
-use Rattle.index_vectors.specs.Parts.{part_43, part_48, part_49, part_50, part_86, part_87, part_88, part_89, part_130, part_229, part_230, part_231}
+use Rattle.index_vectors.specs.Parts1.{part_43}
+use Rattle.index_vectors.specs.Parts2.{part_48, part_49, part_50, part_86, part_87, part_88}
+use Rattle.index_vectors.specs.Parts3.{part_89, part_130}
+use Rattle.index_vectors.specs.Parts5.{part_229}
+use Rattle.index_vectors.specs.Parts6.{part_230, part_231}
 use Rattle.index_vectors.specs.Says.{Prints}
 
 unfoldable pub file_0 : List ℕ

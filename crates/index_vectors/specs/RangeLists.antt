@@ -1,7 +1,11 @@
 -- Written by tools/gen_vectors.py; not to be changed by hand.
 -- The unit at an address, by range lists of version 5 (DWARF 5, 2.17.3 and 7.25).
 use Rattle.std.specs.Prelude.{ℕ, List, [], ◌∷◌, ◌++◌, codes}
-use Rattle.index_vectors.specs.Parts.{part_8, part_12, part_45, part_48, part_49, part_50, part_51, part_88, part_89, part_90, part_181, part_226, part_228, part_229, part_230, part_231, part_232}
+use Rattle.index_vectors.specs.Parts1.{part_8, part_12}
+use Rattle.index_vectors.specs.Parts2.{part_45, part_48, part_49, part_50, part_51, part_88}
+use Rattle.index_vectors.specs.Parts3.{part_89, part_90}
+use Rattle.index_vectors.specs.Parts5.{part_181, part_226, part_228, part_229}
+use Rattle.index_vectors.specs.Parts6.{part_230, part_231, part_232}
 use Rattle.index_vectors.specs.Says.{Prints}
 
 unfoldable pub file_0 : List ℕ

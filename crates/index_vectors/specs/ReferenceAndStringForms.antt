@@ -1,7 +1,8 @@
 -- Written by tools/gen_vectors.py; not to be changed by hand.
 -- Attributes of the forms of references and strings are passed by their length.
 use Rattle.std.specs.Prelude.{ℕ, List, [], ◌∷◌, ◌++◌, codes}
-use Rattle.index_vectors.specs.Parts.{part_58, part_71, part_73, part_76, part_77, part_78, part_79, part_81, part_82, part_83, part_196, part_214}
+use Rattle.index_vectors.specs.Parts2.{part_58, part_71, part_73, part_76, part_77, part_78, part_79, part_81, part_82, part_83}
+use Rattle.index_vectors.specs.Parts5.{part_196, part_214}
 use Rattle.index_vectors.specs.Says.{Prints}
 
 unfoldable pub file_0 : List ℕ

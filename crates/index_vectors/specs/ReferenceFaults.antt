@@ -1,7 +1,10 @@
 -- Written by tools/gen_vectors.py; not to be changed by hand.
 -- The first fault of references between entries.
 use Rattle.std.specs.Prelude.{ℕ, List, [], ◌∷◌, ◌++◌, codes}
-use Rattle.index_vectors.specs.Parts.{part_59, part_72, part_100, part_110, part_111, part_137, part_143, part_144, part_146, part_156, part_170, part_171, part_173, part_175, part_178, part_179, part_203, part_218, part_221, part_222}
+use Rattle.index_vectors.specs.Parts2.{part_59, part_72}
+use Rattle.index_vectors.specs.Parts3.{part_100, part_110, part_111}
+use Rattle.index_vectors.specs.Parts4.{part_137, part_143, part_144, part_146, part_156, part_170, part_171, part_173, part_175, part_178, part_179}
+use Rattle.index_vectors.specs.Parts5.{part_203, part_218, part_221, part_222}
 use Rattle.index_vectors.specs.Says.{Prints}
 
 unfoldable pub file_0 : List ℕ

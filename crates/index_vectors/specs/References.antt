@@ -1,7 +1,10 @@
 -- Written by tools/gen_vectors.py; not to be changed by hand.
 -- Chains of specifications and origins, and signatures.
 use Rattle.std.specs.Prelude.{ℕ, List, [], ◌∷◌, ◌++◌, codes}
-use Rattle.index_vectors.specs.Parts.{part_44, part_93, part_114, part_124, part_129, part_143, part_156, part_157, part_172, part_173, part_175, part_176, part_179, part_180, part_203, part_222, part_223, part_224}
+use Rattle.index_vectors.specs.Parts2.{part_44}
+use Rattle.index_vectors.specs.Parts3.{part_93, part_114, part_124, part_129}
+use Rattle.index_vectors.specs.Parts4.{part_143, part_156, part_157, part_172, part_173, part_175, part_176, part_179}
+use Rattle.index_vectors.specs.Parts5.{part_180, part_203, part_222, part_223, part_224}
 use Rattle.index_vectors.specs.Says.{Prints}
 
 unfoldable pub file_0 : List ℕ

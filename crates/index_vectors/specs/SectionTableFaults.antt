@@ -1,7 +1,9 @@
 -- Written by tools/gen_vectors.py; not to be changed by hand.
 -- The first fault of the table of sections, and of what the sections say of themselves.
 use Rattle.std.specs.Prelude.{ℕ, List, [], ◌∷◌, ◌++◌, codes}
-use Rattle.index_vectors.specs.Parts.{part_20, part_22, part_26, part_27, part_54, part_56, part_57, part_187}
+use Rattle.index_vectors.specs.Parts1.{part_20, part_22, part_26, part_27}
+use Rattle.index_vectors.specs.Parts2.{part_54, part_56, part_57}
+use Rattle.index_vectors.specs.Parts5.{part_187}
 use Rattle.index_vectors.specs.Says.{Prints}
 
 unfoldable pub file_0 : List ℕ

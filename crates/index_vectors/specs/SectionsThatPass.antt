@@ -1,7 +1,10 @@
 -- Written by tools/gen_vectors.py; not to be changed by hand.
 -- Files whose sections are unusual and have no fault.
 use Rattle.std.specs.Prelude.{ℕ, List, [], ◌∷◌, ◌++◌, codes}
-use Rattle.index_vectors.specs.Parts.{part_23, part_28, part_52, part_53, part_57, part_161, part_166, part_188, part_190, part_191}
+use Rattle.index_vectors.specs.Parts1.{part_23, part_28}
+use Rattle.index_vectors.specs.Parts2.{part_52, part_53, part_57}
+use Rattle.index_vectors.specs.Parts4.{part_161, part_166}
+use Rattle.index_vectors.specs.Parts5.{part_188, part_190, part_191}
 use Rattle.index_vectors.specs.Says.{Prints}
 
 unfoldable pub file_0 : List ℕ

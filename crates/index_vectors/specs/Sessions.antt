@@ -1,7 +1,7 @@
 -- Written by tools/gen_vectors.py; not to be changed by hand.
 -- What a session writes line by line, by the stage of each look-up.
 use Rattle.std.specs.Prelude.{ℕ, List, [], ◌∷◌, ◌++◌, codes}
-use Rattle.index_vectors.specs.Parts.{part_29, part_30, part_31}
+use Rattle.index_vectors.specs.Parts1.{part_29, part_30, part_31}
 use Rattle.index_vectors.specs.Says.{Serves}
 
 unfoldable pub file_0 : List ℕ

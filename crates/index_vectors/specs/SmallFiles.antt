@@ -1,7 +1,8 @@
 -- Written by tools/gen_vectors.py; not to be changed by hand.
 -- Answers to each query about small files of C, and lines that are no query.
 use Rattle.std.specs.Prelude.{ℕ, List, [], ◌∷◌, ◌++◌, codes}
-use Rattle.index_vectors.specs.Parts.{part_5, part_29, part_37, part_66}
+use Rattle.index_vectors.specs.Parts1.{part_5, part_29, part_37}
+use Rattle.index_vectors.specs.Parts2.{part_66}
 use Rattle.index_vectors.specs.Says.{IsBadQuery, Prints, PrintsLength}
 
 unfoldable pub file_0 : List ℕ

@@ -1,7 +1,11 @@
 -- Written by tools/gen_vectors.py; not to be changed by hand.
 -- The first fault of strings.
 use Rattle.std.specs.Prelude.{ℕ, List, [], ◌∷◌, ◌++◌, codes}
-use Rattle.index_vectors.specs.Parts.{part_2, part_24, part_38, part_40, part_61, part_64, part_91, part_125, part_168, part_200, part_202, part_220}
+use Rattle.index_vectors.specs.Parts1.{part_2, part_24, part_38, part_40}
+use Rattle.index_vectors.specs.Parts2.{part_61, part_64}
+use Rattle.index_vectors.specs.Parts3.{part_91, part_125}
+use Rattle.index_vectors.specs.Parts4.{part_168}
+use Rattle.index_vectors.specs.Parts5.{part_200, part_202, part_220}
 use Rattle.index_vectors.specs.Says.{Prints}
 
 unfoldable pub file_0 : List ℕ

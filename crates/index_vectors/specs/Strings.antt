@@ -1,7 +1,9 @@
 -- Written by tools/gen_vectors.py; not to be changed by hand.
 -- Strings of each form.
 use Rattle.std.specs.Prelude.{ℕ, List, [], ◌∷◌, ◌++◌, codes}
-use Rattle.index_vectors.specs.Parts.{part_1, part_3, part_6, part_39, part_40, part_41, part_168, part_199, part_200, part_201, part_220}
+use Rattle.index_vectors.specs.Parts1.{part_1, part_3, part_6, part_39, part_40, part_41}
+use Rattle.index_vectors.specs.Parts4.{part_168}
+use Rattle.index_vectors.specs.Parts5.{part_199, part_200, part_201, part_220}
 use Rattle.index_vectors.specs.Says.{Prints}
 
 unfoldable pub file_0 : List ℕ

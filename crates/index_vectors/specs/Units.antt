@@ -1,7 +1,10 @@
 -- Written by tools/gen_vectors.py; not to be changed by hand.
 -- Units of each version, sort and format.
 use Rattle.std.specs.Prelude.{ℕ, List, [], ◌∷◌, ◌++◌, codes}
-use Rattle.index_vectors.specs.Parts.{part_24, part_98, part_99, part_125, part_126, part_157, part_189, part_192, part_209, part_210}
+use Rattle.index_vectors.specs.Parts1.{part_24}
+use Rattle.index_vectors.specs.Parts3.{part_98, part_99, part_125, part_126}
+use Rattle.index_vectors.specs.Parts4.{part_157}
+use Rattle.index_vectors.specs.Parts5.{part_189, part_192, part_209, part_210}
 use Rattle.index_vectors.specs.Says.{Prints}
 
 unfoldable pub file_0 : List ℕ

@@ -1,7 +1,10 @@
 -- Written by tools/gen_vectors.py; not to be changed by hand.
 -- The first fault of values that are cut or too large.
 use Rattle.std.specs.Prelude.{ℕ, List, [], ◌∷◌, ◌++◌, codes}
-use Rattle.index_vectors.specs.Parts.{part_71, part_73, part_74, part_78, part_80, part_107, part_167, part_196, part_214, part_215}
+use Rattle.index_vectors.specs.Parts2.{part_71, part_73, part_74, part_78, part_80}
+use Rattle.index_vectors.specs.Parts3.{part_107}
+use Rattle.index_vectors.specs.Parts4.{part_167}
+use Rattle.index_vectors.specs.Parts5.{part_196, part_214, part_215}
 use Rattle.index_vectors.specs.Says.{Prints}
 
 unfoldable pub file_0 : List ℕ

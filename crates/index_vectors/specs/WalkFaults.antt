@@ -1,7 +1,11 @@
 -- Written by tools/gen_vectors.py; not to be changed by hand.
 -- The first fault of the entries of a unit and of their tree.
 use Rattle.std.specs.Prelude.{ℕ, List, [], ◌∷◌, ◌++◌, codes}
-use Rattle.index_vectors.specs.Parts.{part_19, part_23, part_24, part_26, part_30, part_32, part_33, part_36, part_38, part_67, part_84, part_108, part_122, part_125, part_130, part_163, part_189, part_190, part_192, part_198, part_207, part_210, part_217}
+use Rattle.index_vectors.specs.Parts1.{part_19, part_23, part_24, part_26, part_30, part_32, part_33, part_36, part_38}
+use Rattle.index_vectors.specs.Parts2.{part_67, part_84}
+use Rattle.index_vectors.specs.Parts3.{part_108, part_122, part_125, part_130}
+use Rattle.index_vectors.specs.Parts4.{part_163}
+use Rattle.index_vectors.specs.Parts5.{part_189, part_190, part_192, part_198, part_207, part_210, part_217}
 use Rattle.index_vectors.specs.Says.{Prints}
 
 unfoldable pub file_0 : List ℕ

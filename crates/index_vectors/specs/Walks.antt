@@ -1,7 +1,11 @@
 -- Written by tools/gen_vectors.py; not to be changed by hand.
 -- Trees of entries that end in each way, and flags of entries.
 use Rattle.std.specs.Prelude.{ℕ, List, [], ◌∷◌, ◌++◌, codes}
-use Rattle.index_vectors.specs.Parts.{part_25, part_26, part_33, part_84, part_85, part_92, part_108, part_135, part_164, part_195, part_207, part_216, part_218, part_219}
+use Rattle.index_vectors.specs.Parts1.{part_25, part_26, part_33}
+use Rattle.index_vectors.specs.Parts2.{part_84, part_85}
+use Rattle.index_vectors.specs.Parts3.{part_92, part_108}
+use Rattle.index_vectors.specs.Parts4.{part_135, part_164}
+use Rattle.index_vectors.specs.Parts5.{part_195, part_207, part_216, part_218, part_219}
 use Rattle.index_vectors.specs.Says.{Prints}
 
 unfoldable pub file_0 : List ℕ
