@@ -41,7 +41,7 @@ pub(crate) fn add_node<'f>(
     if entry.item().depth() == 0 || is_visited_in(outer, frame.ada) {
         add_node_with_texts(nodes, home, base, outer, entry)
     } else {
-        home.test(base, entry)
+        Ok(home.test(base, entry)?)
     }
 }
 

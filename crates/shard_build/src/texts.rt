@@ -3,7 +3,7 @@
 ghost use Rattle.std.specs.Prelude.{◌≡◌, ◌-◌, ℕ, List, Some, option_map};
 ghost use Rattle.index_model.specs.FormSeen.{seen};
 ghost use Rattle.index_model.specs.Forms.{Inline};
-ghost use Rattle.index_model.specs.Gives.{Gives, GivesAlways};
+ghost use Rattle.index_model.specs.Gives.{GivesAlways};
 ghost use Rattle.index_model.specs.LawsTexts.{StandsIn};
 ghost use Rattle.index_model.specs.Meaning.{at_place};
 ghost use Rattle.index_model.specs.Strings.{bounded};
@@ -15,7 +15,7 @@ use entry_scan::Item;
 use file_image::text;
 use index_model::Value;
 use ix_base::code::NAME_TOO_LONG;
-use ix_base::{Fault, MAX_STRING, Stop};
+use ix_base::{Fault, MAX_STRING};
 use memchr::memmem;
 
 /// The texts of an entry, if it has them.
@@ -101,17 +101,17 @@ impl<'s, 'f> Home<'s, 'f> {
     }
 
     /// Whether the texts of an entry are sound: the same as `texts`, where they aren't kept.
-    pub fn test<'a>(&self, base: Option<u64>, entry: &Attributes<'a>) -> Result<(), Stop>
+    pub fn test<'a>(&self, base: Option<u64>, entry: &Attributes<'a>) -> Result<(), Fault>
     where
         'f: 'a,
-        ensures { Gives (λ done. done) result (tested (at_place entry.now.at (texts_by self.now.sections.now base self.now.unit.wide entry.now))) }
+        ensures { GivesAlways (λ done. done) result (tested (at_place entry.now.at (texts_by self.now.sections.now base self.now.unit.wide entry.now))) }
     {
         match self.test_own(base, entry) {
             Ok(()) => Ok(()),
-            Err(code) => Err(Stop::Fault(Fault {
+            Err(code) => Err(Fault {
                 code,
                 at: entry.item().offset(),
-            })),
+            }),
         }
     }
 
