@@ -1,11 +1,11 @@
-pub mod Lists
-pub mod UnitAt
-pub mod Adding
-pub mod Fronts
-pub mod Filling
-pub mod Laying
-pub mod Ascending
+mod Lists
+mod UnitAt
+mod Adding
+mod Fronts
+mod Filling
+mod Laying
+mod Ascending
 pub mod Halves
-pub mod Searching
-pub mod Order
-pub mod FirstUnit
+mod Searching
+mod Order
+mod FirstUnit

@@ -1,13 +1,13 @@
-pub mod NumberTables
-pub mod Fuel
-pub mod Readings
-pub mod ValueLaws
-pub mod Opened
-pub mod BucketLaws
-pub mod Headers
-pub mod Counted
-pub mod EntryLaws
-pub mod NameLaws
-pub mod HitLaws
-pub mod LeftLaws
-pub mod ListLaws
+mod NumberTables
+mod Fuel
+mod Readings
+mod ValueLaws
+mod Opened
+mod BucketLaws
+mod Headers
+mod Counted
+mod EntryLaws
+mod NameLaws
+mod HitLaws
+mod LeftLaws
+mod ListLaws

@@ -1,16 +1,16 @@
-pub mod Lists
-pub mod Orders
-pub mod UnitLaws
-pub mod SortLaws
-pub mod GroupLaws
-pub mod RowLaws
-pub mod LebLaws
-pub mod NameLaws
-pub mod BucketLaws
-pub mod PoolLaws
-pub mod TableLaws
-pub mod Whole
-pub mod Stops
-pub mod NamesMade
-pub mod Assembly
-pub mod Written
+mod Lists
+mod Orders
+mod UnitLaws
+mod SortLaws
+mod GroupLaws
+mod RowLaws
+mod LebLaws
+mod NameLaws
+mod BucketLaws
+mod PoolLaws
+mod TableLaws
+mod Whole
+mod Stops
+mod NamesMade
+mod Assembly
+mod Written

@@ -1,14 +1,14 @@
-pub mod AbbreviationFronts
-pub mod AbbreviationDamage
-pub mod AbbreviationKept
-pub mod AbbreviationLookup
-pub mod AbbreviationSorting
-pub mod Takes
-pub mod ValueLaws
-pub mod Steady
-pub mod EntryLaws
-pub mod LeftLaws
-pub mod SizeLaws
-pub mod OrderAhead
-pub mod SpanAt
-pub mod MethodSpan
+mod AbbreviationFronts
+mod AbbreviationDamage
+mod AbbreviationKept
+mod AbbreviationLookup
+mod AbbreviationSorting
+mod Takes
+mod ValueLaws
+mod Steady
+mod EntryLaws
+mod LeftLaws
+mod SizeLaws
+mod OrderAhead
+mod SpanAt
+mod MethodSpan

@@ -1,9 +1,9 @@
-pub mod Tables
-pub mod Named
-pub mod Fronts
-pub mod CompressedLaws
-pub mod Opened
-pub mod Loops
-pub mod InsideLaws
-pub mod Both
+mod Tables
+mod Named
+mod Fronts
+mod CompressedLaws
+mod Opened
+mod Loops
+mod InsideLaws
+mod Both
 pub mod Images

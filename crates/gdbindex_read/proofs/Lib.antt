@@ -1,9 +1,9 @@
-pub mod Loops
-pub mod Offsets
-pub mod Opened
-pub mod Vectors
-pub mod Powers
-pub mod SlotsRead
-pub mod Paths
-pub mod Shortcuts
-pub mod Entries
+mod Loops
+mod Offsets
+mod Opened
+mod Vectors
+mod Powers
+mod SlotsRead
+mod Paths
+mod Shortcuts
+mod Entries

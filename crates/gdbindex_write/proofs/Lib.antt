@@ -1,17 +1,17 @@
-pub mod UniqueLaws
-pub mod GroupLaws
-pub mod PairLaws
-pub mod PositionLaws
-pub mod NumberLaws
-pub mod SlotLaws
-pub mod DistinctLaws
-pub mod UnitLaws
-pub mod PartLaws
-pub mod HeaderLaws
-pub mod SymbolLaws
-pub mod VectorLaws
-pub mod SizeLaws
-pub mod PlaceLaws
-pub mod PoolLaws
-pub mod IndexLaws
-pub mod WriteLaws
+mod UniqueLaws
+mod GroupLaws
+mod PairLaws
+mod PositionLaws
+mod NumberLaws
+mod SlotLaws
+mod DistinctLaws
+mod UnitLaws
+mod PartLaws
+mod HeaderLaws
+mod SymbolLaws
+mod VectorLaws
+mod SizeLaws
+mod PlaceLaws
+mod PoolLaws
+mod IndexLaws
+mod WriteLaws

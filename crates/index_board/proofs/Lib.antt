@@ -1,7 +1,7 @@
-pub mod Looks
-pub mod KeptLaws
-pub mod Openings
-pub mod Waits
-pub mod Fills
-pub mod TurnLaws
+mod Looks
+mod KeptLaws
+mod Openings
+mod Waits
+mod Fills
+mod TurnLaws
 pub mod Crossing

@@ -1,10 +1,10 @@
-pub mod Definitions
+mod Definitions
 pub mod TilingLaws
 pub mod Meanings
 pub mod Scans
 pub mod UnitReads
 pub mod UnitTilingLaws
-pub mod ValueReads
+mod ValueReads
 pub mod TextReads
 pub mod TokenReads
 pub mod ParentLaws
@@ -20,18 +20,18 @@ pub mod PassedOver
 pub mod Located
 pub mod Followed
 pub mod LinkLaws
-pub mod EntryLaws
-pub mod SpanLaws
+mod EntryLaws
+mod SpanLaws
 pub mod InnermostLaws
 pub mod UnitsApart
 pub mod SpanOrder
 pub mod ShardRoots
 pub mod ShardNodes
 pub mod ShardRuns
-pub mod UnitLanguages
+mod UnitLanguages
 pub mod ResumeLaws
 pub mod SimpleNames
-pub mod FaultLaws
+mod FaultLaws
 pub mod VisitedLaws
 pub mod StageLaws
 pub mod UnitAtLaws
@@ -42,11 +42,11 @@ pub mod PathLaws
 pub mod SlotLaws
 pub mod LookupLaws
 pub mod MachineOnce
-pub mod MachineParts
+mod MachineParts
 pub mod MachineHolds
-pub mod MachineSteps
+mod MachineSteps
 pub mod EachLaws
 pub mod JobFaults
-pub mod LevelLaws
-pub mod LevelSteps
+mod LevelLaws
+mod LevelSteps
 pub mod CoreRight

@@ -1,21 +1,21 @@
 pub mod EndLaws
-pub mod PassLaws
-pub mod JobLaws
+mod PassLaws
+mod JobLaws
 pub mod Lists
-pub mod Next
-pub mod Walks
-pub mod Given
-pub mod ScanJob
-pub mod LinkJob
+mod Next
+mod Walks
+mod Given
+mod ScanJob
+mod LinkJob
 pub mod RangeLoop
-pub mod Built
-pub mod MainJob
-pub mod Picks
-pub mod Owners
-pub mod NameJob
-pub mod Counts
-pub mod MergeJob
-pub mod Performs
-pub mod FileUnits
-pub mod FileEntries
-pub mod WriteJob
+mod Built
+mod MainJob
+mod Picks
+mod Owners
+mod NameJob
+mod Counts
+mod MergeJob
+mod Performs
+mod FileUnits
+mod FileEntries
+mod WriteJob

@@ -1,5 +1,5 @@
-pub mod CutLaws
-pub mod LastLaws
-pub mod LengthLaws
+mod CutLaws
+mod LastLaws
+mod LengthLaws
 pub mod ScopeLaws
 pub mod StayLaws

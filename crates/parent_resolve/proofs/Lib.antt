@@ -1,18 +1,18 @@
 pub mod Entries
-pub mod SignedLaws
+mod SignedLaws
 pub mod NodeLaws
-pub mod AdaLaws
-pub mod VisitLaws
-pub mod ChainLaws
-pub mod SignatureLaws
-pub mod FollowLaws
+mod AdaLaws
+mod VisitLaws
+mod ChainLaws
+mod SignatureLaws
+mod FollowLaws
 pub mod PathSteps
 pub mod Outwards
-pub mod Steps
-pub mod Lengths
-pub mod LinkParts
+mod Steps
+mod Lengths
+mod LinkParts
 pub mod KeptLaws
 pub mod NodeLinks
 pub mod RunLinks
-pub mod ComponentLaws
+mod ComponentLaws
 pub mod CutFile

@@ -1,7 +1,7 @@
 pub mod LinkLaws
-pub mod NameLaws
-pub mod AroundLaws
-pub mod Sides
-pub mod Mains
-pub mod EntryParts
+mod NameLaws
+mod AroundLaws
+mod Sides
+mod Mains
+mod EntryParts
 pub mod RunLaws

@@ -1,10 +1,10 @@
-pub mod FrontLaws
+mod FrontLaws
 pub mod ResultLaws
 pub mod TextOrder
-pub mod SortLaws
-pub mod GroupLaws
-pub mod PairLaws
-pub mod NamesLaws
-pub mod SearchLaws
+mod SortLaws
+mod GroupLaws
+mod PairLaws
+mod NamesLaws
+mod SearchLaws
 pub mod CountLaws
-pub mod PlainLaws
+mod PlainLaws

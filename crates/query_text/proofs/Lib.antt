@@ -1,18 +1,18 @@
-pub mod AnswerLaws
-pub mod BufferLaws
-pub mod DigitLaws
-pub mod EntryLaws
-pub mod GainLaws
-pub mod HexLaws
-pub mod LineLaws
+mod AnswerLaws
+mod BufferLaws
+mod DigitLaws
+mod EntryLaws
+mod GainLaws
+mod HexLaws
+mod LineLaws
 pub mod LongLines
-pub mod LookLaws
-pub mod NewlineLaws
+mod LookLaws
+mod NewlineLaws
 pub mod PlaceLaws
 pub mod SendingLaws
 pub mod SessionLaws
-pub mod ShortLines
-pub mod TextLaws
-pub mod ElementLaws
-pub mod TranscriptLaws
-pub mod HitLaws
+mod ShortLines
+mod TextLaws
+mod ElementLaws
+mod TranscriptLaws
+mod HitLaws

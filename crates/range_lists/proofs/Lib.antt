@@ -1,12 +1,12 @@
-pub mod Roots
-pub mod Reading
-pub mod Refusals
-pub mod Searching
-pub mod Walking
-pub mod Alike
-pub mod Filters
-pub mod Located
-pub mod NodeItems
-pub mod LinkedLaws
+mod Roots
+mod Reading
+mod Refusals
+mod Searching
+mod Walking
+mod Alike
+mod Filters
+mod Located
+mod NodeItems
+mod LinkedLaws
 pub mod Runs
-pub mod UnitRanges
+mod UnitRanges

@@ -1,25 +1,25 @@
-pub mod KeepLaws
-pub mod FoundLaws
-pub mod SpanSteps
-pub mod TokenSteps
-pub mod EntrySteps
-pub mod SpanEnds
-pub mod SpanPlaces
-pub mod OpenLaws
-pub mod FrameLaws
-pub mod NodeLaws
-pub mod UnitLaws
-pub mod ImportLaws
-pub mod UnitEnd
-pub mod RunLaws
-pub mod RunEnds
+mod KeepLaws
+mod FoundLaws
+mod SpanSteps
+mod TokenSteps
+mod EntrySteps
+mod SpanEnds
+mod SpanPlaces
+mod OpenLaws
+mod FrameLaws
+mod NodeLaws
+mod UnitLaws
+mod ImportLaws
+mod UnitEnd
+mod RunLaws
+mod RunEnds
 pub mod UnitPlaces
-pub mod OnePlace
-pub mod FoundNodes
-pub mod FoundSpans
-pub mod FoundPoints
-pub mod UnitNumbers
-pub mod FoundShards
-pub mod AgainLaws
-pub mod AgainUnits
+mod OnePlace
+mod FoundNodes
+mod FoundSpans
+mod FoundPoints
+mod UnitNumbers
+mod FoundShards
+mod AgainLaws
+mod AgainUnits
 pub mod WholeFile

@@ -1,10 +1,10 @@
 pub mod Stages
-pub mod Turns
-pub mod Shares
-pub mod Seats
-pub mod Steps
-pub mod TurnSteps
-pub mod Passes
-pub mod Starts
-pub mod FactsHold
-pub mod Closes
+mod Turns
+mod Shares
+mod Seats
+mod Steps
+mod TurnSteps
+mod Passes
+mod Starts
+mod FactsHold
+mod Closes
