@@ -12,7 +12,7 @@ use outside::{Failed, Shelf};
 use std::alloc::{AllocError, Global};
 
 /// Why a file wasn't read.
-#[derive(Clone, Copy, Debug, PartialEq, Eq)]
+#[derive(Clone, Copy)]
 pub enum ReadStop {
     /// A read failed.
     Fault,

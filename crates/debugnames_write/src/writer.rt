@@ -28,7 +28,7 @@ pub struct NameBytes {
 }
 
 /// Why there is no index.
-#[derive(Clone, Copy, Debug, PartialEq, Eq)]
+#[derive(Clone, Copy)]
 pub enum WriteStop {
     /// The index would have more than 4,294,967,283 bytes, or `.debug_str` with the added strings more than 4,294,967,295.
     TooLarge,

@@ -7,7 +7,7 @@ use ix_base::NoMemory;
 use std::alloc::{AllocError, AllocFailed};
 
 /// Why no index was written.
-#[derive(Clone, Copy, Debug, PartialEq, Eq)]
+#[derive(Clone, Copy)]
 pub enum WriteStop {
     /// The index would have more than 4,294,967,295 bytes, so that its offsets could not be written in 32 bits.
     TooLarge,

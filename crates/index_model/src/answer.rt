@@ -20,14 +20,14 @@ pub struct Main<'f> {
 }
 
 /// The main program, its name borrowed.
-#[derive(Clone, Copy, Debug, PartialEq, Eq)]
+#[derive(Clone, Copy)]
 pub struct MainName<'r> {
     pub language: u16,
     pub name: &'r [u8],
 }
 
 /// The length of the index in bytes, of `.debug_names` without the strings that it adds, or that its format can't hold it.
-#[derive(Clone, Copy, Debug, PartialEq, Eq)]
+#[derive(Clone, Copy)]
 pub enum CacheSize {
     Bytes(u64),
     TooLarge,

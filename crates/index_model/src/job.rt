@@ -27,7 +27,7 @@ pub enum Moment {
 }
 
 /// Which index the last job writes.
-#[derive(Clone, Copy, Debug, PartialEq, Eq)]
+#[derive(Clone, Copy)]
 pub enum CacheKind {
     /// `.gdb_index`, version 8 (GDB manual, "Index Section Format").
     Gdb8,

@@ -21,7 +21,7 @@ pub enum Parent {
 }
 
 /// What the rules ask of an entry.
-#[derive(Clone, Copy, Debug, PartialEq, Eq)]
+#[derive(Clone, Copy)]
 pub struct Facts {
     pub tag: u64,
     pub class: Class,

@@ -7,7 +7,7 @@
 use crate::list::List;
 
 /// What the root of a unit says of the whole unit (DWARF 5, section 3.1.1).
-#[derive(Clone, Copy, Debug, PartialEq, Eq)]
+#[derive(Clone, Copy)]
 pub struct Root {
     /// The language code, 0 where it is above 65,535. None where the root has no language attribute.
     pub language: Option<u16>,
@@ -21,7 +21,7 @@ pub struct Root {
 
 /// The reference that an entry's chain follows, as it stands in the entry: its specification, or else its abstract origin
 /// (DWARF 5, sections 2.13.2 and 3.3.8.1).
-#[derive(Clone, Copy, Debug, PartialEq, Eq)]
+#[derive(Clone, Copy)]
 pub struct Next {
     pub target: u64,
     /// Whether it counts from the unit's first byte, and not from that of `.debug_info`.
@@ -29,7 +29,7 @@ pub struct Next {
 }
 
 /// A number of an address attribute, as it stands in the entry (DWARF 5, section 2.17).
-#[derive(Clone, Copy, Debug, PartialEq, Eq)]
+#[derive(Clone, Copy)]
 pub enum Raw {
     /// An address.
     Address(u64),
@@ -44,7 +44,7 @@ pub enum Raw {
 }
 
 /// A root, or an entry that may be visited.
-#[derive(Clone, Copy, Debug, PartialEq, Eq)]
+#[derive(Clone, Copy)]
 pub struct Node<'f> {
     /// The unit's number in section order, counted from 0.
     pub unit: u32,
@@ -78,7 +78,7 @@ pub struct Node<'f> {
 }
 
 /// The bytes of the children of an entry.
-#[derive(Clone, Copy, Debug, PartialEq, Eq)]
+#[derive(Clone, Copy)]
 pub struct Span {
     /// The unit's number in section order, counted from 0.
     pub unit: u32,
@@ -93,7 +93,7 @@ pub struct Span {
 }
 
 /// An imported unit whose import lies in the unit or section that its form names (DWARF 5, section 3.2.5).
-#[derive(Clone, Copy, Debug, PartialEq, Eq)]
+#[derive(Clone, Copy)]
 pub struct Import {
     /// The number of the unit that imports, in section order and counted from 0.
     pub unit: u32,
@@ -116,7 +116,7 @@ pub struct Shard<'f> {
 }
 
 /// What its references say of an indexed entry.
-#[derive(Clone, Copy, Debug, PartialEq, Eq)]
+#[derive(Clone, Copy)]
 pub struct LinkedEntry<'f> {
     /// The joint offset of the entry.
     pub offset: u64,

@@ -12,14 +12,14 @@ use std::collections::BTreeMap;
 
 /// What a store that is to fail leaves of the name: what it held before, or so many of the new
 /// bytes.
-#[derive(Clone, Copy, Debug, PartialEq, Eq)]
+#[derive(Clone, Copy)]
 pub enum Leaves {
     Old,
     Prefix(u64),
 }
 
 /// A store that is to fail, by its number, and what it leaves.
-#[derive(Clone, Copy, Debug, PartialEq, Eq)]
+#[derive(Clone, Copy)]
 pub struct FailingStore {
     pub call: u64,
     pub leaves: Leaves,

@@ -12,7 +12,7 @@ use std::marker::Model;
 
 /// An output in memory. It keeps the bytes that it took, the numbers of the calls that are to fail,
 /// counted from 1, and how many bytes each call takes at most; calls past that list take all.
-#[derive(Debug, Drop)]
+#[derive(Drop)]
 pub struct MemSink {
     bytes: Vec<u8>,
     failing: Vec<u64>,

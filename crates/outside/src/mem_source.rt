@@ -13,7 +13,7 @@ use std::marker::Model;
 /// An input in memory. It keeps its bytes, the numbers of the calls that are to fail, counted from
 /// 1, and how many bytes each call gives at most, which is at least 1; calls past that list fill
 /// what they are given.
-#[derive(Debug, Drop)]
+#[derive(Drop)]
 pub struct MemSource {
     bytes: Vec<u8>,
     taken: usize,

@@ -21,7 +21,7 @@ pub enum GateEvent {
 }
 
 /// One event is held until another has come.
-#[derive(Clone, Copy, Debug, PartialEq, Eq)]
+#[derive(Clone, Copy)]
 pub struct Hold {
     pub held: GateEvent,
     pub until: GateEvent,

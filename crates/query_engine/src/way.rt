@@ -6,7 +6,7 @@ ghost use Rattle.query_engine.specs.Asked.{is_counted, text_of};
 use index_model::Entry;
 
 /// The way in which entries are asked for.
-#[derive(Clone, Copy, Debug, PartialEq, Eq)]
+#[derive(Clone, Copy)]
 pub(crate) enum Way {
     ByName,
     BySimple,

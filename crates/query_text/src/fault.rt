@@ -1,7 +1,7 @@
 //! Why a session ends before its input does.
 
 /// Why a session ended before its input did.
-#[derive(Clone, Copy, Debug, PartialEq, Eq)]
+#[derive(Clone, Copy)]
 pub enum SessionFault {
     /// The input failed.
     ReadFault,

@@ -15,7 +15,7 @@ use outside::{Failed, Sink, write_all};
 use query_text::SessionFault;
 
 /// What became of a session.
-#[derive(Clone, Copy, PartialEq, Eq)]
+#[derive(Clone, Copy)]
 pub(crate) enum Fate {
     /// It answered the whole script.
     Whole,
@@ -79,13 +79,13 @@ fn any_long(runners: &[Runner<'_, '_>]) -> bool
 fn is_lost(session: &Session) -> bool
     ensures { result ≡ is_lost (fate_of session.now.ended) }
 {
-    fate_of(session.ended) == Fate::Lost
+    matches!(fate_of(session.ended), Fate::Lost)
 }
 
 fn is_long(session: &Session) -> bool
     ensures { result ≡ is_long (fate_of session.now.ended) }
 {
-    fate_of(session.ended) == Fate::Long
+    matches!(fate_of(session.ended), Fate::Long)
 }
 
 fn fate_of(ended: Result<(), SessionFault>) -> Fate
