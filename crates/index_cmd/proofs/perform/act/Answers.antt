@@ -1,4 +1,4 @@
-use Rattle.std.proofs.Common.{◌≡◌, Some, sym, subst}
+use Rattle.std.proofs.Common.{Some, sym, subst}
 use Rattle.outside.specs.Counts.{Rose}
 use Rattle.session_commands.specs.Heard.{heard}
 use Rattle.index_cmd.specs.Doings.{Does}

@@ -1,4 +1,4 @@
-use Rattle.std.proofs.Common.{◌≡◌, Option, Some, refl, sym, subst, ◌∙◌}
+use Rattle.std.proofs.Common.{◌≡◌, Option, Some, sym, subst, ◌∙◌}
 use Rattle.outside.specs.Counts.{Rose}
 use Rattle.command_words.specs.SeenWords.{seen_command, words_of}
 use Rattle.session_commands.specs.Heard.{heard}
