@@ -1,6 +1,6 @@
 -- The sections of an ELF file of 64 bits (System V gABI, chapters 4 and 5).
-use Rattle.std.specs.Prelude.{ℕ, zero, suc, ◌+◌, ◌*◌, ◌-◌, Bool, not, ◌&&◌, ◌||◌, nat_lt, nat_le, nat_eq, bit_and, ◌==◌, if◌then◌else◌, List, [], ◌∷◌, length, take, drop, bytes_eq, codes, find, Result, Ok, unwrap_or, option_map}
-use Rattle.std.specs.List.{starts_with}
+use Rattle.std.specs.Prelude.{ℕ, zero, suc, ◌+◌, ◌*◌, ◌-◌, Bool, not, ◌&&◌, ◌||◌, nat_lt, nat_le, nat_eq, bit_and, ◌==◌, if◌then◌else◌, List, [], ◌∷◌, length, take, drop, bytes_eq, codes, find, Option, Result, Ok, unwrap_or, option_map}
+use Rattle.std.specs.List.{enumerate_from, starts_with}
 use Rattle.byteorder.specs.Endian.{little_number}
 use Rattle.ix_base.specs.declared.fault.Fault.{Fault}
 use Rattle.ix_base.specs.declared.code.TheConstants.{NOT_ELF, ELF_KIND, SECTION_TABLE, COMPRESSED, NO_DEBUG_INFO}
@@ -110,6 +110,10 @@ none_compressed i (s ∷ ss) = holds_or (not (is_compressed s)) (fault COMPRESSE
 -- the bytes of the first section of this name; none, where there is no such section
 abbrev pub section_bytes : List Section → List ℕ → List ℕ
 section_bytes ss name = unwrap_or (option_map (λ s. s.content) (find (λ s. bytes_eq s.name name) ss)) []
+
+-- The index of the first section of this name, if there is one. Section 0 has no name.
+abbrev pub index_named : List Section → List ℕ → Option ℕ
+index_named ss name = option_map (λ e. e.0) (find (λ e. bytes_eq e.1.name name) (enumerate_from 1 ss))
 
 -- ---- the file
 
