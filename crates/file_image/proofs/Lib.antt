@@ -1,5 +1,6 @@
 mod Tables
 mod Named
+mod NamedPlaces
 mod Fronts
 mod CompressedLaws
 mod Opened

@@ -1,11 +1,39 @@
 -- The headers of sections, and the table of them.
-use Rattle.std.specs.Prelude.{◌≡◌, ◌+◌, ◌≤◌, ◌<◌, ℕ, List, length, drop, Ok, Err}
+use Rattle.std.specs.Prelude.{◌≡◌, ◌+◌, ◌*◌, ◌≤◌, ◌<◌, ℕ, List, length, drop, Result, Ok, Err}
+use Rattle.ix_base.specs.declared.fault.Fault.{Fault}
+use Rattle.ix_base.specs.declared.limits.TheConstants.{MAX_FILE_BYTES}
 use Rattle.ix_base.specs.declared.code.TheConstants.{SECTION_TABLE}
-use Rattle.index_model.specs.Meaning.{fault}
-use Rattle.index_model.specs.Sections.{Header as SectionHeader, field, table_at, section_count, names as names_of, table_fits}
+use Rattle.index_model.specs.Meaning.{◌>>=◌, ◌>>◌, fault}
+use Rattle.index_model.specs.Sections.{Header as SectionHeader, bytes_from, field, ident, table_at, section_count, names as names_of, table_fits}
 use Rattle.file_image.specs.declared.section_header.Header.{Header}
 
--- what the header says
+-- the section header in 64 bytes, each field in its order (System V gABI, chapter 4, "Sections", Elf64_Shdr)
+unfoldable pub section_header : List ℕ → Header
+section_header bytes = record {
+  name = field 4 0 bytes;
+  kind = field 4 4 bytes;
+  flags = field 8 8 bytes;
+  address = field 8 16 bytes;
+  at = field 8 24 bytes;
+  size = field 8 32 bytes;
+  link = field 4 40 bytes;
+  info = field 4 44 bytes;
+  alignment = field 8 48 bytes;
+  entry_size = field 8 56 bytes;
+}
+
+-- the header of the section with this index
+abbrev pub section_header_at : List ℕ → ℕ → Header
+section_header_at file i = section_header (bytes_from (table_at file + 64 * i) 64 file)
+
+-- a program file whose table of section headers lies in it, or its first fault so far
+unfoldable pub with_table : List ℕ → Result (List ℕ) Fault
+with_table file = do
+  ident file
+  table_fits file
+  Ok file
+
+-- what readers of sections ask of the header
 abbrev pub header_of : Header → SectionHeader
 header_of h = record { name = h.name; kind = h.kind; flags = h.flags; at = h.at; size = h.size; link = h.link }
 
@@ -27,3 +55,10 @@ pub record IsTable (file bytes : List ℕ) (n : ℕ) (text : List ℕ) : Type 0 
   pub headers : bytes ≡ drop (table_at file) file
   pub count : n ≡ section_count file
   pub names : text ≡ names_of file
+
+-- the same, in a file within the limit that has an ELF header
+pub record IsTableOf (file bytes : List ℕ) (n : ℕ) (text : List ℕ) : Type 0 where
+  pub long : 64 ≤ length file
+  pub table : IsTable file bytes n text
+  pub whole : 64 * n ≤ length bytes
+  pub small : length file ≤ MAX_FILE_BYTES

@@ -4,7 +4,7 @@ ghost use Rattle.std.specs.Prelude.{◌≡◌, ◌≤◌, ◌<◌, ◌-◌, leng
 ghost use Rattle.std.specs.Option.{option_copied};
 ghost use Rattle.ix_base.specs.declared.code.TheConstants.{SECTION_TABLE};
 ghost use Rattle.index_model.specs.Gives.{GivesAlways, Gives};
-ghost use Rattle.index_model.specs.Sections.{section_from, sections_from, header_at, headers_from};
+ghost use Rattle.index_model.specs.Sections.{section_from, sections_from, header_at, headers_from, index_named as index_of};
 ghost use Rattle.file_image.specs.Found.{section, AreSmall};
 ghost use Rattle.file_image.specs.Headers.{IsTable};
 
@@ -76,4 +76,16 @@ pub(crate) fn first_named<'a, 'f>(found: &'a [Found<'f>], name: &[u8]) -> Option
     ensures { option_copied result ≡ find (λ f. bytes_eq f.name.now name.now) found.now }
 {
     found.iter().find(|section| section.name == name)
+}
+
+/// The index of the first section of a name, counted from 1.
+pub(crate) fn index_named(found: &[Found<'_>], name: &[u8]) -> Option<usize>
+    ensures { result ≡ index_of (map section found.now) name.now }
+{
+    for (index, section) in found.iter().enumerate() {
+        if section.name == name {
+            return Some(index + 1);
+        }
+    }
+    None
 }

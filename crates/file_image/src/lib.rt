@@ -11,6 +11,7 @@ mod found;
 mod ident;
 mod image;
 mod section_header;
+mod section_table;
 mod sections;
 mod strings;
 mod table;
@@ -18,6 +19,8 @@ mod tile;
 mod unit_header;
 
 pub use image::Image;
+pub use section_header::Header;
+pub use section_table::SectionTable;
 pub use sections::Sections;
 pub use strings::text;
 pub use tile::units;

@@ -2,10 +2,10 @@
 
 ghost use Rattle.std.specs.Prelude.{◌≡◌, ◌≤◌, length};
 ghost use Rattle.index_model.specs.Gives.{Gives};
-ghost use Rattle.index_model.specs.Sections.{section_bytes, sections_of};
+ghost use Rattle.index_model.specs.Sections.{index_named, section_bytes, sections_of};
 
 use crate::compressed::check_compressed;
-use crate::found::{Found, first_named, sections_of_table, table_fault};
+use crate::found::{Found, first_named, index_named, sections_of_table, table_fault};
 use crate::ident::check_ident;
 use crate::table::Table;
 use ix_base::{Fault, MAX_FILE_BYTES, Stop, code};
@@ -64,5 +64,13 @@ impl<'f> Sections<'f> {
             Some(section) => section.content,
             None => &[],
         }
+    }
+
+    /// The index of the first section of this name among all headers, of which that of section 0 is the first; None where there
+    /// is no such section.
+    pub fn index_of(&self, name: &[u8]) -> Option<usize>
+        ensures { result ≡ index_named self.now name.now }
+    {
+        index_named(&self.found, name)
     }
 }

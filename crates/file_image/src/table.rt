@@ -3,7 +3,7 @@
 ghost use Rattle.std.specs.Prelude.{◌≡◌, ◌≤◌, ◌<◌, ◌*◌, ◌+◌, length, take, drop, true, false, MatchOption, Some, None};
 ghost use Rattle.ix_base.specs.Reading.{before_zero};
 ghost use Rattle.index_model.specs.Sections.{header, header_at, section_count as count_of, names_index, names, names_fit, table_at, field};
-ghost use Rattle.file_image.specs.Headers.{header_of, IsRefused, HasHeaders, IsTable};
+ghost use Rattle.file_image.specs.Headers.{header_of, section_header, IsRefused, HasHeaders, IsTable};
 
 use crate::section_header::{Header, SECTION_HEADER_LENGTH};
 use byteorder::{ByteOrder, LittleEndian};
@@ -49,7 +49,8 @@ impl<'f> Table<'f> {
     /// The header of a section.
     pub(crate) fn header(&self, index: usize) -> Header
         requires { index < self.now.count }
-        ensures { header_of result ≡ header (take 64 (drop (64 * index) self.now.headers.now)) }
+        ensures own { header_of result ≡ header (take 64 (drop (64 * index) self.now.headers.now)) }
+        ensures whole { result ≡ section_header (take 64 (drop (64 * index) self.now.headers.now)) }
     {
         header_in(self.headers, index)
     }
@@ -103,7 +104,8 @@ fn header_length(file: &[u8]) -> usize
 // The header of a section in the table.
 fn header_in(headers: &[u8], index: usize) -> Header
     requires { 64 * index + 64 ≤ length headers.now }
-    ensures { header_of result ≡ header (take 64 (drop (64 * index) headers.now)) }
+    ensures own { header_of result ≡ header (take 64 (drop (64 * index) headers.now)) }
+    ensures whole { result ≡ section_header (take 64 (drop (64 * index) headers.now)) }
 {
     let at = SECTION_HEADER_LENGTH * index;
     Header::read(&headers[at..at + SECTION_HEADER_LENGTH])
@@ -127,7 +129,7 @@ fn section_count(file: &[u8], first: &Header) -> u64
 
 // The index of the section that holds the names. Where the field is FFFF, the link of section 0 says it.
 #[tactic(auto, unfolding(index_model::specs::Sections::names_index, index_model::specs::Sections::field))]
-fn index_of_names(file: &[u8], first: &Header) -> u32
+pub(crate) fn index_of_names(file: &[u8], first: &Header) -> u32
     requires long { 64 ≤ length file.now }
     requires first { header_of first.now ≡ header_at file.now 0 }
     ensures { result ≡ names_index file.now }

@@ -5,10 +5,10 @@ use Rattle.file_image.proofs.table.Table.open.Goals as goal
 use Rattle.file_image.proofs.table.Table.open.Goals.{then-count-headers-via-then-count-headers, then-count-headers-via-else-count-headers+then-from-count}
 
 pub section_count-count-requires-clause-first : goal.section_count-count-requires-clause-first
-section_count-count-requires-clause-first c = c.header_in-first.ensures ∙ header_in_table c.args.file.now c.in_ok-headers.headers.now 0 c.in_ok-headers.ensures.bytes
+section_count-count-requires-clause-first c = c.header_in-first.ensures.own ∙ header_in_table c.args.file.now c.in_ok-headers.headers.now 0 c.in_ok-headers.ensures.bytes
 
 pub index_of_names-index-requires-clause-first : goal.index_of_names-index-requires-clause-first
-index_of_names-index-requires-clause-first c = c.header_in-first.ensures ∙ header_in_table c.args.file.now c.in_ok-headers.headers.now 0 c.in_ok-headers.ensures.bytes
+index_of_names-index-requires-clause-first c = c.header_in-first.ensures.own ∙ header_in_table c.args.file.now c.in_ok-headers.headers.now 0 c.in_ok-headers.ensures.bytes
 
 pub returns-then-count-headers : goal.returns-then-count-headers
 returns-then-count-headers c =
