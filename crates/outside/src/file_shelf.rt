@@ -2,6 +2,7 @@
 
 ghost use Rattle.std.specs.Prelude.{◌≡◌, ◌≤◌, None, length, drop, IfOk};
 
+use crate::replace::replace;
 use crate::shelf::{Failed, Shelf};
 use std::alloc::{AllocError, Global};
 use std::io::{Read, Seek, SeekFrom};
@@ -20,7 +21,8 @@ struct Opened<R: Files> {
 }
 
 /// The files of the system, by their paths. It keeps the file that it read last open, so that
-/// reading a file in pieces opens it once. It tells nothing of what the files hold.
+/// reading a file in pieces opens it once. A store makes a new file, which takes the old one's
+/// place once it is whole. It tells nothing of what the files hold.
 #[derive(Drop)]
 pub struct FileShelf<R: Files> {
     files: R,
@@ -107,7 +109,7 @@ impl<R: Files + Drop> Shelf for FileShelf<R> {
 
     fn store(&mut self, name: &str, bytes: &[u8]) -> Result<(), Failed> {
         self.opened = None;
-        match fs::write(&self.files, name, bytes) {
+        match replace(&self.files, self.alloc, name, bytes) {
             Ok(()) => Ok(()),
             Err(_) => {
                 self.store_faults = self.store_faults.saturating_add(1);

@@ -11,6 +11,7 @@ mod gate;
 mod mem_shelf;
 mod mem_sink;
 mod mem_source;
+mod replace;
 mod shelf;
 mod sink;
 mod source;

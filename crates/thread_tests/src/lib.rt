@@ -14,3 +14,5 @@ mod gates;
 mod locks;
 #[cfg(test)]
 mod streams;
+#[cfg(test)]
+mod replaced;
