@@ -1,5 +1,5 @@
 -- The law of sections that grow, as a statement: what stands behind the bytes that a program reads changes nothing of what it means.
-use Rattle.std.specs.Prelude.{◌≡◌, ◌×◌, ℕ, List, ◌++◌, codes, Ok}
+use Rattle.std.specs.Prelude.{◌≡◌, ℕ, List, ◌++◌, codes, Ok}
 use Rattle.index_model.specs.declared.answer.CacheSize.{CacheSize}
 use Rattle.index_model.specs.declared.job.CacheKind.TheVariants.{Gdb8, Gdb9}
 use Rattle.index_model.specs.Sections.{Section, section_bytes, sections_of}

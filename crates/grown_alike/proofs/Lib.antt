@@ -1,0 +1,4 @@
+pub mod Kept
+pub mod Behind
+pub mod Lebs
+pub mod Tables

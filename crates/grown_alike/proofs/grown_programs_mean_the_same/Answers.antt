@@ -1,0 +1,8 @@
+use Rattle.grown_alike.proofs.Tables.{table_stays}
+use Rattle.grown_alike.proofs.Lebs.{uleb_stays}
+use Rattle.grown_alike.proofs.Behind.{grown}
+use Rattle.grown_alike.proofs.Kept.{Keeps}
+use Rattle.grown_alike.proofs.grown_programs_mean_the_same.Goals as goal
+
+pub returns : goal.returns
+returns c = ?
