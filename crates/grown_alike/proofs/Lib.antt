@@ -2,3 +2,8 @@ pub mod Kept
 pub mod Behind
 pub mod Lebs
 pub mod Tables
+pub mod SameUnits
+pub mod Texts
+pub mod Gathered
+pub mod Scanned
+pub mod Known

@@ -1,3 +1,7 @@
+use Rattle.grown_alike.proofs.Known.{scope_known}
+use Rattle.grown_alike.proofs.Scanned.{same_name}
+use Rattle.grown_alike.proofs.Texts.{texts_keep}
+use Rattle.grown_alike.proofs.SameUnits.{same_units}
 use Rattle.grown_alike.proofs.Tables.{table_stays}
 use Rattle.grown_alike.proofs.Lebs.{uleb_stays}
 use Rattle.grown_alike.proofs.Behind.{grown}
