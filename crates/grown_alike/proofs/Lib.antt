@@ -7,3 +7,5 @@ pub mod Texts
 pub mod Gathered
 pub mod Scanned
 pub mod Known
+pub mod Chains
+pub mod Paths

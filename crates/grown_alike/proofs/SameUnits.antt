@@ -24,6 +24,10 @@ use Rattle.grown_alike.specs.Grown.{Grows}
 use Rattle.grown_alike.proofs.Kept.{SomeStays, Keeps, keeps_then, keeps_itself, read_stays}
 use Rattle.grown_alike.proofs.Tables.{table_stays}
 
+-- the program with these walks
+abbrev pub with_walks : List Section → List Walked → Program
+with_walks ss ws = record { sections = ss; walks = ws }
+
 module _ (first second : List Section) (grows : Grows first second) where
   pub same_units : units_of second ≡ units_of first
   unfolding units_of
@@ -53,12 +57,11 @@ module _ (first second : List Section) (grows : Grows first second) where
   same_imports w = λ i. filter_map (λ (d : Item). option_and_then (λ (r : Reference). same_target w r i) (import_of d)) (filter (λ d. eqb d.tag imported_unit) (items_of w))
 
   module _ (ws : List Walked) where
-    -- the programs with these walks
     abbrev before : Program
-    before = record { sections = first; walks = ws }
+    before = with_walks first ws
 
     abbrev after : Program
-    after = record { sections = second; walks = ws }
+    after = with_walks second ws
 
     same_importing : (o : ℕ) → importing_language after o ≡ importing_language before o
     unfolding importing_language

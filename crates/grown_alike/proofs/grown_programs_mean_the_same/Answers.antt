@@ -1,3 +1,4 @@
+use Rattle.grown_alike.proofs.Paths.{scope_path_keeps}
 use Rattle.grown_alike.proofs.Known.{scope_known}
 use Rattle.grown_alike.proofs.Scanned.{same_name}
 use Rattle.grown_alike.proofs.Texts.{texts_keep}
