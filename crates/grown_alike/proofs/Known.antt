@@ -32,6 +32,13 @@ module _ {X E : Type 0} (P : X → Type 0) where
   pub only_then : {Z : Type 0} (Q : Z → Type 0) (r : Result X E) (f : X → Result Z E) → Only P r → ((x : X) → P x → Only Q (f x)) → Only Q (r >>= f)
   only_then Q r f h k = record { only = λ z is. let b = bind_ok r f z is in (k b.0 (h.only b.0 b.1)).only z b.2 }
 
+-- nothing is said of the value
+abbrev pub Any : {X : Type 0} → X → Type 0
+Any x = Unit {0}
+
+pub only_any : {X E : Type 0} (r : Result X E) → Only Any r
+only_any r = record { only = λ x is. tt }
+
 -- ---- entries
 
 module _ (p : Program) where

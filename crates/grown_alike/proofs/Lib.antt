@@ -9,3 +9,5 @@ pub mod Scanned
 pub mod Known
 pub mod Chains
 pub mod Paths
+pub mod LinksStay
+pub mod ListReads

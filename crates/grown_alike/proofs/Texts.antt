@@ -19,13 +19,13 @@ unfolding string_at
 string_keeps bytes more place =
     keeps_then _ _ bounded bounded (read_stays (λ (t : List ℕ). t) BAD_STRING (before_zero (drop place bytes)) (before_zero (drop place (bytes ++ more))) (text_stays bytes more place)) (λ s _. keeps_itself (bounded s))
 
--- an offset at a place of a section that grows, without what stands behind it
-pub offset_keeps : (bytes more : List ℕ) (code : ℕ) (wide : Bool) (place : ℕ) → Keeps (some_or (offset wide (input bytes place)) code >>= λ o. Ok o.0) (some_or (offset wide (input (bytes ++ more) place)) code >>= λ o. Ok o.0)
-offset_keeps bytes more code wide place =
+-- what is made of an offset at a place of a section that grows
+pub offset_keeps : (bytes more : List ℕ) (code : ℕ) (wide : Bool) (place : ℕ) (make : ℕ → ℕ) → Keeps (some_or (offset wide (input bytes place)) code >>= λ o. Ok (make o.0)) (some_or (offset wide (input (bytes ++ more) place)) code >>= λ o. Ok (make o.0))
+offset_keeps bytes more code wide place make =
     let g = input_grown bytes more place in
     let here = input bytes place in
     let stays : SomeStays (onwards g.0) (offset wide here) (offset wide (input (bytes ++ more) place)) = subst (λ (i : Input). SomeStays (onwards g.0) (offset wide here) (offset wide i)) (sym g.1) (offset_stays wide g.0 here) in
-    stays_then (onwards g.0) (λ (o : ℕ). o) _ _ _ _ (read_stays (onwards g.0) code (offset wide here) (offset wide (input (bytes ++ more) place)) stays) (λ o _. keeps_itself (Ok o.0))
+    stays_then (onwards g.0) (λ (o : ℕ). o) _ _ _ _ (read_stays (onwards g.0) code (offset wide here) (offset wide (input (bytes ++ more) place)) stays) (λ o _. keeps_itself (Ok (make o.0)))
 
 module _ (first second : List Section) (grows : Grows first second) where
   -- what stays where any bytes stand behind a section stays in both files
@@ -41,7 +41,7 @@ module _ (first second : List Section) (grows : Grows first second) where
   unfolding str_offset
   str_offset_keeps base wide n =
       keeps_then (some_or base NO_BASE) (some_or base NO_BASE) _ _ (keeps_itself (some_or base NO_BASE)) (λ b _.
-      in_section (codes ".debug_str_offsets") (λ bytes. some_or (offset wide (input bytes (b + offset_size wide * n))) BAD_STRING >>= λ o. Ok o.0) (λ bytes more. offset_keeps bytes more BAD_STRING wide (b + offset_size wide * n)))
+      in_section (codes ".debug_str_offsets") (λ bytes. some_or (offset wide (input bytes (b + offset_size wide * n))) BAD_STRING >>= λ o. Ok o.0) (λ bytes more. offset_keeps bytes more BAD_STRING wide (b + offset_size wide * n) (λ o. o)))
 
   text_keeps : (base : Option ℕ) (wide : Bool) (v : Value) → Keeps (text_of first base wide v) (text_of second base wide v)
   unfolding text_of

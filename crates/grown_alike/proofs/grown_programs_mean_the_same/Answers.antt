@@ -1,3 +1,5 @@
+use Rattle.grown_alike.proofs.ListReads.{list_keeps}
+use Rattle.grown_alike.proofs.LinksStay.{same_main}
 use Rattle.grown_alike.proofs.Paths.{scope_path_keeps}
 use Rattle.grown_alike.proofs.Known.{scope_known}
 use Rattle.grown_alike.proofs.Scanned.{same_name}
