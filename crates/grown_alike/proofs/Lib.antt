@@ -11,3 +11,5 @@ pub mod Chains
 pub mod Paths
 pub mod LinksStay
 pub mod ListReads
+pub mod RangesStay
+pub mod Whole
