@@ -1,5 +1,5 @@
 -- Chains of references are the same, and the names that the file spells stay.
-use Rattle.std.proofs.Common.{◌≡◌, ℕ, zero, suc, true, ◌&&◌, eqb, List, [], ◌∷◌, find, Option, Some, None, Result, Ok, Err, refl, ap, ◌∙◌}
+use Rattle.std.proofs.Common.{◌≡◌, ℕ, zero, suc, true, ◌&&◌, eqb, List, [], ◌∷◌, find, Option, Some, Result, Ok, Err, refl, ap, ◌∙◌}
 use Rattle.std.specs.Prelude.{filter_map, option_and_then}
 use Rattle.std.specs.List.{cons_option}
 use Rattle.ix_base.specs.declared.code.TheConstants.{BAD_REFERENCE, REFERENCE_CHAIN}
@@ -16,7 +16,7 @@ use Rattle.index_model.specs.Faults.{scan_of}
 use Rattle.grown_alike.specs.Grown.{Grows}
 use Rattle.grown_alike.proofs.Kept.{Keeps, keeps_itself, keeps_then, keeps_if_some, keeps_else}
 use Rattle.grown_alike.proofs.SameUnits.{with_walks, same_target}
-use Rattle.grown_alike.proofs.Scanned.{IsKnown, same_name, same_linkage_name}
+use Rattle.grown_alike.proofs.Scanned.{same_name, same_linkage_name}
 use Rattle.grown_alike.proofs.Known.{AreKnown, named_known}
 
 module _ (first second : List Section) (grows : Grows first second) (us : List UnitHeader) (ws : List Walked) (scan : scan_of first us ≡ Ok ws) where
@@ -75,9 +75,11 @@ module _ (first second : List Section) (grows : Grows first second) (us : List U
   unfolding spelled_name
   spelled_keeps d chain all =
       let here = first_of (filter_map (own_name first) chain) in
-      record { on = λ name is.
-        ap (λ (names : List (List ℕ)). some_else (first_of names) (name_by_signature after d)) (same_names chain all)
-        ∙ (keeps_else here (name_by_signature before d) (name_by_signature after d) (by_signature_keeps d)).on name is }
+      record {
+        on = λ name is.
+            ap (λ (names : List (List ℕ)). some_else (first_of names) (name_by_signature after d)) (same_names chain all)
+            ∙ (keeps_else here (name_by_signature before d) (name_by_signature after d) (by_signature_keeps d)).on name is;
+      }
 
   pub name_keeps : (d : Located) (chain : List Located) → AreKnown before chain → Keeps (name_of before d chain) (name_of after d chain)
   unfolding name_of

@@ -2,7 +2,6 @@
 use Rattle.std.proofs.Common.{◌≡◌, ℕ, Bool, true, false, cond, List, [], ◌∷◌, Option, Some, None, Result, Ok, Err, refl, ap, ◌∙◌}
 use Rattle.std.specs.Prelude.{Contains}
 use Rattle.common_laws.proofs.Members.{contains_here, contains_later}
-use Rattle.ix_base.specs.declared.fault.Fault.{Fault}
 use Rattle.ix_base.specs.Reading.{◌>>=◌ as ◌>>=?◌}
 use Rattle.index_model.specs.Meaning.{◌>>=◌, ◌>>◌, some_or, at_place, each, if_some, some_else}
 use Rattle.index_model.proofs.Meanings.{bind_ok, bind_some, at_place_ok, same_ok}

@@ -1,5 +1,5 @@
 -- What references lead to, and what scopes stand around it, are entries of the walks.
-use Rattle.std.proofs.Common.{◌≡◌, ℕ, zero, suc, ◌+◌, Bool, ◌&&◌, ltb, eqb, List, [], ◌∷◌, filter, flat_map, Option, Some, None, Result, Ok, Err, refl, sym, ap, subst, ◌∙◌, arith, inl, inr, ⊎_elim}
+use Rattle.std.proofs.Common.{◌≡◌, ℕ, zero, suc, ◌+◌, Bool, ◌&&◌, ltb, eqb, List, [], ◌∷◌, filter, flat_map, Option, Some, None, Result, Ok, Err, refl, sym, subst, inl, inr, ⊎_elim}
 use Rattle.std.specs.Prelude.{Contains, option_map, option_and_then}
 use Rattle.std.specs.List.{last_or}
 use mathlib.Core.Logic.{◌⊎◌}
@@ -109,9 +109,9 @@ module _ (p : Program) where
   parent_known ds d e is =
       let above : Item → Bool = λ (x : Item). ltb x.at d.at && eqb (x.depth + 1) d.depth in
       ⊎_elim
-        (λ (none : None ≡ Some e). absurd cc)
-        (λ (c : Contains (filter above ds) e). (of_filter above ds e c).0)
-        (last_known None (filter above ds) e is)
+      (λ (none : None ≡ Some e). absurd cc)
+      (λ (c : Contains (filter above ds) e). (of_filter above ds e c).0)
+      (last_known None (filter above ds) e is)
 
   pub scope_known : (e m : Located) → known e → scope_around e ≡ Some m → known m
   scope_known e m k is = by (parent_of (items_of e.home) e.item) refl is

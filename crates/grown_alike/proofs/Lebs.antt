@@ -1,81 +1,57 @@
 -- LEB numbers are read as before where more bytes follow.
-use Rattle.std.proofs.Common.{◌≡◌, ℕ, ◌+◌, ◌-◌, ◌*◌, ◌^◌, ◌≤◌, ℤ, pos, ◌+ℤ◌, ◌*ℤ◌, ◌-ℤ◌, Bool, true, false, cond, ltb, List, [], ◌∷◌, ◌++◌, length, Option, Some, None, refl, ap, ◌∙◌, arith}
+use Rattle.std.proofs.Common.{◌≡◌, ℕ, ◌+◌, ◌-◌, ◌*◌, ◌^◌, ◌≤◌, pos, ◌+ℤ◌, ◌*ℤ◌, ◌-ℤ◌, Bool, true, false, cond, ltb, List, [], ◌∷◌, ◌++◌, length, Option, Some, None, refl, sym, ap, subst, ◌∙◌, arith}
 use Rattle.std.proofs.lemmas.Option.{cond_some, same_Some}
 use Rattle.ix_base.specs.Reading.{Input, ◌>>=◌, past, unsigned_leb, uleb, signed_leb, is_in_64, sleb}
 use Rattle.index_model.proofs.Meanings.{bind_some}
-use Rattle.grown_alike.proofs.Kept.{SomeStays}
+use Rattle.grown_alike.proofs.Kept.{SomeStays, some_stays, some_then}
 use Rattle.grown_alike.proofs.Behind.{grown, onwards, past_grown}
 
--- the number, read within the bytes, is that of more bytes too
-record Within {A : Type 0} (read : List ℕ → Option (A × ℕ)) (bs : List ℕ) (x : A × ℕ) (more : List ℕ) : Type 0 where
-  inside : x.1 ≤ length bs
-  same : read (bs ++ more) ≡ Some x
+-- the number that begins with a byte: it is the last one, or others follow
+abbrev begins : {A : Type 0} → (ℕ → A) → (ℕ → A → A) → ℕ → Bool → Option (A × ℕ) → Option (A × ℕ)
+begins last join b is_last others = cond is_last (Some (last b, 1)) (others >>= λ high. Some (join b high.0, high.1 + 1))
 
-abbrev given : {A : Type 0} → A × ℕ → Option (A × ℕ)
-given x = Some x
+-- a reader of numbers, byte by byte
+module _ {A : Type 0} (read : List ℕ → Option (A × ℕ)) (last : ℕ → A) (join : ℕ → A → A) (none : read [] ≡ None) (some : (b : ℕ) (bs : List ℕ) → read (b ∷ bs) ≡ begins last join b (ltb b 128) (read bs)) (more : List ℕ) where
+  -- the number stands within the bytes, and is that of more bytes too
+  abbrev Within : List ℕ → A × ℕ → Type 0
+  Within bs x = (x.1 ≤ length bs) × (read (bs ++ more) ≡ Some x)
 
--- ---- without a sign
+  within : (bs : List ℕ) (x : A × ℕ) → read bs ≡ Some x → Within bs x
+  within [] x is = let never : None ≡ Some x = sym none ∙ is in absurd cc
+  within (b ∷ bs) x is = by (within bs) (ltb b 128) refl (sym (some b bs) ∙ is)
+    where
+      by : ((y : A × ℕ) → read bs ≡ Some y → Within bs y) → (t : Bool) → ltb b 128 ≡ t → begins last join b t (read bs) ≡ Some x → Within (b ∷ bs) x
+      by rest true e h = (
+        omega (arith, ap (λ (y : A × ℕ). y.1) (same_Some (last b, 1) x h)),
+        some b (bs ++ more) ∙ ap (λ (t : Bool). begins last join b t (read (bs ++ more))) e ∙ h,
+      )
+      by rest false e h =
+          let high = bind_some (read bs) (λ high. Some (join b high.0, high.1 + 1)) x h in
+          let w = rest high.0 high.1 in (
+            omega (arith, w.0, ap (λ (y : A × ℕ). y.1) (same_Some (join b high.0.0, high.0.1 + 1) x high.2)),
+            some b (bs ++ more) ∙ ap (λ (t : Bool). begins last join b t (read (bs ++ more))) e ∙ ap (begins last join b false) w.1 ∙ high.2,
+          )
 
-unsigned_within : (bs more : List ℕ) (x : ℕ × ℕ) → unsigned_leb bs ≡ Some x → Within unsigned_leb bs x more
-unfolding unsigned_leb
-unsigned_within [] more x is = absurd cc
-unsigned_within (b ∷ bs) more x is = by (unsigned_within bs more) (ltb b 128) refl is
-  where
-    by : ((h : ℕ × ℕ) → unsigned_leb bs ≡ Some h → Within unsigned_leb bs h more) → (t : Bool) → ltb b 128 ≡ t → cond t (given (b, 1)) (unsigned_leb bs >>= λ high. Some (b - 128 + 128 * high.0, high.1 + 1)) ≡ Some x → Within unsigned_leb (b ∷ bs) x more
-    by rest true e is = record {
-      inside = omega (arith, ap (λ (y : ℕ × ℕ). y.1) (same_Some (b, 1) x is));
-      same = rw e is;
-    }
-    by rest false e is =
-        let h = bind_some (unsigned_leb bs) (λ high. Some (b - 128 + 128 * high.0, high.1 + 1)) x is in
-        let w = rest h.0 h.1 in
-        let last = same_Some (b - 128 + 128 * h.0.0, h.0.1 + 1) x h.2 in
-        record {
-          inside = omega (arith, w.inside, ap (λ (y : ℕ × ℕ). y.1) last);
-          same = rw (e, w.same) h.2;
-        }
+  module _ (fits : A → Bool) where
+    abbrev fitting : List ℕ → Option (A × ℕ)
+    fitting bs = read bs >>= λ n. cond (fits n.0) (Some n) None
+
+    fitting_within : (bs : List ℕ) (x : A × ℕ) → fitting bs ≡ Some x → (x.1 ≤ length bs) × (fitting (bs ++ more) ≡ Some x)
+    fitting_within bs x is =
+        let n = bind_some (read bs) (λ n. cond (fits n.0) (Some n) None) x is in
+        let t = cond_some (fits n.0.0) n.0 x n.2 in
+        let w = within bs n.0 n.1 in
+        (subst (λ (y : A × ℕ). y.1 ≤ length bs) t.1 w.0, ap (λ (o : Option (A × ℕ)). o >>= λ n. cond (fits n.0) (Some n) None) w.1 ∙ n.2)
+
+    leb_stays : (i : Input) → SomeStays (onwards more) (fitting i.rest >>= λ n. Some (n.0, past n.1 i)) (fitting (i.rest ++ more) >>= λ n. Some (n.0, past n.1 (grown more i)))
+    leb_stays i =
+        some_then (λ (n : A × ℕ). n) (onwards more) (fitting i.rest) (fitting (i.rest ++ more)) _ _ (record { on = λ n is. (fitting_within i.rest n is).1 }) (λ n is.
+        rw (past_grown n.1 more i (fitting_within i.rest n is).0) (some_stays (onwards more) (n.0, past n.1 i)))
 
 pub uleb_stays : (more : List ℕ) (i : Input) → SomeStays (onwards more) (uleb i) (uleb (grown more i))
-uleb_stays more i = record { on = λ x is.
-    let a = bind_some (unsigned_leb i.rest >>= λ n. cond (ltb n.0 (2 ^ 64)) (Some n) None) (λ n. Some (n.0, past n.1 i)) x is in
-    let b = bind_some (unsigned_leb i.rest) (λ n. cond (ltb n.0 (2 ^ 64)) (Some n) None) a.0 a.1 in
-    let t = cond_some (ltb b.0.0 (2 ^ 64)) b.0 a.0 b.2 in
-    let w = unsigned_within i.rest more b.0 b.1 in
-    rw (w.same, t.0, past_grown b.0.1 more i w.inside) (ap (λ (n : ℕ × ℕ). Some (n.0, grown more (past n.1 i))) t.1 ∙ ap (λ (y : ℕ × Input). Some (onwards more y)) (same_Some (a.0.0, past a.0.1 i) x a.2)) }
-
--- ---- with a sign
-
-abbrev higher : ℕ → Option (ℤ × ℕ) → Option (ℤ × ℕ)
-higher b others = others >>= λ high. Some (pos (b - 128) +ℤ (pos 128 *ℤ high.0), high.1 + 1)
-
-abbrev last : ℕ → ℤ
-last b = cond (ltb b 64) (pos b) (pos b -ℤ pos 128)
-
-abbrev begins : ℕ → Bool → Option (ℤ × ℕ) → Option (ℤ × ℕ)
-begins b t others = cond t (given (last b, 1)) (higher b others)
-
-signed_within : (bs more : List ℕ) (x : ℤ × ℕ) → signed_leb bs ≡ Some x → Within signed_leb bs x more
-unfolding signed_leb
-signed_within [] more x is = absurd cc
-signed_within (b ∷ bs) more x is = by (signed_within bs more) (ltb b 128) refl is
-  where
-    by : ((h : ℤ × ℕ) → signed_leb bs ≡ Some h → Within signed_leb bs h more) → (t : Bool) → ltb b 128 ≡ t → cond t (given (last b, 1)) (higher b (signed_leb bs)) ≡ Some x → Within signed_leb (b ∷ bs) x more
-    by rest true e is = record {
-      inside = omega (arith, ap (λ (y : ℤ × ℕ). y.1) (same_Some (last b, 1) x is));
-      same = ap (λ (t : Bool). begins b t (signed_leb (bs ++ more))) e ∙ is;
-    }
-    by rest false e is =
-        let h = bind_some (signed_leb bs) (λ high. Some (pos (b - 128) +ℤ (pos 128 *ℤ high.0), high.1 + 1)) x is in
-        let w = rest h.0 h.1 in
-        record {
-          inside = omega (arith, w.inside, ap (λ (y : ℤ × ℕ). y.1) (same_Some (pos (b - 128) +ℤ (pos 128 *ℤ h.0.0), h.0.1 + 1) x h.2));
-          same = ap (λ (t : Bool). begins b t (signed_leb (bs ++ more))) e ∙ ap (higher b) w.same ∙ h.2;
-        }
+unfolding unsigned_leb
+uleb_stays more = leb_stays unsigned_leb (λ b. b) (λ b high. b - 128 + 128 * high) refl (λ b bs. refl) more (λ n. ltb n (2 ^ 64))
 
 pub sleb_stays : (more : List ℕ) (i : Input) → SomeStays (onwards more) (sleb i) (sleb (grown more i))
-sleb_stays more i = record { on = λ x is.
-    let a = bind_some (signed_leb i.rest >>= λ n. cond (is_in_64 n.0) (Some n) None) (λ n. Some (n.0, past n.1 i)) x is in
-    let b = bind_some (signed_leb i.rest) (λ n. cond (is_in_64 n.0) (Some n) None) a.0 a.1 in
-    let t = cond_some (is_in_64 b.0.0) b.0 a.0 b.2 in
-    let w = signed_within i.rest more b.0 b.1 in
-    rw (w.same, t.0, past_grown b.0.1 more i w.inside) (ap (λ (n : ℤ × ℕ). Some (n.0, grown more (past n.1 i))) t.1 ∙ ap (λ (y : ℤ × Input). Some (onwards more y)) (same_Some (a.0.0, past a.0.1 i) x a.2)) }
+unfolding signed_leb
+sleb_stays more = leb_stays signed_leb (λ b. cond (ltb b 64) (pos b) (pos b -ℤ pos 128)) (λ b high. pos (b - 128) +ℤ (pos 128 *ℤ high)) refl (λ b bs. refl) more is_in_64

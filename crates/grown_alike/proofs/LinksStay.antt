@@ -1,18 +1,17 @@
 -- The links of all entries stay, and with them the entries of the file and its main program.
-use Rattle.std.proofs.Common.{◌≡◌, ℕ, Bool, not, ◌&&◌, ◌||◌, eqb, List, [], ◌∷◌, ◌++◌, filter, flat_map, Option, Result, Ok, refl, ap, subst, ◌∙◌, arith}
+use Rattle.std.proofs.Common.{◌≡◌, ℕ, not, ◌||◌, eqb, List, [], ◌∷◌, ◌++◌, filter, flat_map, Option, Result, Ok, refl, ap, subst, ◌∙◌}
 use Rattle.std.specs.Prelude.{Contains, option_map, option_to_list}
 use Rattle.common_laws.proofs.Members.{contains_here, contains_later, of_filter}
 use Rattle.ix_base.specs.declared.code.TheConstants.{NAME_TOO_LONG}
 use Rattle.ix_base.specs.declared.fault.Fault.{Fault}
-use Rattle.index_model.specs.declared.entry.Entry.{Entry}
 use Rattle.index_model.specs.declared.rules.Class.{Class}
 use Rattle.index_model.specs.declared.unit.Unit.{Unit as UnitHeader}
-use Rattle.index_model.specs.Meaning.{◌>>=◌, ◌>>◌, holds_or, at_place, each}
+use Rattle.index_model.specs.Meaning.{◌>>◌, holds_or, at_place, each}
 use Rattle.index_model.specs.Sections.{Section}
 use Rattle.index_model.specs.Program.{Walked, Program, Located, located}
-use Rattle.index_model.specs.Languages.{class_of_unit, language_of}
-use Rattle.index_model.specs.Chains.{chain_of, chain_end, spelled_name, linkage_name_of}
-use Rattle.index_model.specs.Names.{Member, scope_path}
+use Rattle.index_model.specs.Languages.{class_of_unit}
+use Rattle.index_model.specs.Chains.{chain_of, chain_end, spelled_name}
+use Rattle.index_model.specs.Names.{scope_path}
 use Rattle.index_model.specs.Links.{Link, link_of, is_link_indexed, is_within_limit, qualified_of, followed, links_in, indexed_in}
 use Rattle.index_model.specs.Entries.{entry_of, linkage_entry_of, entries_of_link, entries_of}
 use Rattle.index_model.specs.MainProgram.{full_name, main_in, main_of}
@@ -20,7 +19,7 @@ use Rattle.index_model.specs.Faults.{scan_of, links_of}
 use Rattle.index_model.proofs.Meanings.{then_ok, same_ok, at_place_ok}
 use Rattle.index_model.proofs.Followed.{is_followed, all_followed}
 use Rattle.grown_alike.specs.Grown.{Grows}
-use Rattle.grown_alike.proofs.Kept.{Keeps, keeps_itself, keeps_then, keeps_each, keeps_place}
+use Rattle.grown_alike.proofs.Kept.{Keeps, keeps_then, keeps_each, keeps_place}
 use Rattle.grown_alike.proofs.Gathered.{each_given}
 use Rattle.grown_alike.proofs.SameUnits.{with_walks, same_language, same_class, same_followed}
 use Rattle.grown_alike.proofs.Scanned.{IsKnown}

@@ -1,5 +1,5 @@
 -- Addresses and lists of ranges stay, where the sections that hold them grow.
-use Rattle.std.proofs.Common.{◌≡◌, ℕ, zero, suc, ◌+◌, ◌*◌, ◌≤◌, true, cond, ◌&&◌, eqb, List, [], ◌∷◌, ◌++◌, length, Option, Result, Ok, Err, refl, sym, ap, subst, ◌∙◌, arith, length-append}
+use Rattle.std.proofs.Common.{◌≡◌, ℕ, zero, suc, ◌+◌, ◌*◌, ◌≤◌, true, cond, ◌&&◌, eqb, List, [], ◌∷◌, ◌++◌, length, Result, Ok, Err, refl, sym, ap, subst, ◌∙◌, arith, length-append}
 use Rattle.std.specs.Prelude.{codes}
 use Rattle.ix_base.specs.declared.code.TheConstants.{NO_BASE, BAD_RANGE}
 use Rattle.ix_base.specs.Reading.{Input, number, uleb, offset, input}
@@ -11,7 +11,7 @@ use Rattle.index_model.specs.Program.{Walked}
 use Rattle.index_model.specs.Strings.{base_of, offset_size}
 use Rattle.index_model.specs.RangeLists.{ListEntry, End, Base, Bounds, Offsets, top, Operand, EntryReader, indexed_address, address_of, pair_at, fixed, plain, index, one, two, long, kinds, kind_reader, kind_at, with_entry, list_from, list_at, list_offset, list_of}
 use Rattle.grown_alike.specs.Grown.{Grows}
-use Rattle.grown_alike.proofs.Kept.{SomeStays, OkStays, wrong_stays, ok_stays, choice_stays, read_stays, stays_then, Keeps, keeps_itself, keeps_then}
+use Rattle.grown_alike.proofs.Kept.{OkStays, wrong_stays, ok_stays, choice_stays, read_stays, stays_then, Keeps, keeps_itself, keeps_then}
 use Rattle.grown_alike.proofs.Behind.{grown, onwards, input_grown, number_stays}
 use Rattle.grown_alike.proofs.Lebs.{uleb_stays}
 use Rattle.grown_alike.proofs.Texts.{in_section, offset_keeps}
@@ -112,16 +112,39 @@ module _ (first second : List Section) (grows : Grows first second) (w : Walked)
   -- the entries of version 5
   kinds_on : RowsGoOn (kinds first w) (kinds second w)
   kinds_on =
-      let at = index_on in
-      (refl, (λ more i. ok_stays (onwards more) (End, i)),
-      (refl, one_on Base (index first w) (index second w) at,
-      (refl, two_on Bounds (index first w) (index second w) (index first w) (index second w) at at,
-      (refl, two_on long (index first w) (index second w) plain plain at plain_on,
-      (refl, two_on Offsets plain plain plain plain plain_on plain_on,
-      (refl, one_on Base fixed fixed fixed_on,
-      (refl, two_on Bounds fixed fixed fixed fixed fixed_on fixed_on,
-      (refl, two_on long fixed fixed plain plain fixed_on plain_on,
-      tt))))))))
+      let at = index_on in (
+        refl,
+        (λ more i. ok_stays (onwards more) (End, i)),
+        (
+          refl,
+          one_on Base (index first w) (index second w) at,
+          (
+            refl,
+            two_on Bounds (index first w) (index second w) (index first w) (index second w) at at,
+            (
+              refl,
+              two_on long (index first w) (index second w) plain plain at plain_on,
+              (
+                refl,
+                two_on Offsets plain plain plain plain plain_on plain_on,
+                (
+                  refl,
+                  one_on Base fixed fixed fixed_on,
+                  (
+                    refl,
+                    two_on Bounds fixed fixed fixed fixed fixed_on fixed_on,
+                    (
+                      refl,
+                      two_on long fixed fixed plain plain fixed_on plain_on,
+                      tt,
+                    ),
+                  ),
+                ),
+              ),
+            ),
+          ),
+        ),
+      )
 
   kind_on : GoesOn (kind_at first w) (kind_at second w)
   unfolding kind_at

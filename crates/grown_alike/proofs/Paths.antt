@@ -1,9 +1,8 @@
 -- Scope paths stay.
-use Rattle.std.proofs.Common.{◌≡◌, ℕ, zero, suc, Bool, cond, eqb, List, [], ◌∷◌, Option, Some, None, Result, Ok, Err, refl, ap, ◌∙◌}
+use Rattle.std.proofs.Common.{◌≡◌, ℕ, zero, suc, eqb, List, [], ◌∷◌, Option, Some, None, Result, Ok, Err, refl, ◌∙◌}
 use Rattle.ix_base.specs.declared.code.TheConstants.{REFERENCE_CHAIN}
 use Rattle.ix_base.specs.declared.limits.TheConstants.{MAX_PATH_STEPS}
 use Rattle.index_model.specs.declared.unit.Unit.{Unit as UnitHeader}
-use Rattle.index_model.specs.Meaning.{◌>>=◌}
 use Rattle.index_model.specs.Sections.{Section}
 use Rattle.index_model.specs.Program.{Walked, Program, Located}
 use Rattle.index_model.specs.Chains.{chain_of, chain_end, name_of}

@@ -1,16 +1,15 @@
 -- The ranges of all units stay.
-use Rattle.std.proofs.Common.{◌≡◌, ℕ, ◌+◌, List, [], ◌∷◌, filter, map, flat_map, Option, Some, None, Result, Ok}
+use Rattle.std.proofs.Common.{ℕ, ◌+◌, List, [], ◌∷◌, filter, map, flat_map, Option, Some, None, Result, Ok}
 use Rattle.std.specs.Prelude.{option_and_then}
 use Rattle.index_model.specs.declared.range.Range.{Range}
 use Rattle.index_model.specs.declared.range.UnitRange.{UnitRange}
-use Rattle.index_model.specs.Meaning.{◌>>=◌}
 use Rattle.index_model.specs.Sections.{Section}
 use Rattle.index_model.specs.Forms.{Value}
 use Rattle.index_model.specs.Attributes.{High, EndsAt, Bytes, low_pc, high_pc, ranges_value}
 use Rattle.index_model.specs.Walk.{Item}
 use Rattle.index_model.specs.Program.{Walked, Program, root_of}
 use Rattle.index_model.specs.Links.{Link}
-use Rattle.index_model.specs.RangeLists.{address_of, list_of}
+use Rattle.index_model.specs.RangeLists.{address_of}
 use Rattle.index_model.specs.Ranges.{bounds, first_base, ranges_by, is_kept, entry_ranges, entries_with_ranges, ranges_of, unit_ranges, ranges_in}
 use Rattle.index_model.specs.Faults.{all_ranges}
 use Rattle.grown_alike.specs.Grown.{Grows}

@@ -1,27 +1,26 @@
 -- What hangs on the sections of the units alone is the same: the units, what their references name, and their languages.
-use Rattle.std.proofs.Common.{◌≡◌, ℕ, ◌+◌, Bool, true, false, cond, ◌&&◌, ltb, eqb, List, [], ◌∷◌, ◌++◌, length, filter, find, Option, Some, None, Result, Ok, refl, ap, ◌∙◌, unwrap_or}
+use Rattle.std.proofs.Common.{◌≡◌, ℕ, cond, ◌&&◌, eqb, List, filter, find, Option, Some, None, Ok, refl, ap, ◌∙◌, unwrap_or}
 use Rattle.std.specs.Prelude.{codes, filter_map, option_and_then, is_some}
 use Rattle.std.specs.List.{list_any}
 use Rattle.std.specs.Option.{option_or}
-use Rattle.ix_base.specs.Reading.{Input, input}
+use Rattle.ix_base.specs.Reading.{Input}
 use Rattle.ix_base.specs.declared.code.TheConstants.{BAD_ABBREVIATION}
-use Rattle.ix_base.specs.declared.fault.Fault.{Fault}
 use Rattle.index_model.specs.declared.unit.Unit.{Unit as UnitHeader}
 use Rattle.index_model.specs.declared.rules.Class.{Class}
-use Rattle.index_model.specs.Meaning.{◌>>=◌, fault}
+use Rattle.index_model.specs.Meaning.{fault}
 use Rattle.index_model.specs.Sections.{Section, section_bytes}
 use Rattle.index_model.specs.Abbreviations.{Abbrev, table}
 use Rattle.index_model.specs.Attributes.{Reference, import_of}
 use Rattle.index_model.specs.Tags.{imported_unit, partial_unit}
 use Rattle.index_model.specs.Walk.{Item, walk_of}
 use Rattle.index_model.specs.Units.{units_of}
-use Rattle.index_model.specs.Program.{Walked, Program, Located, joint, body, walked, items_of, located, root_of}
+use Rattle.index_model.specs.Program.{Walked, Program, body, walked, items_of, located, root_of}
 use Rattle.index_model.specs.References.{target_of}
 use Rattle.index_model.specs.Languages.{own_language, imports_of, importing_language, language_by_import, language_of, class_of, class_of_unit}
 use Rattle.index_model.specs.Rules.{is_in_table, is_visited, is_ada}
 use Rattle.index_model.specs.Links.{followed}
 use Rattle.grown_alike.specs.Grown.{Grows}
-use Rattle.grown_alike.proofs.Kept.{SomeStays, Keeps, keeps_then, keeps_itself, read_stays}
+use Rattle.grown_alike.proofs.Kept.{SomeStays, Keeps, keeps_then, read_stays}
 use Rattle.grown_alike.proofs.Tables.{table_stays}
 
 -- the program with these walks

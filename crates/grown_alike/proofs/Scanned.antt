@@ -1,11 +1,11 @@
 -- The walks stay, and so do the names of their entries: both texts of each entry were tested.
-use Rattle.std.proofs.Common.{◌≡◌, ℕ, List, [], ◌∷◌, flat_map, Option, Some, Result, Ok, Err, refl, sym, ap, subst, ◌∙◌}
+use Rattle.std.proofs.Common.{◌≡◌, ℕ, List, flat_map, Option, Result, Ok, Err, refl, sym, ap, subst, ◌∙◌}
 use Rattle.std.specs.Prelude.{Contains}
 use Rattle.std.specs.List.{enumerate_from}
 use Rattle.common_laws.proofs.Members.{of_flat_map}
 use Rattle.ix_base.specs.declared.fault.Fault.{Fault}
 use Rattle.index_model.specs.declared.unit.Unit.{Unit as UnitHeader}
-use Rattle.index_model.specs.Meaning.{◌>>=◌, ◌>>◌, each, at_place, value_of}
+use Rattle.index_model.specs.Meaning.{◌>>◌, each, at_place, value_of}
 use Rattle.index_model.specs.Sections.{Section}
 use Rattle.index_model.specs.Attributes.{name_value, linkage_value}
 use Rattle.index_model.specs.Program.{Walked, Located, walked, located}
@@ -37,8 +37,8 @@ module _ (first second : List Section) (grows : Grows first second) where
       keeps_then (walked first u) (walked second u) _ _ (walked_keeps first second grows u) (λ w _.
       keeps_next (none_or w.walk.end) (none_or w.walk.end) _ _ (keeps_itself (none_or w.walk.end)) (
       keeps_next (texts first w) (texts second w) _ _
-        (keeps_each _ _ (located w) (λ d _. keeps_place d.item.at (texts_of first d) (texts_of second d) (texts_keep first second grows d)))
-        (keeps_itself (Ok w))))
+      (keeps_each _ _ (located w) (λ d _. keeps_place d.item.at (texts_of first d) (texts_of second d) (texts_keep first second grows d)))
+      (keeps_itself (Ok w))))
 
   pub scan_keeps : (us : List UnitHeader) → Keeps (scan_of first us) (scan_of second us)
   unfolding scan_of

@@ -1,17 +1,17 @@
 -- The texts of values stay, where the sections that hold them grow.
-use Rattle.std.proofs.Common.{◌≡◌, ℕ, ◌+◌, ◌*◌, Bool, cond, List, [], ◌∷◌, ◌++◌, drop, Option, Some, None, Result, Ok, refl, sym, ap, subst, ◌∙◌}
+use Rattle.std.proofs.Common.{ℕ, ◌+◌, ◌*◌, Bool, List, ◌++◌, drop, Option, None, Result, Ok, sym, subst}
 use Rattle.std.specs.Prelude.{codes}
 use Rattle.ix_base.specs.declared.code.TheConstants.{BAD_STRING, NO_BASE}
 use Rattle.ix_base.specs.Reading.{Input, before_zero, offset, input}
-use Rattle.index_model.specs.Meaning.{◌>>=◌, some_or, if_some}
+use Rattle.index_model.specs.Meaning.{◌>>=◌, some_or}
 use Rattle.index_model.specs.Sections.{Section, section_bytes}
 use Rattle.index_model.specs.Forms.{Value, Str, LineStr, StrIndex, Inline}
 use Rattle.index_model.specs.Attributes.{name_value, linkage_value}
 use Rattle.index_model.specs.Program.{Walked, Located}
-use Rattle.index_model.specs.Strings.{offset_size, bounded, string_at, str, str_offset, text_of, text_in, base_of, Texts, texts_of}
+use Rattle.index_model.specs.Strings.{offset_size, bounded, string_at, str_offset, text_of, text_in, base_of, texts_of}
 use Rattle.grown_alike.specs.Grown.{Grows}
-use Rattle.grown_alike.proofs.Kept.{SomeStays, OkStays, Keeps, keeps_itself, keeps_then, keeps_if_some, read_stays, stays_then}
-use Rattle.grown_alike.proofs.Behind.{grown, onwards, input_grown, offset_stays, text_stays}
+use Rattle.grown_alike.proofs.Kept.{SomeStays, Keeps, keeps_itself, keeps_then, keeps_if_some, read_stays, stays_then}
+use Rattle.grown_alike.proofs.Behind.{onwards, input_grown, offset_stays, text_stays}
 
 -- the string at a place of a section that grows
 string_keeps : (bytes more : List ℕ) (place : ℕ) → Keeps (string_at bytes place) (string_at (bytes ++ more) place)

@@ -1,8 +1,7 @@
 -- A program whose sections have grown is built as before, and means the same.
-use Rattle.std.proofs.Common.{◌≡◌, ℕ, List, map, Option, Result, Ok, refl, sym, ap, subst, ◌∙◌}
+use Rattle.std.proofs.Common.{◌≡◌, ℕ, List, map, Result, Ok, refl, sym, ap, subst, ◌∙◌}
 use Rattle.ix_base.specs.declared.fault.Fault.{Fault}
 use Rattle.index_model.specs.declared.answer.CacheSize.{CacheSize}
-use Rattle.index_model.specs.declared.answer.Main.{Main}
 use Rattle.index_model.specs.declared.entry.Entry.{Entry}
 use Rattle.index_model.specs.declared.range.UnitRange.{UnitRange}
 use Rattle.index_model.specs.declared.unit.Unit.{Unit as UnitHeader}
@@ -16,7 +15,7 @@ use Rattle.index_model.specs.Entries.{entries_of}
 use Rattle.index_model.specs.Pieces.{pieces}
 use Rattle.index_model.specs.GdbIndex.{gdb_index_bytes}
 use Rattle.index_model.specs.Queries.{Query, AskName, AskSimple, AskAddress, AskMain, AskCache}
-use Rattle.index_model.specs.Answers.{Answer, Entries, MainIs, places, is_named, is_simply_named, answer_to}
+use Rattle.index_model.specs.Answers.{Entries, MainIs, places, is_named, is_simply_named, answer_to}
 use Rattle.index_model.specs.Cache.{gdb_cache, cache_of, cache_in}
 use Rattle.index_model.specs.Faults.{scan_of, links_of, all_ranges, Built, program_of, built_of}
 use Rattle.index_model.proofs.Meanings.{bind_ok, same_ok}
@@ -79,17 +78,29 @@ record Parts (ss : List Section) (b : Built) : Type 0 where
   ranges : all_ranges (with_walks ss ws) ks ≡ Ok rs
   whole : built ss ws ks rs ≡ b
 
+-- the phases, one behind the other
+abbrev with_ranges : Program → List Link → Result Built Fault
+with_ranges p ks = all_ranges p ks >>= λ rs. Ok (record { program = p; links = ks; ranges = rs })
+
+abbrev with_links : Program → Result Built Fault
+with_links p = links_of p >>= with_ranges p
+
+abbrev with_scan : List Section → List UnitHeader → Result Program Fault
+with_scan ss us = scan_of ss us >>= λ ws. Ok (with_walks ss ws)
+
+abbrev with_units : List Section → Result Program Fault
+with_units ss = units_of ss >>= with_scan ss
+
 parts_of : (f : List ℕ) (ss : List Section) (b : Built) → sections_of f ≡ Ok ss → built_of f ≡ Ok b → Parts ss b
 unfolding built_of program_of
 parts_of f ss b sections is =
-    let whole : Result (List Section) Fault → Result Built Fault = λ read. (read >>= λ ss. units_of ss >>= λ us. scan_of ss us >>= λ ws. Ok (with_walks ss ws)) >>= λ p. links_of p >>= λ ks. all_ranges p ks >>= λ rs. Ok (record { program = p; links = ks; ranges = rs }) in
-    let p = bind_ok (units_of ss >>= λ us. scan_of ss us >>= λ ws. Ok (with_walks ss ws)) _ b (ap whole (sym sections) ∙ is) in
-    let u = bind_ok (units_of ss) _ p.0 p.1 in
-    let w = bind_ok (scan_of ss u.0) _ p.0 u.2 in
+    let p = bind_ok (with_units ss) with_links b (ap (λ (read : Result (List Section) Fault). (read >>= with_units) >>= with_links) (sym sections) ∙ is) in
+    let u = bind_ok (units_of ss) (with_scan ss) p.0 p.1 in
+    let w = bind_ok (scan_of ss u.0) (λ ws. Ok (with_walks ss ws)) p.0 u.2 in
     let same : with_walks ss w.0 ≡ p.0 = same_ok (with_walks ss w.0) p.0 w.2 in
-    let rest = subst (λ (x : Program). (links_of x >>= λ ks. all_ranges x ks >>= λ rs. Ok (record { program = x; links = ks; ranges = rs })) ≡ Ok b) (sym same) p.2 in
-    let k = bind_ok (links_of (with_walks ss w.0)) _ b rest in
-    let r = bind_ok (all_ranges (with_walks ss w.0) k.0) _ b k.2 in
+    let linked = ap with_links same ∙ p.2 in
+    let k = bind_ok (links_of (with_walks ss w.0)) (with_ranges (with_walks ss w.0)) b linked in
+    let r = bind_ok (all_ranges (with_walks ss w.0) k.0) (λ rs. Ok (built ss w.0 k.0 rs)) b k.2 in
     record { us = u.0; ws = w.0; ks = k.0; rs = r.0; units = u.1; scan = w.1; links = k.1; ranges = r.1; whole = same_ok (built ss w.0 k.0 r.0) b r.2 }
 
 built_by : (f : List ℕ) (ss : List Section) (b : Built) → sections_of f ≡ Ok ss → (p : Parts ss b) → built_of f ≡ Ok b
@@ -113,8 +124,7 @@ second_parts first second b grows p = record {
 pub grown_alike : GrownProgramsMeanTheSame
 grown_alike f g first second b is_first is_second grows is =
     let p = parts_of f first b is_first is in
-    let c = built second p.ws p.ks p.rs in
-    (
+    let c = built second p.ws p.ks p.rs in (
       c,
       built_by g second c is_second (second_parts first second b grows p),
       refl,
