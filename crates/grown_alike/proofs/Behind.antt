@@ -1,0 +1,75 @@
+-- Readers go on as before where more bytes follow.
+use Rattle.std.proofs.Common.{◌≡◌, ℕ, zero, suc, ◌+◌, ◌-◌, ◌≤◌, Bool, true, cond, leb, ltb, eqb, List, [], ◌∷◌, ◌++◌, length, take, drop, Some, refl, ap, ◌∙◌, arith, length-append}
+use Rattle.std.specs.List.{position, position_or_len}
+use Rattle.std.proofs.lemmas.Bool.{leb-true, le-leb, lt-ltb}
+use Rattle.std.proofs.lemmas.List.{drop-append-le, take-append-le, get_or_append_left}
+use Rattle.std.proofs.lemmas.List.Quantifiers.{position-Some}
+use Rattle.std.proofs.lemmas.List.Sums.{position_or_len_is}
+use Rattle.std.proofs.lemmas.Option.{cond_some}
+use Rattle.byteorder.specs.Endian.{little_number, little_from}
+use Rattle.ix_base.specs.Reading.{Input, past, number, before_zero, offset, input}
+use Rattle.index_model.proofs.Meanings.{bind_some}
+use Rattle.grown_alike.proofs.Kept.{SomeStays}
+
+-- the same place, where more bytes follow
+abbrev pub grown : List ℕ → Input → Input
+grown more i = record { at = i.at; rest = i.rest ++ more }
+
+-- the same value, and what is left with more bytes behind it
+abbrev pub onwards : {A : Type 0} → List ℕ → A × Input → A × Input
+onwards more x = (x.0, grown more x.1)
+
+abbrev made : ℕ → List ℕ → Input
+made at rest = record { at = at; rest = rest }
+
+-- bytes that are there are passed
+pub past_grown : (n : ℕ) (more : List ℕ) (i : Input) → n ≤ length i.rest → past n (grown more i) ≡ grown more (past n i)
+past_grown n more i le = ap (made (i.at + n)) (drop-append-le n i.rest more le)
+
+-- bytes from any place on are the front of grown ones
+pub input_grown : (bytes more : List ℕ) (place : ℕ) → (behind : List ℕ) × (input (bytes ++ more) place ≡ grown behind (input bytes place))
+input_grown bytes more place = (drop (place - length bytes) more, ap (made place) (from bytes place))
+  where
+    from : (xs : List ℕ) (n : ℕ) → drop n (xs ++ more) ≡ drop n xs ++ drop (n - length xs) more
+    from xs zero = let none : 0 - length xs ≡ 0 = omega arith in rw none refl
+    from [] (suc n) = let none : suc n - 0 ≡ suc n = omega arith in rw none refl
+    from (x ∷ xs) (suc n) = from xs n ∙ ap (λ (k : ℕ). drop n xs ++ drop k more) (let same : n - length xs ≡ suc n - length (x ∷ xs) = omega arith in same)
+
+-- ---- numbers of some bytes
+
+same_number : (k n : ℕ) (xs more : List ℕ) → k + n ≤ length xs → little_from k n (xs ++ more) ≡ little_from k n xs
+same_number k zero xs more le = refl
+same_number k (suc n) xs more le = rw (get_or_append_left xs more 0 k (omega (arith, le)), same_number (suc k) n xs more (omega (arith, le))) refl
+
+pub number_stays : (n : ℕ) (more : List ℕ) (i : Input) → SomeStays (onwards more) (number n i) (number n (grown more i))
+number_stays n more i = record {
+  on = λ x is.
+      let p = cond_some (leb n (length i.rest)) (little_number n i.rest, past n i) x is in
+      let le : n ≤ length i.rest = leb-true _ _ p.0 in
+      let there : leb n (length (i.rest ++ more)) ≡ true = le-leb n (length (i.rest ++ more)) (omega (arith, le, length-append i.rest more)) in
+      rw (there, same_number 0 n i.rest more (omega (arith, le)), past_grown n more i le) (ap (λ (y : ℕ × Input). Some (onwards more y)) p.1);
+}
+
+pub offset_stays : (wide : Bool) (more : List ℕ) (i : Input) → SomeStays (onwards more) (offset wide i) (offset wide (grown more i))
+offset_stays wide = number_stays (cond wide 8 4)
+
+-- ---- texts
+
+before_stays : (more bs text : List ℕ) → before_zero bs ≡ Some text → before_zero (bs ++ more) ≡ Some text
+before_stays more bs text is =
+    let b = bind_some (position (λ c. eqb c 0) bs) (λ k. Some (take k bs)) text is in
+    let f = position-Some (λ c. eqb c 0) bs b.0 0 b.1 in
+    let longer = length-append bs more in
+    let there : position_or_len (λ c. eqb c 0) (bs ++ more) ≡ b.0 = position_or_len_is (λ c. eqb c 0) (bs ++ more) b.0 0 (omega (arith, f.0, longer))
+    (λ k lt. ap (λ (c : ℕ). eqb c 0) (get_or_append_left bs more 0 k (omega (arith, lt, f.0))) ∙ f.2 k lt)
+    (λ lt. ap (λ (c : ℕ). eqb c 0) (get_or_append_left bs more 0 b.0 f.0) ∙ f.1) in
+    let within : ltb b.0 (length (bs ++ more)) ≡ true = lt-ltb b.0 (length (bs ++ more)) (omega (arith, f.0, longer)) in
+    rw (there, within, take-append-le b.0 bs more (omega (arith, f.0))) b.2
+
+-- a text that stands in some bytes from a place on stands there in grown bytes
+pub text_stays : (bytes more : List ℕ) (place : ℕ) → SomeStays (λ (text : List ℕ). text) (before_zero (drop place bytes)) (before_zero (drop place (bytes ++ more)))
+text_stays bytes more place = record {
+  on = λ text is.
+      let g = input_grown bytes more place in
+      ap (λ (i : Input). before_zero i.rest) g.1 ∙ before_stays g.0 (drop place bytes) text is;
+}

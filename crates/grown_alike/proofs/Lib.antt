@@ -1,0 +1,15 @@
+pub mod Kept
+pub mod Behind
+pub mod Lebs
+pub mod Tables
+pub mod SameUnits
+pub mod Texts
+pub mod Gathered
+pub mod Scanned
+pub mod Known
+pub mod Chains
+pub mod Paths
+pub mod LinksStay
+pub mod ListReads
+pub mod RangesStay
+pub mod Whole
