@@ -15,7 +15,8 @@ pub record Asked : Type 0 where
   pub file : List ℕ
   pub query : List (List ℕ)
 
--- `index`: the kind of the index, how many workers, the file's name, and the name under which the index is stored
+-- `index` and `add`: the kind of the index, how many workers, the file's name, and the name under which the index is stored, or the
+-- program with it
 pub record Indexed : Type 0 where
   pub kind : CacheKind
   pub workers : ℕ
@@ -38,7 +39,7 @@ pub record NamesLooked : Type 0 where
 pub data Wanted : Type 0 where
   Help Version : Wanted
   Ask : Asked → Wanted
-  Index : Indexed → Wanted
+  Index Add : Indexed → Wanted
   LookGdb : Looked → Wanted
   LookNames : NamesLooked → Wanted
   Serve : Served → Wanted
@@ -74,7 +75,7 @@ abbrev pub index_as : List (List ℕ) → Option Indexed
 index_as [] = None
 index_as (word ∷ others) = option_and_then (λ kind. option_and_then (λ w. files_of kind w.workers w.others) (workers_and_others others)) (kind_named word)
 
--- the words behind `index`
+-- the words behind `index` or `add`
 abbrev pub index_of : List (List ℕ) → Option Indexed
 index_of [] = None
 index_of (word ∷ others) = if bytes_eq word (codes "--as") then index_as others else None
@@ -119,7 +120,7 @@ session_command word others = if bytes_eq word (codes "serve") then option_map S
 
 -- a command that isn't `ask` or `index` and has words behind it
 abbrev pub longer_command : List ℕ → List (List ℕ) → Option Wanted
-longer_command word others = if bytes_eq word (codes "look") then look_of others else if bytes_eq word (codes "drill") then option_map Drill (drill_of others) else session_command word others
+longer_command word others = if bytes_eq word (codes "look") then look_of others else if bytes_eq word (codes "add") then option_map Add (index_of others) else if bytes_eq word (codes "drill") then option_map Drill (drill_of others) else session_command word others
 
 -- a command that isn't `ask` or `index`
 abbrev pub other_command : List ℕ → List (List ℕ) → Option Wanted

@@ -17,6 +17,7 @@ pub enum Command<'w> {
     Version,
     Ask(Ask<'w>),
     Index(Index<'w>),
+    Add(Index<'w>),
     LookGdb(LookGdb<'w>),
     LookNames(LookNames<'w>),
     Serve(Serve<'w>),
@@ -33,13 +34,13 @@ pub struct Ask<'w> {
     pub query: &'w [String],
 }
 
-/// `index --as KIND [--workers N] FILE OUT`.
+/// `index --as KIND [--workers N] FILE OUT`, or `add` with such words.
 #[derive(Clone, Copy)]
 pub struct Index<'w> {
     pub kind: CacheKind,
     pub workers: u32,
     pub file: &'w str,
-    /// The name under which the index is stored.
+    /// The name under which the index is stored, or the program with it.
     pub out: &'w str,
 }
 
@@ -96,6 +97,8 @@ fn longer_command<'w>(word: &str, others: &'w [String]) -> Option<Command<'w>>
 {
     if word == "look" {
         parse_look(others)
+    } else if word == "add" {
+        Some(Command::Add(parse_index(others)?))
     } else if word == "drill" {
         Some(Command::Drill(parse_drill(others)?))
     } else {
