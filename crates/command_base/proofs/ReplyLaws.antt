@@ -9,7 +9,7 @@ use Rattle.outside.specs.declared.shelf.Failed.{Failed}
 use Rattle.outside.specs.Written.{Appends, AppendsPrefix}
 use Rattle.command_base.specs.Replies.{SaysReply, Wrote, status_after}
 use Rattle.command_base.specs.declared.status.Status.{Status}
-use Rattle.command_base.specs.declared.status.Status.TheVariants.{Answered, Refused, Usage, ReadFault, StoreFault, WriteFault, NoMemory, IndexRefused, IndexTooLarge, FileTooBig, InputFault, InputTooLong, Stopped}
+use Rattle.command_base.specs.declared.status.Status.TheVariants.{Answered, Refused, Usage, ReadFault, StoreFault, WriteFault, NoMemory, IndexRefused, IndexTooLarge, FileTooBig, AlreadyIndexed, TooManySections, InputFault, InputTooLong, Stopped}
 
 -- ---- what is written
 
@@ -28,6 +28,8 @@ wrote_weaker Says More f StoreFault old new w = w
 wrote_weaker Says More f NoMemory old new w = w
 wrote_weaker Says More f IndexTooLarge old new w = w
 wrote_weaker Says More f FileTooBig old new w = w
+wrote_weaker Says More f AlreadyIndexed old new w = w
+wrote_weaker Says More f TooManySections old new w = w
 
 -- ---- a reply is written
 
@@ -46,10 +48,14 @@ module _ (reply : Reply) (old new : Option (List ℕ)) where
   sent (Ok x) NoMemory text says (inl is) all part = absurd (cc is)
   sent (Ok x) NoMemory text says (inr is) all part = absurd (cc is)
   sent (Ok x) FileTooBig text says (inl is) all part = absurd (cc is)
+  sent (Ok x) AlreadyIndexed text says (inl is) all part = absurd (cc is)
+  sent (Ok x) TooManySections text says (inl is) all part = absurd (cc is)
   sent (Ok x) InputFault text says (inl is) all part = absurd (cc is)
   sent (Ok x) InputTooLong text says (inl is) all part = absurd (cc is)
   sent (Ok x) Stopped text says (inl is) all part = absurd (cc is)
   sent (Ok x) FileTooBig text says (inr is) all part = absurd (cc is)
+  sent (Ok x) AlreadyIndexed text says (inr is) all part = absurd (cc is)
+  sent (Ok x) TooManySections text says (inr is) all part = absurd (cc is)
   sent (Ok x) InputFault text says (inr is) all part = absurd (cc is)
   sent (Ok x) InputTooLong text says (inr is) all part = absurd (cc is)
   sent (Ok x) Stopped text says (inr is) all part = absurd (cc is)
@@ -93,6 +99,8 @@ module _ (Says : Status → List ℕ → Type 0) (f : Fault) (says : (text : Lis
   of_reply IndexRefused text h = absurd h
   of_reply IndexTooLarge text h = absurd h
   of_reply FileTooBig text h = absurd h
+  of_reply AlreadyIndexed text h = absurd h
+  of_reply TooManySections text h = absurd h
   of_reply InputFault text h = absurd h
   of_reply InputTooLong text h = absurd h
   of_reply Stopped text h = absurd h

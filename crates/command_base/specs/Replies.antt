@@ -12,7 +12,7 @@ use Rattle.outside.specs.Files.{Files}
 use Rattle.outside.specs.Written.{Appends, AppendsPrefix}
 use Rattle.command_base.specs.FilesRead.{Holds}
 use Rattle.command_base.specs.declared.status.Status.{Status}
-use Rattle.command_base.specs.declared.status.Status.TheVariants.{Answered, Refused, Usage, ReadFault, StoreFault, WriteFault, InputFault, NoMemory, IndexRefused, IndexTooLarge, FileTooBig, InputTooLong, Stopped}
+use Rattle.command_base.specs.declared.status.Status.TheVariants.{Answered, Refused, Usage, ReadFault, StoreFault, WriteFault, InputFault, NoMemory, IndexRefused, IndexTooLarge, FileTooBig, AlreadyIndexed, TooManySections, InputTooLong, Stopped}
 
 -- ---- texts
 
@@ -73,6 +73,8 @@ Wrote Says StoreFault old new = Appends old new []
 Wrote Says NoMemory old new = Appends old new []
 Wrote Says IndexTooLarge old new = Appends old new []
 Wrote Says FileTooBig old new = Appends old new []
+Wrote Says AlreadyIndexed old new = Appends old new []
+Wrote Says TooManySections old new = Appends old new []
 
 -- ---- statuses
 
@@ -97,6 +99,8 @@ line_of StoreFault = Some (line (codes "store" ∷ codes "fault" ∷ []))
 line_of NoMemory = Some (line (codes "no" ∷ codes "memory" ∷ []))
 line_of IndexTooLarge = Some (line (codes "too" ∷ codes "large" ∷ []))
 line_of FileTooBig = Some (line (codes "file" ∷ codes "too" ∷ codes "big" ∷ []))
+line_of AlreadyIndexed = Some (line (codes "already" ∷ codes "indexed" ∷ []))
+line_of TooManySections = Some (line (codes "too" ∷ codes "many" ∷ codes "sections" ∷ []))
 line_of Answered = None
 line_of Refused = None
 line_of IndexRefused = None

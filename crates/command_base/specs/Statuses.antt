@@ -1,7 +1,7 @@
 -- The numbers of the statuses.
 use Rattle.std.specs.Prelude.{ℕ}
 use Rattle.command_base.specs.declared.status.Status.{Status}
-use Rattle.command_base.specs.declared.status.Status.TheVariants.{Answered, Refused, Usage, ReadFault, StoreFault, WriteFault, InputFault, NoMemory, IndexRefused, IndexTooLarge, FileTooBig, InputTooLong, Stopped}
+use Rattle.command_base.specs.declared.status.Status.TheVariants.{Answered, Refused, Usage, ReadFault, StoreFault, WriteFault, InputFault, NoMemory, IndexRefused, IndexTooLarge, FileTooBig, AlreadyIndexed, TooManySections, InputTooLong, Stopped}
 
 abbrev pub status_code : Status → ℕ
 status_code Answered = 0
@@ -15,5 +15,7 @@ status_code NoMemory = 7
 status_code IndexRefused = 8
 status_code IndexTooLarge = 9
 status_code FileTooBig = 10
+status_code AlreadyIndexed = 12
+status_code TooManySections = 13
 status_code InputTooLong = 11
 status_code Stopped = 7

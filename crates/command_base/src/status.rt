@@ -28,6 +28,10 @@ pub enum Status {
     IndexTooLarge,
     /// A file is longer than its limit.
     FileTooBig,
+    /// The program has a section for such an index.
+    AlreadyIndexed,
+    /// The program has no room for one more section.
+    TooManySections,
     /// A line, or the whole input, is longer than a session takes.
     InputTooLong,
     /// Memory was refused while sessions were answered: nothing is written behind their text.
@@ -52,6 +56,8 @@ impl Status {
             Status::IndexTooLarge => 9,
             Status::FileTooBig => 10,
             Status::InputTooLong => 11,
+            Status::AlreadyIndexed => 12,
+            Status::TooManySections => 13,
             Status::Stopped => 7,
         }
     }

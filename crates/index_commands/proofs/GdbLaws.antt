@@ -6,7 +6,7 @@ use Rattle.index_model.specs.Queries.{Query}
 use Rattle.index_model.specs.Texts.{text_of_answer}
 use Rattle.command_base.specs.Replies.{SaysReply, Wrote}
 use Rattle.command_base.specs.declared.status.Status.{Status}
-use Rattle.command_base.specs.declared.status.Status.TheVariants.{Answered, Refused, Usage, ReadFault, StoreFault, WriteFault, NoMemory, IndexRefused, IndexTooLarge, FileTooBig, InputFault, InputTooLong, Stopped}
+use Rattle.command_base.specs.declared.status.Status.TheVariants.{Answered, Refused, Usage, ReadFault, StoreFault, WriteFault, NoMemory, IndexRefused, IndexTooLarge, FileTooBig, AlreadyIndexed, TooManySections, InputFault, InputTooLong, Stopped}
 use Rattle.command_base.proofs.ReplyLaws.{wrote_weaker}
 use Rattle.index_commands.specs.GdbLooks.{gdb_text, SaysGdb, SaysLook}
 
@@ -22,6 +22,8 @@ module _ (index : GdbIndex) (q : Query) (a : Answer) (is : gdb_text index q ≡ 
   short IndexRefused text h = absurd h
   short IndexTooLarge text h = absurd h
   short FileTooBig text h = absurd h
+  short AlreadyIndexed text h = absurd h
+  short TooManySections text h = absurd h
   short InputFault text h = absurd h
   short InputTooLong text h = absurd h
   short Stopped text h = absurd h
@@ -42,6 +44,8 @@ module _ (bytes : List ℕ) (index : GdbIndex) (opened : gdb_index bytes ≡ Ok 
   by_bytes IndexRefused text h = absurd h
   by_bytes IndexTooLarge text h = h
   by_bytes FileTooBig text h = h
+  by_bytes AlreadyIndexed text h = h
+  by_bytes TooManySections text h = h
   by_bytes InputFault text h = h
   by_bytes InputTooLong text h = h
   by_bytes Stopped text h = h

@@ -15,7 +15,7 @@ use Rattle.index_board.specs.Kept.{AreOf}
 use Rattle.index_board.specs.Readers.{Reader}
 use Rattle.command_base.specs.Replies.{CausesOfResult, SaysReply, Wrote}
 use Rattle.command_base.specs.declared.status.Status.{Status}
-use Rattle.command_base.specs.declared.status.Status.TheVariants.{Answered, Refused, Usage, ReadFault, StoreFault, WriteFault, NoMemory, IndexRefused, IndexTooLarge, FileTooBig, InputFault, InputTooLong, Stopped}
+use Rattle.command_base.specs.declared.status.Status.TheVariants.{Answered, Refused, Usage, ReadFault, StoreFault, WriteFault, NoMemory, IndexRefused, IndexTooLarge, FileTooBig, AlreadyIndexed, TooManySections, InputFault, InputTooLong, Stopped}
 use Rattle.command_base.proofs.ReplyLaws.{wrote_refused}
 use Rattle.index_commands.specs.Indexes.{CausesOfIndex, IsIndexOf, LeavesIndex, SaysIndex}
 use Rattle.index_commands.specs.Stores.{CausesOfStore, Keeps, KeepsPart, StoreLeaves}
@@ -35,6 +35,8 @@ module _ (file : List ℕ) (kind : CacheKind) (cache : Cache) (stores : Type 0) 
   store_wrote written IndexRefused c = absurd c
   store_wrote written IndexTooLarge c = appends_none written
   store_wrote written FileTooBig c = absurd c
+  store_wrote written AlreadyIndexed c = absurd c
+  store_wrote written TooManySections c = absurd c
   store_wrote written InputFault c = absurd c
   store_wrote written InputTooLong c = absurd c
   store_wrote written Stopped c = absurd c
@@ -51,6 +53,8 @@ module _ (file : List ℕ) (kind : CacheKind) (cache : Cache) (stores : Type 0) 
     store_causes writes IndexRefused c = absurd c
     store_causes writes IndexTooLarge c = record { built = is.built; accepted = is.accepted; holds = sym is.holds ∙ c }
     store_causes writes FileTooBig c = absurd c
+    store_causes writes AlreadyIndexed c = absurd c
+    store_causes writes TooManySections c = absurd c
     store_causes writes InputFault c = absurd c
     store_causes writes InputTooLong c = absurd c
     store_causes writes Stopped c = absurd c
@@ -66,6 +70,8 @@ module _ (file : List ℕ) (kind : CacheKind) (cache : Cache) (stores : Type 0) 
     store_leaves old new out IndexRefused c h = absurd c
     store_leaves old new out IndexTooLarge c h = h
     store_leaves old new out FileTooBig c h = absurd c
+    store_leaves old new out AlreadyIndexed c h = absurd c
+    store_leaves old new out TooManySections c h = absurd c
     store_leaves old new out InputFault c h = absurd c
     store_leaves old new out InputTooLong c h = absurd c
     store_leaves old new out Stopped c h = absurd c
@@ -87,6 +93,8 @@ module _ (file : List ℕ) (kind : CacheKind) (f : Fault) (first : first_fault f
   refusal_causes stores writes IndexRefused c = tt
   refusal_causes stores writes IndexTooLarge c = absurd c
   refusal_causes stores writes FileTooBig c = absurd c
+  refusal_causes stores writes AlreadyIndexed c = absurd c
+  refusal_causes stores writes TooManySections c = absurd c
   refusal_causes stores writes InputFault c = absurd c
   refusal_causes stores writes InputTooLong c = absurd c
   refusal_causes stores writes Stopped c = absurd c
@@ -102,6 +110,8 @@ module _ (file : List ℕ) (kind : CacheKind) (f : Fault) (first : first_fault f
   refusal_leaves IndexRefused old new writes shelf after out w c same = same
   refusal_leaves IndexTooLarge old new writes shelf after out w c same = absurd c
   refusal_leaves FileTooBig old new writes shelf after out w c same = absurd c
+  refusal_leaves AlreadyIndexed old new writes shelf after out w c same = absurd c
+  refusal_leaves TooManySections old new writes shelf after out w c same = absurd c
   refusal_leaves InputFault old new writes shelf after out w c same = absurd c
   refusal_leaves InputTooLong old new writes shelf after out w c same = absurd c
   refusal_leaves Stopped old new writes shelf after out w c same = absurd c
