@@ -1,5 +1,5 @@
 -- Sections by their names, before and after sections are added.
-use Rattle.std.proofs.Common.{◌≡◌, ℕ, ◌+◌, subst, arith, Bool, true, false, cond, List, [], ◌∷◌, ◌++◌, map, find, Option, Some, None, refl, sym, ap, ◌∙◌, inl, inr, ⊎_elim, bytes_eq}
+use Rattle.std.proofs.Common.{◌≡◌, ℕ, ◌+◌, ◌<◌, length, subst, arith, Bool, true, false, cond, List, [], ◌∷◌, ◌++◌, map, find, Option, Some, None, refl, sym, ap, ◌∙◌, inl, inr, ⊎_elim, bytes_eq}
 use Rattle.std.specs.Prelude.{Contains, unwrap_or, option_map, option_and_then}
 use Rattle.std.specs.List.{enumerate_from, AllByRecursion as AllOf}
 use Rattle.std.specs.Option.{option_or}
@@ -19,7 +19,7 @@ use Rattle.added_alike.specs.AddedAlike.{AddedSectionsAreFound, NamedSectionsKee
 abbrev is_named : List ℕ → Section → Bool
 is_named name s = bytes_eq s.name name
 
-abbrev is_named_there : List ℕ → ℕ × Section → Bool
+abbrev pub is_named_there : List ℕ → ℕ × Section → Bool
 is_named_there name e = bytes_eq e.1.name name
 
 abbrev is_new_named : List ℕ → NewSection → Bool
@@ -100,6 +100,16 @@ module _ (file : List ℕ) (sections : List Section) (addition : Addition) where
 -- the bytes of the section that is found with its index
 pub bytes_there : (sections : List Section) (name : List ℕ) (e : ℕ × Section) → find (is_named_there name) (enumerate_from 1 sections) ≡ Some e → section_bytes sections name ≡ e.1.content
 bytes_there sections name e is = ap content_of (found_there name 1 sections ∙ ap (λ (o : Option (ℕ × Section)). option_map (λ d. d.1) o) is)
+
+-- bytes are those of a section that is found
+pub found_by : (sections : List Section) (name : List ℕ) → 0 < length (section_bytes sections name) → (e : ℕ × Section) × (find (is_named_there name) (enumerate_from 1 sections) ≡ Some e) × (0 < length e.1.content)
+found_by sections name some = by (find (is_named_there name) (enumerate_from 1 sections)) refl
+  where
+    by : (o : Option (ℕ × Section)) → find (is_named_there name) (enumerate_from 1 sections) ≡ o → (e : ℕ × Section) × (find (is_named_there name) (enumerate_from 1 sections) ≡ Some e) × (0 < length e.1.content)
+    by (Some e) is = (e, is, subst (λ (w : List ℕ). 0 < length w) (bytes_there sections name e is) some)
+    by None is =
+        let none : section_bytes sections name ≡ [] = ap content_of (found_there name 1 sections ∙ ap (λ (o : Option (ℕ × Section)). option_map (λ d. d.1) o) is) in
+        absurd (omega (arith, ap length none, some))
 
 pub named_sections_keep_their_bytes : NamedSectionsKeepTheirBytes
 named_sections_keep_their_bytes file sections addition name i is =
