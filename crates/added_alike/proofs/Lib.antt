@@ -21,3 +21,4 @@ pub mod OldSections
 pub mod NewSections
 pub mod PlainNames
 pub mod Alike
+pub mod FileBytes
