@@ -1,24 +1,23 @@
 -- A program with sections added is a file of these sections, and of those that it had.
-use Rattle.std.proofs.Common.{◌≡◌, ℕ, ◌+◌, ◌*◌, ◌-◌, ◌<◌, ◌≤◌, ◌^◌, Bool, true, eqb, ◌||◌, List, ◌∷◌, ◌++◌, length, drop, find, flat_map, map, codes, Option, Some, None, Ok, refl, sym, ap, ◌∙◌, subst, arith, length-append}
+use Rattle.std.proofs.Common.{◌≡◌, ℕ, ◌+◌, ◌*◌, ◌-◌, ◌<◌, ◌≤◌, ◌^◌, Bool, true, eqb, ◌||◌, List, ◌++◌, length, drop, flat_map, map, codes, Ok, refl, sym, ap, ◌∙◌, subst, arith, length-append}
 use Rattle.std.specs.List.{enumerate_from}
-use Rattle.std.proofs.lemmas.List.{length-map}
-use Rattle.index_model.specs.Sections.{Section, begins_with, field, fits, header_at, headers_from, magic, names, names_fit, names_index, section_bytes, section_count, sections_from, sections_of, table_at}
-use Rattle.reach_model.specs.Added.{NewSection, Addition, added, headers_at, names_start, new_count, new_headers, new_names, new_sections, new_sections_from, section_pieces}
+use Rattle.index_model.specs.Sections.{Section, fits, header_at, headers_from, magic, names, names_fit, names_index, section_bytes, section_count, sections_from, sections_of, table_at}
+use Rattle.reach_model.specs.Added.{NewSection, Addition, added, headers_at, names_start, new_names, new_sections, new_sections_from, section_pieces}
 use Rattle.reach_model.specs.AddedSections.{Fits, IsClearOfTheHeader, more_at, new_section, old_section, sections_then}
 use Rattle.added_alike.proofs.Accepted.{Accepted, accepted, is_accepted}
-use Rattle.added_alike.proofs.Bytes.{begins_length, same_start}
+use Rattle.added_alike.proofs.Bytes.{same_start}
 use Rattle.added_alike.proofs.Contents.{or_true}
 use Rattle.added_alike.proofs.Fields.{count_added, drop-added, front_added, front_field, header_size_added, length-added, names_index_added, table_added, table_late}
 use Rattle.added_alike.proofs.Grown.{names_grown}
 use Rattle.added_alike.proofs.GrownNames.{new_names_there}
-use Rattle.added_alike.proofs.Named.{found_by, found_old, is_named_there}
+use Rattle.added_alike.proofs.Named.{found_by, found_old}
 use Rattle.added_alike.proofs.NewSections.{ended_name, new_sections_are, plain}
 use Rattle.added_alike.proofs.OldSections.{old_sections}
 use Rattle.added_alike.proofs.Pieces.{StandFrom}
 use Rattle.added_alike.proofs.Placed.{contents_stand}
 use Rattle.added_alike.proofs.PlainNames.{new_are_names, new_are_plain, old_are_plain, without_zeros}
 use Rattle.added_alike.proofs.Read.{ArePlain, all_plain, joined}
-use Rattle.added_alike.proofs.Whole.{added_headers, length-whole, long, whole, whole_added}
+use Rattle.added_alike.proofs.Whole.{added_headers, length-whole, long, whole_added}
 
 -- the program's laws are those of what it is with sections added, where its names' section has an index of four bytes
 module _ (file : List ℕ) (sections : List Section) (addition : Addition) (ok : Accepted file sections) (clear : IsClearOfTheHeader file) (may : Fits file sections addition) (small : names_index file < 2 ^ 32) where

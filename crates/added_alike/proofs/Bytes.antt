@@ -1,6 +1,6 @@
 -- Bytes at a place, by what stands before and behind.
-use Rattle.std.proofs.Common.{◌≡◌, ℕ, zero, suc, ◌+◌, ◌-◌, ◌<◌, ◌≤◌, ◌^◌, min, Bool, List, [], ◌∷◌, ◌++◌, length, take, drop, refl, sym, ap, ◌∙◌, subst, arith, nat_eq}
-use Rattle.std.proofs.lemmas.List.{append_assoc, append-nil, length-append, length-take, length-drop, length-take-le, take-append-le, drop-append-le, take_at, drop_at, take-append-drop, drop-drop, drop-take, take-take, take_all}
+use Rattle.std.proofs.Common.{◌≡◌, ℕ, ◌+◌, ◌-◌, ◌<◌, ◌≤◌, ◌^◌, Bool, List, [], ◌++◌, length, take, drop, refl, sym, ap, ◌∙◌, arith, nat_eq}
+use Rattle.std.proofs.lemmas.List.{append_assoc, append-nil, length-append, length-drop, length-take-le, take-append-le, drop-append-le, drop-drop, drop-take, take-take}
 use Rattle.std.proofs.Math.Seq.{drop-append-add}
 use lib.Pointwise.{pointwise}
 use Rattle.byteorder.specs.Endian.{little_number, little_bytes}

@@ -1,8 +1,7 @@
 -- The bytes of a section by its header.
-use Rattle.std.proofs.Common.{◌≡◌, ℕ, ◌+◌, ◌<◌, ◌≤◌, Bool, true, false, cond, eqb, ◌||◌, leb, List, [], ◌∷◌, length, refl, sym, ap, ◌∙◌, arith}
+use Rattle.std.proofs.Common.{◌≡◌, ℕ, ◌+◌, ◌≤◌, Bool, true, false, cond, eqb, ◌||◌, leb, List, [], ◌∷◌, length, refl, ap, ◌∙◌, arith}
 use Rattle.std.proofs.lemmas.Bool.{eqb-true, le-leb, leb-true}
 use Rattle.index_model.specs.Sections.{Header, bytes_from, content, fits, is_empty}
-use Rattle.added_alike.proofs.Bytes.{Begins, begins_length, from_begins}
 use Rattle.added_alike.proofs.HeaderFields.{has_no_bits}
 use Rattle.added_alike.proofs.Placed.{StandsAt}
 

@@ -1,5 +1,5 @@
 -- Of bytes, the index of the names' section has four bytes.
-use Rattle.std.proofs.Common.{◌≡◌, ℕ, ◌+◌, ◌*◌, ◌<◌, ◌^◌, Bool, true, false, cond, eqb, List, length, take, drop, Ok, refl, sym, ap, ◌∙◌, subst, arith, slice_index}
+use Rattle.std.proofs.Common.{◌≡◌, ℕ, ◌+◌, ◌*◌, ◌<◌, ◌^◌, Bool, true, false, cond, eqb, List, take, drop, Ok, sym, ap, ◌∙◌, subst, arith, slice_index}
 use Rattle.std.proofs.lemmas.List.{drop-drop, drop-take, get_or-drop}
 use Rattle.byteorder.specs.Endian.{little_number}
 use Rattle.byteorder.specs.Numbers.{little_from-lt, little_from-take}
@@ -17,7 +17,7 @@ module _ (file : List ℕ) (bytes : (k : ℕ) → slice_index file k < 256) wher
   link_fits =
       let there : List ℕ = drop (table_at file + 64 * 0) file in
       let e : little_number 4 (drop 40 (take 64 there)) ≡ little_number 4 (drop (table_at file + 64 * 0 + 40) file) =
-          ap (little_number 4) (drop-take 40 24 there) ∙ little_from-take 0 4 24 (drop 40 there) (omega arith) ∙ ap (little_number 4) (drop-drop 40 (table_at file + 64 * 0) file) in
+      ap (little_number 4) (drop-take 40 24 there) ∙ little_from-take 0 4 24 (drop 40 there) (omega arith) ∙ ap (little_number 4) (drop-drop 40 (table_at file + 64 * 0) file) in
       subst (λ (n : ℕ). n < 2 ^ 32) (sym e) (number_fits 4 (table_at file + 64 * 0 + 40))
 
   short_fits : field 2 62 file < 2 ^ 16

@@ -1,5 +1,5 @@
 -- Bytes whose ELF header says anew where the section headers are, how many, and which has the names.
-use Rattle.std.proofs.Common.{◌≡◌, ℕ, ◌+◌, ◌<◌, ◌≤◌, ◌^◌, List, length, take, drop, refl, sym, ap, ◌∙◌, arith}
+use Rattle.std.proofs.Common.{◌≡◌, ℕ, ◌+◌, ◌<◌, ◌≤◌, ◌^◌, List, length, drop, ◌∙◌, arith}
 use Rattle.index_model.specs.Sections.{bytes_from, field}
 use Rattle.reach_model.specs.Added.{put}
 use Rattle.added_alike.proofs.Puts.{before_put, drop-put, field_before_put, field_behind_put, length-put, put_there}

@@ -1,9 +1,9 @@
 -- The program's section headers, and the bytes of its sections, once others are added.
-use Rattle.std.proofs.Common.{◌≡◌, ℕ, ◌+◌, ◌*◌, ◌-◌, ◌<◌, ◌≤◌, ◌^◌, Bool, true, false, cond, eqb, List, [], ◌∷◌, ◌++◌, length, take, Option, Some, None, refl, sym, ap, ◌∙◌, subst, arith, pos_of_ne-zero}
+use Rattle.std.proofs.Common.{◌≡◌, ℕ, ◌+◌, ◌<◌, ◌≤◌, ◌^◌, Bool, true, false, eqb, List, [], ◌++◌, length, take, Option, Some, refl, sym, ap, ◌∙◌, subst, arith, pos_of_ne-zero}
 use Rattle.std.proofs.lemmas.Bool.{ne_eqb, eqb-true}
-use Rattle.std.proofs.lemmas.List.{append-nil, length-append}
-use Rattle.index_model.specs.Sections.{Header, Section, bytes_from, content, fits, header, header_at, is_empty, names, names_index, section_bytes, section_count}
-use Rattle.reach_model.specs.Added.{Addition, added, debug_str, grown_names, grown_strings, is_at, more_strings, moved, names_at, new_names, old_header, strings_at, strings_index}
+use Rattle.std.proofs.lemmas.List.{append-nil}
+use Rattle.index_model.specs.Sections.{Header, Section, bytes_from, content, fits, header, header_at, is_empty, names_index, section_count}
+use Rattle.reach_model.specs.Added.{Addition, added, grown_names, grown_strings, is_at, more_strings, moved, names_at, new_names, old_header, strings_at, strings_index}
 use Rattle.reach_model.specs.AddedSections.{IsClearOfTheHeader, more_at}
 use Rattle.added_alike.proofs.Accepted.{Accepted}
 use Rattle.added_alike.proofs.Bytes.{begins_length, from_begins}
@@ -12,7 +12,7 @@ use Rattle.added_alike.proofs.Fields.{drop-added, length-added, old_header_added
 use Rattle.added_alike.proofs.HeaderFields.{at_moved, flags_moved, kind_moved, name_moved, size_moved}
 use Rattle.added_alike.proofs.Kept.{at_some, names_are, names_are_somewhere, names_inside, strings_content}
 use Rattle.added_alike.proofs.Placed.{StandsAt, names_placed, strings_placed}
-use Rattle.added_alike.proofs.Whole.{length-own, own_bytes, whole, whole_begins}
+use Rattle.added_alike.proofs.Whole.{length-own, own_bytes, whole_begins}
 
 -- a section whose header keeps its name and its flags, and whose bytes have more behind them
 pub record IsGrown (f g : List ℕ) (h k : Header) (more : List ℕ) : Type 0 where

@@ -1,7 +1,6 @@
 -- The bytes of the names, once sections are added.
 use Rattle.std.proofs.Common.{◌≡◌, ℕ, ◌+◌, ◌<◌, ◌^◌, Bool, true, false, cond, eqb, List, [], ◌++◌, length, drop, unwrap_or, refl, sym, ap, ◌∙◌, arith}
 use Rattle.std.proofs.lemmas.Bool.{eq-eqb, ne_eqb}
-use Rattle.std.proofs.lemmas.List.{append_assoc, drop-drop}
 use Rattle.index_model.specs.Sections.{Section, content, header_at, names, names_index}
 use Rattle.reach_model.specs.Added.{Addition, added, is_at, more_strings, names_start, new_names, shares, strings_index}
 use Rattle.reach_model.specs.AddedSections.{IsClearOfTheHeader, more_at}

@@ -1,6 +1,6 @@
 -- The fields of the section headers that are written.
-use Rattle.std.proofs.Common.{◌≡◌, ℕ, ◌+◌, ◌<◌, ◌≤◌, ◌^◌, Bool, true, false, cond, eqb, ◌||◌, List, ◌++◌, length, drop, refl, sym, ap, ◌∙◌, arith}
-use Rattle.index_model.specs.Sections.{Header, field, header}
+use Rattle.std.proofs.Common.{◌≡◌, ℕ, ◌+◌, ◌<◌, ◌≤◌, ◌^◌, Bool, true, false, cond, eqb, ◌||◌, List, length, refl, ap, ◌∙◌, arith}
+use Rattle.index_model.specs.Sections.{field, header}
 use Rattle.reach_model.specs.Added.{count_beside, first_header, index_beside, moved, put, with_bits}
 use Rattle.added_alike.proofs.Puts.{field_before_put, field_behind_put, length-put, put_there}
 

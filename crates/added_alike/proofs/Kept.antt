@@ -1,14 +1,14 @@
 -- What a program's section of the strings holds, and that its names stand in a section with a header of its own.
-use Rattle.std.proofs.Common.{◌≡◌, ℕ, zero, suc, ◌+◌, ◌-◌, ◌<◌, ◌≤◌, Bool, true, false, cond, eqb, ◌||◌, List, [], ◌∷◌, ◌++◌, length, drop, find, codes, option_map, option_and_then, Option, Some, None, Ok, refl, sym, ap, ◌∙◌, subst, arith}
+use Rattle.std.proofs.Common.{◌≡◌, ℕ, zero, suc, ◌-◌, ◌<◌, Bool, true, false, cond, eqb, ◌||◌, List, [], length, drop, find, codes, option_and_then, Option, Some, None, Ok, sym, ap, ◌∙◌, subst, arith}
 use Rattle.std.specs.List.{enumerate_from}
 use Rattle.std.proofs.lemmas.Bool.{ne_eqb, eqb-true}
 use Rattle.common_laws.proofs.Options.{of_option_map}
 use Rattle.ix_base.specs.Reading.{before_zero}
-use Rattle.index_model.specs.Sections.{Header, Section, content, fits, header_at, headers_from, index_named, names, names_fit, names_index, section_bytes, section_count, sections_from}
+use Rattle.index_model.specs.Sections.{Header, Section, content, fits, header_at, headers_from, index_named, names, names_index, section_bytes, section_count, sections_from}
 use Rattle.reach_model.specs.Added.{Addition, debug_str, is_at, strings_index}
 use Rattle.added_alike.proofs.Accepted.{Accepted}
 use Rattle.added_alike.proofs.Named.{bytes_there, is_named_there}
-use Rattle.added_alike.proofs.Read.{IsSection, found_is, none_are, split_first}
+use Rattle.added_alike.proofs.Read.{found_is, none_are, split_first}
 
 abbrev some_index : ℕ → Option ℕ
 some_index i = Some i

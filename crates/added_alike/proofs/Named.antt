@@ -1,10 +1,8 @@
 -- Sections by their names, before and after sections are added.
-use Rattle.std.proofs.Common.{◌≡◌, ℕ, ◌+◌, ◌<◌, length, subst, arith, Bool, true, false, cond, List, [], ◌∷◌, ◌++◌, map, find, Option, Some, None, refl, sym, ap, ◌∙◌, inl, inr, ⊎_elim, bytes_eq}
+use Rattle.std.proofs.Common.{◌≡◌, ℕ, ◌+◌, ◌<◌, length, subst, arith, Bool, true, false, cond, List, [], ◌∷◌, ◌++◌, map, find, Option, Some, None, refl, sym, ap, ◌∙◌, ⊎_elim, bytes_eq}
 use Rattle.std.specs.Prelude.{Contains, unwrap_or, option_map, option_and_then}
 use Rattle.std.specs.List.{enumerate_from, AllByRecursion as AllOf}
 use Rattle.std.specs.Option.{option_or}
-use Rattle.std.proofs.lemmas.Bool.{true≢false, cases_Bool}
-use Rattle.std.proofs.lemmas.Option.{same_Some}
 use Rattle.std.proofs.lemmas.List.Folds.{find-append}
 use Rattle.std.proofs.lemmas.List.Elements.{Contains-append_cases}
 use Rattle.std.proofs.lemmas.Slice.Eq.{bytes_eq-Decides}
@@ -189,9 +187,9 @@ module _ (file : List ℕ) (sections : List Section) (addition : Addition) (fits
   found_by_name s c = ⊎_elim
       (λ (l : Contains addition.sections s). (all_in (IsNewIn sections) addition.sections s fits.new l, of_listed s l))
       (λ (l : Contains alone s).
-          let a = alone_is addition.strings (strings_index file sections addition) s l in
-          let name : s.name ≡ debug_str = ap (λ (t : NewSection). t.name) a.3 in
-          (ap (index_named sections) name ∙ strings_new a.1 a.2 a.0, of_alone s name a.4))
+      let a = alone_is addition.strings (strings_index file sections addition) s l in
+      let name : s.name ≡ debug_str = ap (λ (t : NewSection). t.name) a.3 in
+      (ap (index_named sections) name ∙ strings_new a.1 a.2 a.0, of_alone s name a.4))
       (Contains-append_cases addition.sections alone s c)
 
 pub added_sections_are_found : AddedSectionsAreFound

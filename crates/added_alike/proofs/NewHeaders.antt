@@ -1,8 +1,8 @@
 -- The section headers of added sections.
-use Rattle.std.proofs.Common.{◌≡◌, ℕ, ◌+◌, ◌<◌, ◌^◌, List, ◌∷◌, ◌++◌, length, take, drop, refl, sym, ap, ◌∙◌, arith}
+use Rattle.std.proofs.Common.{◌≡◌, ℕ, ◌+◌, ◌<◌, ◌^◌, List, ◌∷◌, ◌++◌, length, take, drop, refl, arith}
 use Rattle.std.proofs.lemmas.List.{take_at, drop_at}
 use Rattle.index_model.specs.Layout.{u32_bytes, u64_bytes}
-use Rattle.index_model.specs.Sections.{Header, bytes_from, header}
+use Rattle.index_model.specs.Sections.{header}
 use Rattle.reach_model.specs.Added.{NewSection, new_header, new_headers}
 use Rattle.added_alike.proofs.Bytes.{field_there}
 use Rattle.added_alike.proofs.Pieces.{start_at}

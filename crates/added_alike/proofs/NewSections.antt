@@ -1,11 +1,11 @@
 -- The sections that are added, in the file with them.
-use Rattle.std.proofs.Common.{◌≡◌, ℕ, zero, suc, ◌+◌, ◌*◌, ◌<◌, ◌≤◌, ◌^◌, List, [], ◌∷◌, ◌++◌, length, take, drop, map, flat_map, Some, Ok, refl, sym, ap, ◌∙◌, subst, arith}
+use Rattle.std.proofs.Common.{◌≡◌, ℕ, ◌+◌, ◌*◌, ◌<◌, ◌≤◌, ◌^◌, List, [], ◌∷◌, ◌++◌, length, take, drop, map, flat_map, Ok, refl, sym, ap, ◌∙◌, subst, arith}
 use Rattle.std.specs.List.{AllByRecursion as AllOf}
 use Rattle.std.proofs.lemmas.List.{append_assoc, drop-drop, length-append}
 use Rattle.ix_base.specs.Reading.{before_zero}
 use Rattle.index_model.specs.Layout.{ended}
-use Rattle.index_model.specs.Sections.{Header, Section, content, header, header_at, headers_from, names, sections_from, table_at}
-use Rattle.reach_model.specs.Added.{NewSection, new_header, new_headers}
+use Rattle.index_model.specs.Sections.{Header, Section, header, header_at, headers_from, names, sections_from, table_at}
+use Rattle.reach_model.specs.Added.{NewSection, new_headers}
 use Rattle.reach_model.specs.AddedSections.{HavePlaces}
 use Rattle.added_alike.proofs.Bytes.{drop_behind}
 use Rattle.added_alike.proofs.Contents.{content_there, fits_there}
@@ -60,10 +60,10 @@ module _ (f : List ℕ) (table : ℕ) (there : table_at f ≡ table) (short : le
       let here : IsSection f (header_at f i) (plain s) = subst (λ (h : Header). IsSection f h (plain s)) (sym is) first in
       let e : table + 64 * i + 64 ≡ table + 64 * (i + 1) = omega arith in
       let next : drop (table + 64 * (i + 1)) f ≡ new_headers (name + length s.name + 1) (start_at place + length s.content) ss =
-          ap (λ (k : ℕ). drop k f) (sym e) ∙ sym (drop-drop 64 (table + 64 * i) f) ∙ ap (drop 64) headers ∙ behind_first name place s ss in
+      ap (λ (k : ℕ). drop k f) (sym e) ∙ sym (drop-drop 64 (table + 64 * i) f) ∙ ap (drop 64) headers ∙ behind_first name place s ss in
       let size : length (ended_name s) + 0 ≡ length s.name + 1 = omega (arith, length-append s.name (0 ∷ [])) in
       let n : name + (length s.name + 1) ≡ name + length s.name + 1 = omega arith in
       let further : drop (name + length s.name + 1) (names f) ≡ flat_map ended_name ss =
-          ap (λ (k : ℕ). drop k (names f)) (sym n) ∙ sym (drop-drop (length s.name + 1) name (names f)) ∙ ap (drop (length s.name + 1)) named ∙ drop_behind (length s.name + 1) 0 (ended_name s) (flat_map ended_name ss) size in
+      ap (λ (k : ℕ). drop k (names f)) (sym n) ∙ sym (drop-drop (length s.name + 1) name (names f)) ∙ ap (drop (length s.name + 1)) named ∙ drop_behind (length s.name + 1) 0 (ended_name s) (flat_map ended_name ss) size in
       let others = new_sections_are ss (i + 1) (name + length s.name + 1) (start_at place + length s.content) next further stand.2 places.1 none.1 in
       with_first f i (length ss) (plain s) (map plain ss) here others

@@ -1,8 +1,8 @@
 -- The program's sections in the file with sections added.
-use Rattle.std.proofs.Common.{◌≡◌, ℕ, zero, suc, ◌+◌, ◌-◌, ◌<◌, ◌≤◌, ◌^◌, List, [], ◌∷◌, ◌++◌, length, drop, map, Some, Ok, refl, sym, ap, ◌∙◌, subst, arith}
+use Rattle.std.proofs.Common.{◌≡◌, ℕ, zero, suc, ◌+◌, ◌-◌, ◌<◌, ◌^◌, List, ◌++◌, length, drop, map, Ok, sym, ap, ◌∙◌, subst, arith}
 use Rattle.std.specs.List.{enumerate_from}
 use Rattle.ix_base.specs.Reading.{before_zero}
-use Rattle.index_model.specs.Sections.{Header, Section, content, header_at, headers_from, names, names_index, section_count, sections_from}
+use Rattle.index_model.specs.Sections.{Header, Section, header_at, headers_from, names, names_index, section_count, sections_from}
 use Rattle.reach_model.specs.Added.{Addition, added}
 use Rattle.reach_model.specs.AddedSections.{IsClearOfTheHeader, more_at, old_section}
 use Rattle.added_alike.proofs.Accepted.{Accepted}

@@ -1,5 +1,5 @@
 -- Where the pieces behind a program stand.
-use Rattle.std.proofs.Common.{◌≡◌, ℕ, ◌+◌, ◌≤◌, List, [], ◌∷◌, ◌++◌, length, take, drop, replicate, refl, sym, ap, ◌∙◌, subst, arith}
+use Rattle.std.proofs.Common.{◌≡◌, ℕ, ◌+◌, ◌≤◌, List, [], ◌∷◌, ◌++◌, length, take, replicate, refl, ap, ◌∙◌, subst, arith}
 use Rattle.std.proofs.lemmas.List.{length-append, length-replicate, take_all, drop_at}
 use Rattle.index_model.specs.Sections.{bytes_from}
 use Rattle.reach_model.specs.Added.{padded, padding, with_pieces}
@@ -39,9 +39,9 @@ pieces_stand bytes (c ∷ cs) whole begins =
     let here : Begins (padded bytes ++ c) whole = begins_on (pieces_begin (padded bytes ++ c) cs) begins in
     let size : length (padded bytes ++ c) ≡ start_at (length bytes) + length c = omega (arith, length-append (padded bytes) c, length-padded bytes) in
     let at : bytes_from (start_at (length bytes)) (length c) whole ≡ c =
-        from_begins (start_at (length bytes)) (length c) here (omega (arith, size))
-        ∙ ap (take (length c)) (drop_at (padded bytes) c (start_at (length bytes)) (length-padded bytes))
-        ∙ take_all (length c) c (omega arith) in
+    from_begins (start_at (length bytes)) (length c) here (omega (arith, size))
+    ∙ ap (take (length c)) (drop_at (padded bytes) c (start_at (length bytes)) (length-padded bytes))
+    ∙ take_all (length c) c (omega arith) in
     (at, omega (arith, size, begins_length here), subst (λ (place : ℕ). StandFrom whole place cs) size (pieces_stand (padded bytes ++ c) cs whole begins))
 
 -- also in bytes that are the same from the 64th on

@@ -1,5 +1,5 @@
 -- Where the pieces stand in a program with sections added.
-use Rattle.std.proofs.Common.{◌≡◌, ℕ, ◌+◌, ◌<◌, ◌≤◌, ◌^◌, Bool, true, false, cond, List, [], ◌∷◌, ◌++◌, length, take, Option, Some, None, refl, sym, ap, ◌∙◌, subst, arith}
+use Rattle.std.proofs.Common.{◌≡◌, ℕ, ◌+◌, ◌<◌, ◌≤◌, ◌^◌, Bool, false, cond, List, [], ◌∷◌, ◌++◌, length, take, Option, Some, sym, ap, subst, arith}
 use Rattle.index_model.specs.Sections.{Section, bytes_from, names_index}
 use Rattle.reach_model.specs.Added.{Addition, added, body, grown, grown_names, grown_strings, is_at, name_pieces, names_at, new_sections_from, padded, section_pieces, string_pieces, strings_at, strings_index, with_pieces}
 use Rattle.added_alike.proofs.Bytes.{Begins, begins_length, begins_on}

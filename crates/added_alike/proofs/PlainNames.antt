@@ -1,7 +1,7 @@
 -- Names of sections that are not compressed.
-use Rattle.std.proofs.Common.{◌≡◌, ℕ, ◌+◌, Bool, true, false, List, [], ◌∷◌, ◌++◌, map, codes, Option, Some, None, refl, sym, ap, ◌∙◌}
+use Rattle.std.proofs.Common.{◌≡◌, ℕ, ◌+◌, List, [], ◌∷◌, ◌++◌, map, Option, Some, None, refl, ◌∙◌}
 use Rattle.std.specs.List.{enumerate_from, AllByRecursion as AllOf}
-use Rattle.index_model.specs.Sections.{Section, begins_with, is_compressed}
+use Rattle.index_model.specs.Sections.{Section, is_compressed}
 use Rattle.reach_model.specs.Added.{NewSection, Addition, debug_str, new_sections, strings_alone, strings_index}
 use Rattle.reach_model.specs.AddedSections.{IsNameOfOne, old_section}
 use Rattle.added_alike.proofs.NewSections.{plain}

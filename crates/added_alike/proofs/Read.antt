@@ -1,11 +1,10 @@
 -- The sections of a file one by one, each by its header.
-use Rattle.std.proofs.Common.{◌≡◌, ℕ, zero, suc, ◌+◌, ◌<◌, ◌≤◌, Bool, true, false, cond, not, List, [], ◌∷◌, ◌++◌, drop, find, Option, Some, None, Result, Ok, Err, refl, sym, ap, ◌∙◌, subst, arith}
+use Rattle.std.proofs.Common.{◌≡◌, ℕ, zero, suc, ◌+◌, ◌<◌, ◌≤◌, Bool, true, false, cond, not, List, [], ◌∷◌, ◌++◌, drop, find, Option, Some, Ok, refl, sym, ap, ◌∙◌, subst, arith}
 use Rattle.std.specs.List.{enumerate_from, AllByRecursion as AllOf}
 use Rattle.std.proofs.lemmas.Option.{same_Some}
-use Rattle.ix_base.specs.declared.fault.Fault.{Fault}
 use Rattle.ix_base.specs.declared.code.TheConstants.{COMPRESSED, SECTION_TABLE}
 use Rattle.ix_base.specs.Reading.{before_zero}
-use Rattle.index_model.specs.Meaning.{◌>>=◌, ◌>>◌, fault, holds_or, some_or}
+use Rattle.index_model.specs.Meaning.{◌>>=◌, fault, holds_or, some_or}
 use Rattle.index_model.specs.Sections.{Header, Section, content, fits, header_at, headers_from, is_compressed, names, none_compressed, section_from, sections_from}
 use Rattle.index_model.proofs.Meanings.{bind_ok, holds_ok, same_ok, some_ok}
 

@@ -1,17 +1,14 @@
 -- The bytes of a program with sections added: what stays, and where the section headers are.
-use Rattle.std.proofs.Common.{◌≡◌, ℕ, ◌+◌, ◌*◌, ◌-◌, ◌<◌, ◌≤◌, ◌^◌, Bool, true, false, cond, eqb, ltb, List, [], ◌∷◌, ◌++◌, length, take, drop, flat_map, refl, sym, ap, ◌∙◌, subst, arith}
-use Rattle.std.proofs.lemmas.Bool.{lt-ltb}
+use Rattle.std.proofs.Common.{◌≡◌, ℕ, ◌+◌, ◌*◌, ◌<◌, ◌≤◌, Bool, true, false, cond, eqb, List, [], ◌∷◌, ◌++◌, length, take, drop, refl, ap, ◌∙◌, arith}
 use Rattle.std.proofs.lemmas.List.{append_assoc, length-append}
-use Rattle.index_model.specs.Layout.{below}
-use Rattle.index_model.specs.Sections.{Section, bytes_from, field, header, header_at, magic, begins_with, names_index, section_count, table_at}
-use Rattle.reach_model.specs.Added.{NewSection, Addition, added, body, count_field, first_header, grown_names, grown_strings, headers_at, index_field, is_at, moved, names_at, names_start, new_count, new_header, new_headers, new_sections, new_sections_from, old_header, old_headers, padded, name_pieces, section_pieces, string_pieces, strings_at, strings_index}
-use Rattle.added_alike.proofs.Bytes.{Begins, begins_first, begins_length, begins_on, drop_behind, from_begins, length_from, same_field, same_start}
+use Rattle.index_model.specs.Sections.{Section, bytes_from, names_index, section_count, table_at}
+use Rattle.reach_model.specs.Added.{NewSection, Addition, body, grown_names, grown_strings, headers_at, is_at, names_at, names_start, new_count, new_header, new_headers, new_sections, new_sections_from, old_header, old_headers, padded, name_pieces, section_pieces, string_pieces, strings_at, strings_index}
+use Rattle.added_alike.proofs.Bytes.{Begins, begins_first, begins_length, begins_on, drop_behind, length_from}
 use Rattle.added_alike.proofs.Pieces.{padded_begins, pieces_begin, start_at}
 use Rattle.added_alike.proofs.Chunks.{HaveSixtyFour, behind_all, length_of_all, list_at}
 use Rattle.added_alike.proofs.NewHeaders.{length-new_header}
 use Rattle.added_alike.proofs.HeaderFields.{length-first_header, length-moved}
 use Rattle.added_alike.proofs.Accepted.{Accepted}
-use Rattle.added_alike.proofs.Fronts.{before_patched, count_patched, drop-patched, index_patched, length-patched, size_patched, table_patched}
 
 length-new_headers : (name place : ℕ) (ss : List NewSection) → length (new_headers name place ss) ≡ 64 * length ss
 unfolding new_headers

@@ -1,5 +1,5 @@
 -- The laws of a program with sections added, as statements.
-use Rattle.std.specs.Prelude.{◌≡◌, ◌<◌, ℕ, ◌^◌, List, ◌++◌, length, Contains, Some, Ok}
+use Rattle.std.specs.Prelude.{◌≡◌, ℕ, List, ◌++◌, Contains, Some, Ok}
 use Rattle.index_model.specs.Sections.{Section, index_named, section_bytes, sections_of}
 use Rattle.reach_model.specs.Added.{NewSection, Addition, added, new_sections}
 use Rattle.reach_model.specs.AddedSections.{Fits, IsClearOfTheHeader, more_at, sections_then}
