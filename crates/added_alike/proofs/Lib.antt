@@ -22,3 +22,4 @@ pub mod NewSections
 pub mod PlainNames
 pub mod Alike
 pub mod FileBytes
+pub mod Refuted
