@@ -19,8 +19,8 @@ use Rattle.added_alike.proofs.PlainNames.{new_are_names, new_are_plain, old_are_
 use Rattle.added_alike.proofs.Read.{ArePlain, all_plain, joined}
 use Rattle.added_alike.proofs.Whole.{added_headers, length-whole, long, whole_added}
 
--- the program's laws are those of what it is with sections added, where its names' section has an index of four bytes
-module _ (file : List ℕ) (sections : List Section) (addition : Addition) (ok : Accepted file sections) (clear : IsClearOfTheHeader file) (may : Fits file sections addition) (small : names_index file < 2 ^ 32) where
+-- a program that may be added to, where the index of its names' section has four bytes, as the link of section 0 has
+module _ (file : List ℕ) (sections : List Section) (addition : Addition) (ok : Accepted file sections) (clear : IsClearOfTheHeader file) (allowed : Fits file sections addition) (small : names_index file < 2 ^ 32) where
   abbrev then_ : List ℕ
   then_ = added file sections addition
 
@@ -31,7 +31,7 @@ module _ (file : List ℕ) (sections : List Section) (addition : Addition) (ok :
   all = sections_then file sections addition
 
   size : length then_ < 2 ^ 64
-  size = may.size
+  size = allowed.size
 
   -- ---- its sections
 
@@ -48,7 +48,7 @@ module _ (file : List ℕ) (sections : List Section) (addition : Addition) (ok :
 
   new_ones : sections_from then_ (section_count file) (headers_from then_ (section_count file) (length news)) ≡ Ok (map plain news)
   new_ones = new_sections_are then_ (headers_at file sections addition) (table_added file sections addition ok size) size news (section_count file) (names_start file sections addition) (new_sections_from file sections addition)
-      headers_there names_there contents_there may.places (without_zeros news (new_are_names file sections addition may.names))
+      headers_there names_there contents_there allowed.places (without_zeros news (new_are_names file sections addition allowed.names))
 
   all_are : all ≡ map (old_section file sections addition) (enumerate_from 1 sections) ++ map plain news
   unfolding sections_then new_section
@@ -63,7 +63,7 @@ module _ (file : List ℕ) (sections : List Section) (addition : Addition) (ok :
       subst (λ (k : ℕ). sections_from then_ 1 (headers_from then_ 1 k) ≡ Ok all) count (subst (λ (ss : List Section). sections_from then_ 1 (headers_from then_ 1 (section_count file - 1 + length news)) ≡ Ok ss) (sym all_are) joint)
 
   all_are_plain : ArePlain all
-  all_are_plain = subst ArePlain (sym all_are) (all_plain (map (old_section file sections addition) (enumerate_from 1 sections)) (map plain news) (old_are_plain file sections addition sections 1 ok.plain) (new_are_plain news (new_are_names file sections addition may.names)))
+  all_are_plain = subst ArePlain (sym all_are) (all_plain (map (old_section file sections addition) (enumerate_from 1 sections)) (map plain news) (old_are_plain file sections addition sections 1 ok.plain) (new_are_plain news (new_are_names file sections addition allowed.names)))
 
   -- ---- its `.debug_info`
 
@@ -112,5 +112,6 @@ module _ (file : List ℕ) (sections : List Section) (addition : Addition) (ok :
   pub sections_then_are : sections_of then_ ≡ Ok all
   sections_then_are = is_accepted then_ all then_is
 
+-- the law, where that index has four bytes
 pub sections_are_added_below : (file : List ℕ) (sections : List Section) (addition : Addition) → sections_of file ≡ Ok sections → IsClearOfTheHeader file → Fits file sections addition → names_index file < 2 ^ 32 → sections_of (added file sections addition) ≡ Ok (sections_then file sections addition)
-sections_are_added_below file sections addition is clear may small = sections_then_are file sections addition (accepted file sections is) clear may small
+sections_are_added_below file sections addition is clear allowed small = sections_then_are file sections addition (accepted file sections is) clear allowed small

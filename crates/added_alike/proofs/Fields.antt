@@ -68,7 +68,7 @@ module _ (file : List ℕ) (sections : List Section) (addition : Addition) (ok :
   unfolding added
   count_there = count_patched table count index bytes enough (count_is_short (new_count file sections addition))
 
-  pub index_there : field 2 62 then_ ≡ index
+  index_there : field 2 62 then_ ≡ index
   unfolding added
   index_there = index_patched table count index bytes enough (index_is_short (names_index file))
 
@@ -87,7 +87,7 @@ module _ (file : List ℕ) (sections : List Section) (addition : Addition) (ok :
   some_sections : 0 < section_count file
   some_sections = omega (arith, ok.names_index)
 
-  pub header_0 : header_at then_ 0 ≡ header (first_header (new_count file sections addition) (names_index file) (own_bytes file sections addition 0))
+  header_0 : header_at then_ 0 ≡ header (first_header (new_count file sections addition) (names_index file) (own_bytes file sections addition 0))
   header_0 = old_header_added 0 some_sections ∙ ap header (first_is 0 refl)
 
   size_0 : (header_at then_ 0).size ≡ count_beside (new_count file sections addition)

@@ -32,5 +32,6 @@ module _ (file : List ℕ) (bytes : (k : ℕ) → slice_index file k < 256) wher
   unfolding names_index
   index_fits = by_field (eqb (field 2 62 file) 0xFFFF)
 
+-- the law of a file of bytes: of larger numbers the index may have more than the four bytes of a link
 pub sections_of_bytes_are_added : (file : List ℕ) (sections : List Section) (addition : Addition) → ((k : ℕ) → slice_index file k < 256) → sections_of file ≡ Ok sections → IsClearOfTheHeader file → Fits file sections addition → sections_of (added file sections addition) ≡ Ok (sections_then file sections addition)
-sections_of_bytes_are_added file sections addition bytes is clear may = sections_are_added_below file sections addition is clear may (index_fits file bytes)
+sections_of_bytes_are_added file sections addition bytes is clear allowed = sections_are_added_below file sections addition is clear allowed (index_fits file bytes)

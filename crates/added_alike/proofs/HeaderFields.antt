@@ -61,32 +61,32 @@ module _ (bytes : List ℕ) (size : length bytes ≡ 64) where
     abbrev three : List ℕ
     three = put 8 32 long two
 
-    w1 : 24 + 8 ≤ length one
-    w1 = omega (arith, length_bits)
+    room_in_one : 24 + 8 ≤ length one
+    room_in_one = omega (arith, length_bits)
 
-    l2 : length two ≡ 64
-    l2 = length-put 8 24 place one w1 ∙ length_bits
+    length_two : length two ≡ 64
+    length_two = length-put 8 24 place one room_in_one ∙ length_bits
 
-    w2 : 32 + 8 ≤ length two
-    w2 = omega (arith, l2)
+    room_in_two : 32 + 8 ≤ length two
+    room_in_two = omega (arith, length_two)
 
-    l3 : length three ≡ 64
-    l3 = length-put 8 32 long two w2 ∙ l2
+    length_three : length three ≡ 64
+    length_three = length-put 8 32 long two room_in_two ∙ length_two
 
-    w3 : 48 + 8 ≤ length three
-    w3 = omega (arith, l3)
+    room_in_three : 48 + 8 ≤ length three
+    room_in_three = omega (arith, length_three)
 
     pub length-moved : length (moved place long bytes) ≡ 64
     unfolding moved
-    length-moved = length-put 8 48 1 three w3 ∙ l3
+    length-moved = length-put 8 48 1 three room_in_three ∙ length_three
 
     -- a field before the place
     before_moved : (n p : ℕ) → p + n ≤ 24 → field n p (moved place long bytes) ≡ field n p one
     unfolding moved
     before_moved n p le =
-        field_before_put 8 48 1 three w3 n p (omega arith)
-        ∙ field_before_put 8 32 long two w2 n p (omega arith)
-        ∙ field_before_put 8 24 place one w1 n p le
+        field_before_put 8 48 1 three room_in_three n p (omega arith)
+        ∙ field_before_put 8 32 long two room_in_two n p (omega arith)
+        ∙ field_before_put 8 24 place one room_in_one n p le
 
     pub name_moved : (header (moved place long bytes)).name ≡ (header bytes).name
     unfolding header
@@ -103,13 +103,13 @@ module _ (bytes : List ℕ) (size : length bytes ≡ 64) where
     pub at_moved : place < 2 ^ 64 → (header (moved place long bytes)).at ≡ place
     unfolding header moved
     at_moved lt =
-        field_before_put 8 48 1 three w3 8 24 (omega arith)
-        ∙ field_before_put 8 32 long two w2 8 24 (omega arith)
-        ∙ put_there 8 24 place one w1 lt
+        field_before_put 8 48 1 three room_in_three 8 24 (omega arith)
+        ∙ field_before_put 8 32 long two room_in_two 8 24 (omega arith)
+        ∙ put_there 8 24 place one room_in_one lt
 
     pub size_moved : long < 2 ^ 64 → (header (moved place long bytes)).size ≡ long
     unfolding header moved
-    size_moved lt = field_before_put 8 48 1 three w3 8 32 (omega arith) ∙ put_there 8 32 long two w2 lt
+    size_moved lt = field_before_put 8 48 1 three room_in_three 8 32 (omega arith) ∙ put_there 8 32 long two room_in_two lt
 
   -- ---- section 0
 
@@ -117,23 +117,23 @@ module _ (bytes : List ℕ) (size : length bytes ≡ 64) where
     abbrev counted : List ℕ
     counted = put 8 32 (count_beside count) bytes
 
-    wc : 32 + 8 ≤ length bytes
-    wc = omega (arith, size)
+    room_for_count : 32 + 8 ≤ length bytes
+    room_for_count = omega (arith, size)
 
-    lc : length counted ≡ 64
-    lc = length-put 8 32 (count_beside count) bytes wc ∙ size
+    length_counted : length counted ≡ 64
+    length_counted = length-put 8 32 (count_beside count) bytes room_for_count ∙ size
 
-    wi : 40 + 4 ≤ length counted
-    wi = omega (arith, lc)
+    room_for_index : 40 + 4 ≤ length counted
+    room_for_index = omega (arith, length_counted)
 
     pub length-first_header : length (first_header count index bytes) ≡ 64
     unfolding first_header
-    length-first_header = length-put 4 40 (index_beside index) counted wi ∙ lc
+    length-first_header = length-put 4 40 (index_beside index) counted room_for_index ∙ length_counted
 
     pub size_first : count_beside count < 2 ^ 64 → (header (first_header count index bytes)).size ≡ count_beside count
     unfolding header first_header
-    size_first lt = field_before_put 4 40 (index_beside index) counted wi 8 32 (omega arith) ∙ put_there 8 32 (count_beside count) bytes wc lt
+    size_first lt = field_before_put 4 40 (index_beside index) counted room_for_index 8 32 (omega arith) ∙ put_there 8 32 (count_beside count) bytes room_for_count lt
 
     pub link_first : index_beside index < 2 ^ 32 → (header (first_header count index bytes)).link ≡ index_beside index
     unfolding header first_header
-    link_first lt = put_there 4 40 (index_beside index) counted wi lt
+    link_first lt = put_there 4 40 (index_beside index) counted room_for_index lt

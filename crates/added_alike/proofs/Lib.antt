@@ -22,4 +22,3 @@ pub mod NewSections
 pub mod PlainNames
 pub mod Alike
 pub mod FileBytes
-pub mod Refuted
