@@ -1,6 +1,6 @@
 -- Bytes at a place, by what stands before and behind.
-use Rattle.std.proofs.Common.{◌≡◌, ℕ, ◌+◌, ◌-◌, ◌<◌, ◌≤◌, ◌^◌, Bool, List, [], ◌++◌, length, take, drop, refl, sym, ap, ◌∙◌, arith, nat_eq}
-use Rattle.std.proofs.lemmas.List.{append_assoc, append-nil, length-append, length-drop, length-take-le, take-append-le, drop-append-le, drop-drop, drop-take, take-take}
+use Rattle.std.proofs.Common.{◌≡◌, ℕ, ◌+◌, ◌<◌, ◌≤◌, ◌^◌, Bool, List, [], ◌++◌, length, take, drop, refl, sym, ap, ◌∙◌, arith, nat_eq}
+use Rattle.std.proofs.lemmas.List.{append_assoc, append-nil, length-append, length-drop, length-take-le, take-append-le, drop-append-le, take-take}
 use Rattle.std.proofs.Math.Seq.{drop-append-add}
 use lib.Pointwise.{pointwise}
 use Rattle.byteorder.specs.Endian.{little_number, little_bytes}
@@ -37,20 +37,11 @@ from_front p n xs ys le = ap (take n) (drop-append-le p xs ys (omega arith)) ∙
 pub from_begins : (p n : ℕ) {xs ys : List ℕ} → Begins xs ys → p + n ≤ length xs → bytes_from p n ys ≡ bytes_from p n xs
 from_begins p n {xs} {ys} a le = ap (bytes_from p n) a.is ∙ from_front p n xs a.behind le
 
-pub from_drop : (p q : ℕ) (xs : List ℕ) → drop (q + p) xs ≡ drop p (drop q xs)
-from_drop p q xs = sym (drop-drop p q xs)
-
 pub drop_behind : (p n : ℕ) (xs ys : List ℕ) → length xs + n ≡ p → drop p (xs ++ ys) ≡ drop n ys
 drop_behind p n xs ys is = ap (λ (k : ℕ). drop k (xs ++ ys)) (sym is) ∙ drop-append-add xs ys n
 
 pub length_from : (p n : ℕ) (xs : List ℕ) → p + n ≤ length xs → length (bytes_from p n xs) ≡ n
 length_from p n xs le = length-take-le n (drop p xs) (omega (arith, length-drop p xs))
-
--- part of a part
-pub from_from : (p n q m : ℕ) (xs : List ℕ) → q + m ≤ n → bytes_from q m (bytes_from p n xs) ≡ bytes_from (p + q) m xs
-from_from p n q m xs le =
-    let e : n ≡ q + (n - q) = omega arith in
-    ap (λ (k : ℕ). take m (drop q (take k (drop p xs)))) e ∙ ap (take m) (drop-take q (n - q) (drop p xs)) ∙ take-take m (n - q) (drop q (drop p xs)) (omega arith) ∙ ap (take m) (drop-drop q p xs)
 
 -- ---- numbers
 

@@ -3,10 +3,6 @@ use Rattle.std.proofs.Common.{◌≡◌, ℕ, ◌<◌, ◌^◌, Bool, true, fals
 use Rattle.std.proofs.lemmas.Bool.{ltb-true, ne_eqb}
 use Rattle.reach_model.specs.Added.{count_beside, count_field, index_beside, index_field, reserved}
 
--- a number, or else another
-abbrev pick : Bool → ℕ → ℕ → ℕ
-pick b m n = cond b m n
-
 pub count_is_short : (n : ℕ) → count_field n < 2 ^ 16
 count_is_short n = by (ltb n reserved) refl
   where
