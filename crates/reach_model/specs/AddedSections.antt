@@ -1,10 +1,14 @@
 -- What the sections of a program are once others are added (System V gABI, chapter 4, "Sections").
-use Rattle.std.specs.Prelude.{◌≡◌, ◌+◌, ◌^◌, ◌<◌, ◌≤◌, ℕ, ◌==◌, false, List, [], ◌∷◌, ◌++◌, length, map, bytes_eq, codes, None, if◌then◌else◌}
+use Rattle.std.specs.Prelude.{◌≡◌, ◌+◌, ◌^◌, ◌<◌, ◌≤◌, ℕ, ◌==◌, false, List, [], ◌∷◌, ◌++◌, length, map, bytes_eq, slice_index, codes, None, if◌then◌else◌}
 use Rattle.std.specs.List.{enumerate_from, AllByRecursion as AllOf}
 use Rattle.index_model.specs.Sections.{Section, begins_with, header_at, index_named, is_empty, names_index, section_count}
 use Rattle.reach_model.specs.Added.{NewSection, Addition, added, debug_str, is_at, more_strings, names_start, new_names, new_sections, strings_index}
 
 -- ---- conditions
+
+-- the numbers of a file are bytes
+abbrev pub AreBytes : List ℕ → Type 0
+AreBytes file = (k : ℕ) → slice_index file k < 256
 
 -- no section that has bytes has one among the first 64 of the file, which are the ELF header
 abbrev pub IsClearOfTheHeader : List ℕ → Type 0

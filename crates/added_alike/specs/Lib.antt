@@ -1,0 +1,2 @@
+pub mod AddedAlike
+pub mod AddedMeaning
