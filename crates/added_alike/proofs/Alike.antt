@@ -4,19 +4,20 @@ use Rattle.std.specs.List.{enumerate_from}
 use Rattle.index_model.specs.Sections.{Section, fits, header_at, headers_from, magic, names, names_fit, names_index, section_bytes, section_count, sections_from, sections_of, table_at}
 use Rattle.reach_model.specs.Added.{NewSection, Addition, added, headers_at, names_start, new_names, new_sections, new_sections_from, section_pieces}
 use Rattle.reach_model.specs.AddedSections.{Fits, IsClearOfTheHeader, more_at, new_section, old_section, sections_then}
-use Rattle.added_alike.proofs.Accepted.{Accepted, accepted, is_accepted}
+use Rattle.reach_model.proofs.Accepted.{Accepted, accepted, is_accepted}
 use Rattle.added_alike.proofs.Bytes.{same_start}
 use Rattle.added_alike.proofs.Contents.{or_true}
 use Rattle.added_alike.proofs.Fields.{count_added, drop-added, front_added, front_field, header_size_added, length-added, names_index_added, table_added, table_late}
 use Rattle.added_alike.proofs.Grown.{names_grown}
 use Rattle.added_alike.proofs.GrownNames.{new_names_there}
-use Rattle.added_alike.proofs.Named.{found_by, found_old}
+use Rattle.reach_model.proofs.Found.{found_by}
+use Rattle.added_alike.proofs.Named.{found_old}
 use Rattle.added_alike.proofs.NewSections.{ended_name, new_sections_are, plain}
 use Rattle.added_alike.proofs.OldSections.{old_sections}
 use Rattle.added_alike.proofs.Pieces.{StandFrom}
 use Rattle.added_alike.proofs.Placed.{contents_stand}
 use Rattle.added_alike.proofs.PlainNames.{new_are_names, new_are_plain, old_are_plain, without_zeros}
-use Rattle.added_alike.proofs.Read.{ArePlain, all_plain, joined}
+use Rattle.reach_model.proofs.Read.{ArePlain, all_plain, joined}
 use Rattle.added_alike.proofs.Whole.{added_headers, length-whole, long, whole_added}
 
 -- a program that may be added to, where the index of its names' section has four bytes, as the link of section 0 has

@@ -5,7 +5,7 @@ use Rattle.index_model.specs.Sections.{Header, Section, bytes_from, field, heade
 use Rattle.reach_model.specs.Added.{Addition, added, count_beside, count_field, first_header, headers_at, index_beside, index_field, new_count, old_header}
 use Rattle.added_alike.proofs.Bytes.{from_begins, same_field}
 use Rattle.added_alike.proofs.HeaderFields.{link_first, size_first}
-use Rattle.added_alike.proofs.Accepted.{Accepted}
+use Rattle.reach_model.proofs.Accepted.{Accepted}
 use Rattle.added_alike.proofs.Fronts.{before_patched, count_patched, drop-patched, index_patched, length-patched, size_patched, table_patched}
 use Rattle.added_alike.proofs.Numbers.{count_beside_fits, count_is_short, count_reads, index_beside_fits, index_is_short, index_reads}
 use Rattle.added_alike.proofs.Whole.{length-own, length-whole, long, own_bytes, table_is_late, whole, whole_begins, whole_header}

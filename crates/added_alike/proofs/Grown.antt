@@ -5,12 +5,12 @@ use Rattle.std.proofs.lemmas.List.{append-nil}
 use Rattle.index_model.specs.Sections.{Header, Section, bytes_from, content, fits, header, header_at, is_empty, names_index, section_count}
 use Rattle.reach_model.specs.Added.{Addition, added, grown_names, grown_strings, is_at, more_strings, moved, names_at, new_names, old_header, strings_at, strings_index}
 use Rattle.reach_model.specs.AddedSections.{IsClearOfTheHeader, more_at}
-use Rattle.added_alike.proofs.Accepted.{Accepted}
+use Rattle.reach_model.proofs.Accepted.{Accepted}
 use Rattle.added_alike.proofs.Bytes.{begins_length, from_begins}
 use Rattle.added_alike.proofs.Contents.{content_stays, content_there, fits_still, fits_there}
 use Rattle.added_alike.proofs.Fields.{drop-added, length-added, old_header_added}
 use Rattle.added_alike.proofs.HeaderFields.{at_moved, flags_moved, kind_moved, name_moved, size_moved}
-use Rattle.added_alike.proofs.Kept.{at_some, names_are, names_are_somewhere, names_inside, strings_content}
+use Rattle.reach_model.proofs.Kept.{at_some, names_are, names_are_somewhere, names_inside, strings_content}
 use Rattle.added_alike.proofs.Placed.{StandsAt, names_placed, strings_placed}
 use Rattle.added_alike.proofs.Whole.{length-own, own_bytes, whole_begins}
 

@@ -4,11 +4,11 @@ use Rattle.std.proofs.lemmas.Bool.{eq-eqb, ne_eqb}
 use Rattle.index_model.specs.Sections.{Section, content, header_at, names, names_index}
 use Rattle.reach_model.specs.Added.{Addition, added, is_at, more_strings, names_start, new_names, shares, strings_index}
 use Rattle.reach_model.specs.AddedSections.{IsClearOfTheHeader, more_at}
-use Rattle.added_alike.proofs.Accepted.{Accepted}
+use Rattle.reach_model.proofs.Accepted.{Accepted}
 use Rattle.added_alike.proofs.Bytes.{drop_behind}
 use Rattle.added_alike.proofs.Fields.{names_index_added}
 use Rattle.added_alike.proofs.Grown.{names_grown}
-use Rattle.added_alike.proofs.Kept.{names_are, names_are_somewhere}
+use Rattle.reach_model.proofs.Kept.{names_are, names_are_somewhere}
 
 module _ (file : List ℕ) (sections : List Section) (addition : Addition) where
   abbrev text : List ℕ

@@ -6,15 +6,12 @@ pub mod Chunks
 pub mod HeaderFields
 pub mod Texts
 pub mod NewHeaders
-pub mod Read
-pub mod Accepted
 pub mod Fronts
 pub mod Whole
 pub mod Numbers
 pub mod Fields
 pub mod Placed
 pub mod Contents
-pub mod Kept
 pub mod Grown
 pub mod GrownNames
 pub mod OldSections

@@ -12,33 +12,16 @@ use Rattle.common_laws.proofs.Options.{of_option_map}
 use Rattle.index_model.specs.Sections.{Section, index_named, section_bytes}
 use Rattle.reach_model.specs.Added.{NewSection, Addition, new_sections, strings_alone, strings_index, debug_str}
 use Rattle.reach_model.specs.AddedSections.{AreApart, Fits, IsNewIn, more_at, new_section, old_section, sections_then}
+use Rattle.reach_model.proofs.Found.{bytes_there, content_of, is_named, is_named_there}
 use Rattle.added_alike.specs.AddedAlike.{AddedSectionsAreFound, NamedSectionsKeepTheirBytes}
-
-abbrev is_named : List ℕ → Section → Bool
-is_named name s = bytes_eq s.name name
-
-abbrev pub is_named_there : List ℕ → ℕ × Section → Bool
-is_named_there name e = bytes_eq e.1.name name
 
 abbrev is_new_named : List ℕ → NewSection → Bool
 is_new_named name s = bytes_eq s.name name
-
-abbrev content_of : Option Section → List ℕ
-content_of o = unwrap_or (option_map (λ s. s.content) o) []
 
 abbrev found : {A : Type 0} → A → Option A
 found x = Some x
 
 -- ---- what is found in a list that was made from another
-
--- with the indexes, the same is found
-found_there : (name : List ℕ) (n : ℕ) (ss : List Section) → find (is_named name) ss ≡ option_map (λ e. e.1) (find (is_named_there name) (enumerate_from n ss))
-found_there name n [] = refl
-found_there name n (s ∷ ss) =
-    elim (bytes_eq s.name name) as (λ b. cond b (Some s) (find (is_named name) ss) ≡ option_map (λ e. e.1) (cond b (Some (n, s)) (find (is_named_there name) (enumerate_from (n + 1) ss)))) [
-      | true ↦ refl
-      | false ↦ found_there name (n + 1) ss
-    ]
 
 -- a test that goes by what is kept finds the same in a map
 pub found_in_map : {A B : Type 0} (f : A → B) (p : A → Bool) (q : B → Bool) → ((x : A) → q (f x) ≡ p x) → (xs : List A) → find q (map f xs) ≡ option_map f (find p xs)
@@ -94,20 +77,6 @@ module _ (file : List ℕ) (sections : List Section) (addition : Addition) where
       let then : Option Section = found (new_section file sections addition s) in
       let at : option_or (option_map (old_section file sections addition) (old_named name)) (option_map (new_section file sections addition) (new_named name)) ≡ then = rw (none, is) refl in
       ap content_of (named_then name ∙ at) ∙ new_content s
-
--- the bytes of the section that is found with its index
-pub bytes_there : (sections : List Section) (name : List ℕ) (e : ℕ × Section) → find (is_named_there name) (enumerate_from 1 sections) ≡ Some e → section_bytes sections name ≡ e.1.content
-bytes_there sections name e is = ap content_of (found_there name 1 sections ∙ ap (λ (o : Option (ℕ × Section)). option_map (λ d. d.1) o) is)
-
--- bytes are those of a section that is found
-pub found_by : (sections : List Section) (name : List ℕ) → 0 < length (section_bytes sections name) → (e : ℕ × Section) × (find (is_named_there name) (enumerate_from 1 sections) ≡ Some e) × (0 < length e.1.content)
-found_by sections name some = by (find (is_named_there name) (enumerate_from 1 sections)) refl
-  where
-    by : (o : Option (ℕ × Section)) → find (is_named_there name) (enumerate_from 1 sections) ≡ o → (e : ℕ × Section) × (find (is_named_there name) (enumerate_from 1 sections) ≡ Some e) × (0 < length e.1.content)
-    by (Some e) is = (e, is, subst (λ (w : List ℕ). 0 < length w) (bytes_there sections name e is) some)
-    by None is =
-        let none : section_bytes sections name ≡ [] = ap content_of (found_there name 1 sections ∙ ap (λ (o : Option (ℕ × Section)). option_map (λ d. d.1) o) is) in
-        absurd (omega (arith, ap length none, some))
 
 pub named_sections_keep_their_bytes : NamedSectionsKeepTheirBytes
 named_sections_keep_their_bytes file sections addition name i is =

@@ -12,7 +12,7 @@ use Rattle.added_alike.proofs.Contents.{content_there, fits_there}
 use Rattle.added_alike.proofs.NewHeaders.{behind_first, first_of, new_header_is}
 use Rattle.added_alike.proofs.Pieces.{StandFrom, start_at}
 use Rattle.added_alike.proofs.Placed.{StandsAt}
-use Rattle.added_alike.proofs.Read.{IsSection, no_sections, with_first}
+use Rattle.reach_model.proofs.Read.{IsSection, no_sections, with_first}
 use Rattle.added_alike.proofs.Texts.{HasNoZero, text_is}
 
 -- a section without flags

@@ -5,10 +5,10 @@ use Rattle.ix_base.specs.Reading.{before_zero}
 use Rattle.index_model.specs.Sections.{Header, Section, header_at, headers_from, names, names_index, section_count, sections_from}
 use Rattle.reach_model.specs.Added.{Addition, added}
 use Rattle.reach_model.specs.AddedSections.{IsClearOfTheHeader, more_at, old_section}
-use Rattle.added_alike.proofs.Accepted.{Accepted}
+use Rattle.reach_model.proofs.Accepted.{Accepted}
 use Rattle.added_alike.proofs.Grown.{IsGrown, grows}
 use Rattle.added_alike.proofs.GrownNames.{names_then}
-use Rattle.added_alike.proofs.Read.{IsSection, no_sections, none_are, split_first, with_first}
+use Rattle.reach_model.proofs.Read.{IsSection, no_sections, none_are, split_first, with_first}
 use Rattle.added_alike.proofs.Texts.{text_at_stays}
 
 -- a section that is grown is the section of its header

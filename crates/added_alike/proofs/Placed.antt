@@ -4,7 +4,7 @@ use Rattle.index_model.specs.Sections.{Section, bytes_from, names_index}
 use Rattle.reach_model.specs.Added.{Addition, added, body, grown, grown_names, grown_strings, is_at, name_pieces, names_at, new_sections_from, padded, section_pieces, string_pieces, strings_at, strings_index, with_pieces}
 use Rattle.added_alike.proofs.Bytes.{Begins, begins_length, begins_on}
 use Rattle.added_alike.proofs.Pieces.{StandFrom, length-padded, pieces_begin, pieces_join, pieces_stand, stand_also, start_at}
-use Rattle.added_alike.proofs.Accepted.{Accepted}
+use Rattle.reach_model.proofs.Accepted.{Accepted}
 use Rattle.added_alike.proofs.Whole.{body_in_whole, whole}
 use Rattle.added_alike.proofs.Fields.{drop-added, length-added}
 

@@ -5,7 +5,7 @@ use Rattle.index_model.specs.Sections.{Section, is_compressed}
 use Rattle.reach_model.specs.Added.{NewSection, Addition, debug_str, new_sections, strings_alone, strings_index}
 use Rattle.reach_model.specs.AddedSections.{IsNameOfOne, old_section}
 use Rattle.added_alike.proofs.NewSections.{plain}
-use Rattle.added_alike.proofs.Read.{ArePlain}
+use Rattle.reach_model.proofs.Read.{ArePlain}
 use Rattle.added_alike.proofs.Texts.{HasNoZero}
 
 abbrev pub AreNames : List NewSection → Type 0

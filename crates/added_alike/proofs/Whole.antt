@@ -8,7 +8,7 @@ use Rattle.added_alike.proofs.Pieces.{padded_begins, pieces_begin, start_at}
 use Rattle.added_alike.proofs.Chunks.{HaveSixtyFour, behind_all, length_of_all, list_at}
 use Rattle.added_alike.proofs.NewHeaders.{length-new_header}
 use Rattle.added_alike.proofs.HeaderFields.{length-first_header, length-moved}
-use Rattle.added_alike.proofs.Accepted.{Accepted}
+use Rattle.reach_model.proofs.Accepted.{Accepted}
 
 length-new_headers : (name place : ℕ) (ss : List NewSection) → length (new_headers name place ss) ≡ 64 * length ss
 unfolding new_headers

@@ -6,9 +6,9 @@ use Rattle.common_laws.proofs.Options.{of_option_map}
 use Rattle.ix_base.specs.Reading.{before_zero}
 use Rattle.index_model.specs.Sections.{Header, Section, content, fits, header_at, headers_from, index_named, names, names_index, section_bytes, section_count, sections_from}
 use Rattle.reach_model.specs.Added.{Addition, debug_str, is_at, strings_index}
-use Rattle.added_alike.proofs.Accepted.{Accepted}
-use Rattle.added_alike.proofs.Named.{bytes_there, is_named_there}
-use Rattle.added_alike.proofs.Read.{found_is, none_are, split_first}
+use Rattle.reach_model.proofs.Accepted.{Accepted}
+use Rattle.reach_model.proofs.Found.{bytes_there, is_named_there}
+use Rattle.reach_model.proofs.Read.{found_is, none_are, split_first}
 
 abbrev some_index : ℕ → Option ℕ
 some_index i = Some i

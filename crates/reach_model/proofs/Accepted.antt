@@ -6,7 +6,7 @@ use Rattle.ix_base.specs.declared.code.TheConstants.{ELF_KIND, NOT_ELF, NO_DEBUG
 use Rattle.index_model.specs.Meaning.{◌>>=◌, ◌>>◌, fault, holds_or}
 use Rattle.index_model.specs.Sections.{Section, begins_with, field, headers_from, ident, magic, names_fit, names_index, none_compressed, section_bytes, section_count, sections_from, sections_of, table_at, table_fits}
 use Rattle.index_model.proofs.Meanings.{bind_ok, holds_ok, same_ok, then_ok}
-use Rattle.added_alike.proofs.Read.{ArePlain, are_plain, plain_are}
+use Rattle.reach_model.proofs.Read.{ArePlain, are_plain, plain_are}
 
 pub record Accepted (f : List ℕ) (ss : List Section) : Type 0 where
   pub long : 64 ≤ length f
