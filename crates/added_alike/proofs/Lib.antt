@@ -19,3 +19,5 @@ pub mod NewSections
 pub mod PlainNames
 pub mod Alike
 pub mod FileBytes
+pub mod SameMeaning
+pub mod IndexAdded

@@ -1,6 +1,6 @@
 -- Sections by their names, before and after sections are added.
-use Rattle.std.proofs.Common.{◌≡◌, ℕ, ◌+◌, ◌<◌, length, subst, arith, Bool, true, false, cond, List, [], ◌∷◌, ◌++◌, map, find, Option, Some, None, refl, sym, ap, ◌∙◌, ⊎_elim, bytes_eq}
-use Rattle.std.specs.Prelude.{Contains, unwrap_or, option_map, option_and_then}
+use Rattle.std.proofs.Common.{◌≡◌, ℕ, subst, arith, Bool, true, false, cond, List, [], ◌∷◌, ◌++◌, map, find, Option, Some, None, refl, sym, ap, ◌∙◌, ⊎_elim, bytes_eq}
+use Rattle.std.specs.Prelude.{Contains, option_map, option_and_then}
 use Rattle.std.specs.List.{enumerate_from, AllByRecursion as AllOf}
 use Rattle.std.specs.Option.{option_or}
 use Rattle.std.proofs.lemmas.List.Folds.{find-append}
@@ -15,7 +15,7 @@ use Rattle.reach_model.specs.AddedSections.{AreApart, Fits, IsNewIn, more_at, ne
 use Rattle.reach_model.proofs.Found.{bytes_there, content_of, is_named, is_named_there}
 use Rattle.added_alike.specs.AddedAlike.{AddedSectionsAreFound, NamedSectionsKeepTheirBytes}
 
-abbrev is_new_named : List ℕ → NewSection → Bool
+abbrev pub is_new_named : List ℕ → NewSection → Bool
 is_new_named name s = bytes_eq s.name name
 
 abbrev found : {A : Type 0} → A → Option A
@@ -78,6 +78,13 @@ module _ (file : List ℕ) (sections : List Section) (addition : Addition) where
       let at : option_or (option_map (old_section file sections addition) (old_named name)) (option_map (new_section file sections addition) (new_named name)) ≡ then = rw (none, is) refl in
       ap content_of (named_then name ∙ at) ∙ new_content s
 
+  -- where neither has the name, there are no bytes
+  pub found_nowhere : (name : List ℕ) → old_named name ≡ None → new_named name ≡ None → section_bytes (sections_then file sections addition) name ≡ []
+  found_nowhere name none is =
+      let nothing : Option Section = None in
+      let at : option_or (option_map (old_section file sections addition) (old_named name)) (option_map (new_section file sections addition) (new_named name)) ≡ nothing = rw (none, is) refl in
+      ap content_of (named_then name ∙ at)
+
 pub named_sections_keep_their_bytes : NamedSectionsKeepTheirBytes
 named_sections_keep_their_bytes file sections addition name i is =
     let there = of_option_map (λ (e : ℕ × Section). e.0) (find (is_named_there name) (enumerate_from 1 sections)) i is in
@@ -113,11 +120,11 @@ found_apart (x ∷ xs) ts s apart c = ⊎_elim here (later (found_apart xs ts s 
         ap (λ (b : Bool). cond b (found x) (find (is_new_named s.name) (xs ++ ts))) other ∙ rest l
 
 -- where none has the name, it is found behind them
-found_behind : (ss ts : List NewSection) (name : List ℕ) → AllOf (λ s. bytes_eq s.name name ≡ false) ss → find (is_new_named name) (ss ++ ts) ≡ find (is_new_named name) ts
+pub found_behind : (ss ts : List NewSection) (name : List ℕ) → AllOf (λ s. bytes_eq s.name name ≡ false) ss → find (is_new_named name) (ss ++ ts) ≡ find (is_new_named name) ts
 found_behind [] ts name all = refl
 found_behind (x ∷ xs) ts name all = ap (λ (b : Bool). cond b (found x) (find (is_new_named name) (xs ++ ts))) all.0 ∙ found_behind xs ts name all.1
 
-none_there : (sections : List Section) (name : List ℕ) → index_named sections name ≡ None → find (is_named_there name) (enumerate_from 1 sections) ≡ None
+pub none_there : (sections : List Section) (name : List ℕ) → index_named sections name ≡ None → find (is_named_there name) (enumerate_from 1 sections) ≡ None
 none_there sections name is = by (find (is_named_there name) (enumerate_from 1 sections)) is
   where
     by : (o : Option (ℕ × Section)) → option_map (λ e. e.0) o ≡ None → o ≡ None

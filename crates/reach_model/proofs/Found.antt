@@ -26,12 +26,14 @@ found_there name n (s ∷ ss) =
 pub bytes_there : (sections : List Section) (name : List ℕ) (e : ℕ × Section) → find (is_named_there name) (enumerate_from 1 sections) ≡ Some e → section_bytes sections name ≡ e.1.content
 bytes_there sections name e is = ap content_of (found_there name 1 sections ∙ ap (λ (o : Option (ℕ × Section)). option_map (λ d. d.1) o) is)
 
+-- where none is found there are no bytes
+pub no_bytes : (sections : List Section) (name : List ℕ) → find (is_named_there name) (enumerate_from 1 sections) ≡ None → section_bytes sections name ≡ []
+no_bytes sections name none = ap content_of (found_there name 1 sections ∙ ap (λ (o : Option (ℕ × Section)). option_map (λ d. d.1) o) none)
+
 -- bytes are those of a section that is found
 pub found_by : (sections : List Section) (name : List ℕ) → 0 < length (section_bytes sections name) → (e : ℕ × Section) × (find (is_named_there name) (enumerate_from 1 sections) ≡ Some e) × (0 < length e.1.content)
 found_by sections name some = by (find (is_named_there name) (enumerate_from 1 sections)) refl
   where
     by : (o : Option (ℕ × Section)) → find (is_named_there name) (enumerate_from 1 sections) ≡ o → (e : ℕ × Section) × (find (is_named_there name) (enumerate_from 1 sections) ≡ Some e) × (0 < length e.1.content)
     by (Some e) is = (e, is, subst (λ (w : List ℕ). 0 < length w) (bytes_there sections name e is) some)
-    by None is =
-        let none : section_bytes sections name ≡ [] = ap content_of (found_there name 1 sections ∙ ap (λ (o : Option (ℕ × Section)). option_map (λ d. d.1) o) is) in
-        absurd (omega (arith, ap length none, some))
+    by None is = absurd (omega (arith, ap length (no_bytes sections name is), some))

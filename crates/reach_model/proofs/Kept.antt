@@ -2,6 +2,8 @@
 use Rattle.std.proofs.Common.{◌≡◌, ℕ, zero, suc, ◌-◌, ◌<◌, Bool, true, false, cond, eqb, ◌||◌, List, [], length, drop, find, codes, option_and_then, Option, Some, None, Ok, sym, ap, ◌∙◌, subst, arith}
 use Rattle.std.specs.List.{enumerate_from}
 use Rattle.std.proofs.lemmas.Bool.{ne_eqb, eqb-true}
+use Rattle.std.proofs.lemmas.Slice.Eq.{bytes_eq-Decides}
+use Rattle.common_laws.proofs.Members.{of_find}
 use Rattle.common_laws.proofs.Options.{of_option_map}
 use Rattle.ix_base.specs.Reading.{before_zero}
 use Rattle.index_model.specs.Sections.{Header, Section, content, fits, header_at, headers_from, index_named, names, names_index, section_bytes, section_count, sections_from}
@@ -12,6 +14,9 @@ use Rattle.reach_model.proofs.Read.{found_is, none_are, split_first}
 
 abbrev some_index : ℕ → Option ℕ
 some_index i = Some i
+
+abbrev text_is : List ℕ → Option (List ℕ)
+text_is text = Some text
 
 -- an index is that of an option
 pub at_some : (i : ℕ) (o : Option ℕ) → is_at i o ≡ true → o ≡ Some i
@@ -27,6 +32,14 @@ module _ (file : List ℕ) (sections : List Section) (ok : Accepted file section
       let e = of_option_map (λ (d : ℕ × Section). d.0) (find (is_named_there name) (enumerate_from 1 sections)) i is in
       let own = found_is file (is_named_there name) (section_count file - 1) 1 sections e.0 ok.sections e.1 in
       (bytes_there sections name e.0 e.1 ∙ own.2.content ∙ ap (λ (k : ℕ). content file (header_at file k)) e.2, omega (arith, own.0, e.2), omega (arith, own.1, e.2, ok.names_index))
+
+  -- and of the header that has the name
+  pub named_at : (name : List ℕ) (i : ℕ) → index_named sections name ≡ Some i → before_zero (drop (header_at file i).name (names file)) ≡ Some name
+  named_at name i is =
+      let e = of_option_map (λ (d : ℕ × Section). d.0) (find (is_named_there name) (enumerate_from 1 sections)) i is in
+      let own = found_is file (is_named_there name) (section_count file - 1) 1 sections e.0 ok.sections e.1 in
+      let same : e.0.1.name ≡ name = (bytes_eq-Decides e.0.1.name name).0 (of_find (is_named_there name) (enumerate_from 1 sections) e.0 e.1).1 in
+      ap (λ (k : ℕ). before_zero (drop (header_at file k).name (names file))) (sym e.2) ∙ own.2.name ∙ ap text_is same
 
   -- ---- the section of the names
 
@@ -67,6 +80,9 @@ module _ (file : List ℕ) (sections : List Section) (ok : Accepted file section
     named_index (Some text) i is = is
     named_index None i is = absurd cc
 
-    pub strings_content : (i : ℕ) → strings_index file sections addition ≡ Some i → section_bytes sections debug_str ≡ content file (header_at file i)
+    pub strings_named : (i : ℕ) → strings_index file sections addition ≡ Some i → index_named sections debug_str ≡ Some i
     unfolding strings_index
-    strings_content i is = (named_content debug_str i (named_index addition.strings i is)).0
+    strings_named i is = named_index addition.strings i is
+
+    pub strings_content : (i : ℕ) → strings_index file sections addition ≡ Some i → section_bytes sections debug_str ≡ content file (header_at file i)
+    strings_content i is = (named_content debug_str i (strings_named i is)).0
