@@ -43,7 +43,7 @@ with_strings a bytes =
 
 -- An adder did what the meaning says, or is unchanged for the meaning's reason. Want of memory is an answer only where the meaning is
 -- a change.
-abbrev pub AddsAs : Result (record {}) AddStop → Adder → Adder → Result Adder AddStop → Type 0
+abbrev pub AddsAs : Result (Unit {0}) AddStop → Adder → Adder → Result Adder AddStop → Type 0
 AddsAs (Ok x) old new meaning = meaning ≡ Ok new
 AddsAs (Err Memory) old new meaning = (new ≡ old) × IsOk meaning
 AddsAs (Err stop) old new meaning = (new ≡ old) × (meaning ≡ Err stop)

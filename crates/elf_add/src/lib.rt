@@ -4,5 +4,10 @@
 #![tactic(auto)]
 
 mod adder;
+mod new_headers;
+mod numbers;
+mod old_headers;
+mod parts;
+mod pieces;
 
 pub use adder::{AddStop, Adder};

@@ -1,0 +1,4 @@
+mod Puts
+mod Steps
+mod Words
+mod OldHeaders

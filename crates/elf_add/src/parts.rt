@@ -1,0 +1,148 @@
+//! What a program with sections added is put together from.
+
+ghost use Rattle.std.specs.Prelude.{◌≡◌, ◌≤◌, ◌+◌, ◌*◌, ℕ, List, length, map, IfOk, OnOk};
+ghost use Rattle.index_model.specs.Sections.{Section, table_at};
+ghost use Rattle.reach_model.specs.Added.{Addition, added, count_field, index_field, with_pieces};
+ghost use Rattle.reach_model.specs.AddedSections.{HavePlaces};
+ghost use Rattle.elf_add.specs.Pieces.{section_of};
+ghost use Rattle.elf_add.specs.Parts.{first_name_of, names_moved, pieces_of_names, pieces_of_strings, shares_of, strings_moved, IsPartsOf};
+
+use crate::new_headers::push_new_headers;
+use crate::numbers::{put_u16, put_u64, sum};
+use crate::old_headers::{Changes, push_old_headers};
+use crate::pieces::{Grown, Moved, NewSection, pad, push_grown, push_pieces};
+use ix_base::NoMemory;
+use std::alloc::Global;
+
+/// A program, and what is added to it.
+#[derive(Clone, Copy)]
+pub(crate) struct Parts<'a, 'f> {
+    pub(crate) file: &'f [u8],
+    /// How many section headers the file has.
+    pub(crate) count: u32,
+    /// The index of the names' section, and its bytes.
+    pub(crate) names_index: u32,
+    pub(crate) names: &'f [u8],
+    /// The `.debug_str` of the file, where strings are added to it.
+    pub(crate) strings: Option<Grown<'f>>,
+    /// The sections that are added.
+    pub(crate) added: &'a [NewSection<'f>],
+}
+
+// From here on a number of sections and an index don't stand in the ELF header.
+const RESERVED: u32 = 0xFF00;
+
+const SHN_XINDEX: u16 = 0xFFFF;
+
+const COUNT_IN_SECTION_0: u16 = 0;
+
+impl<'f> Parts<'_, 'f> {
+    /// The bytes of the program with what is added.
+    pub(crate) fn joined(&self, alloc: Global) -> Result<Vec<u8>, NoMemory>
+        requires long { 64 ≤ length self.now.file.now }
+        requires table { table_at self.now.file.now + 64 * self.now.count ≤ length self.now.file.now }
+        requires places { HavePlaces (first_name_of self.now) (map section_of self.now.added.now) }
+        ensures { IfOk result (λ bytes. (file : List ℕ) (sections : List Section) (addition : Addition) → IsPartsOf self.now file sections addition → bytes.items ≡ added file sections addition) }
+    {
+        let count = u32::try_from(self.added.len())
+            .ok()
+            .and_then(|more| self.count.checked_add(more))
+            .ok_or(NoMemory)?;
+        let first_name = self.first_name()?;
+        let mut bytes = Vec::with_capacity(alloc, self.file.len())?;
+        bytes.extend_from_slice(self.file)?;
+        let strings = self.push_strings(&mut bytes)?;
+        let strings_end = bytes.len();
+        push_pieces(&mut bytes, self.added)?;
+        let names = self.push_names(&mut bytes)?;
+        pad(&mut bytes)?;
+        let headers_at = bytes.len();
+        let changes = Changes {
+            count,
+            names_index: self.names_index,
+            strings,
+            names,
+        };
+        push_old_headers(&mut bytes, self.file, self.count as usize, &changes)?;
+        push_new_headers(&mut bytes, self.added, first_name, strings_end)?;
+        put_u64(&mut bytes, 40, headers_at as u64);
+        put_u16(&mut bytes, 60, count_field(count));
+        put_u16(&mut bytes, 62, index_field(self.names_index));
+        Ok(bytes)
+    }
+
+    // Whether the names stand in the `.debug_str` that gets the strings.
+    fn shares(&self) -> bool
+        ensures { result ≡ shares_of self.now }
+    {
+        match self.strings {
+            Some(strings) => strings.index == self.names_index as usize,
+            None => false,
+        }
+    }
+
+    // Where the names of the added sections begin in the names' section.
+    fn first_name(&self) -> Result<usize, NoMemory>
+        ensures { IfOk result (λ n. n ≡ first_name_of self.now) }
+    {
+        match self.strings {
+            Some(strings) if self.shares() => sum(self.names.len(), strings.more.len()),
+            _ => Ok(self.names.len()),
+        }
+    }
+
+    // Appends `.debug_str` with the strings, and with the names where they stand there.
+    #[tactic(auto, unfolding(reach_model::specs::Added::with_pieces))]
+    fn push_strings(&self, bytes: &mut Vec<u8>) -> Result<Option<Moved>, NoMemory>
+        ensures bytes { OnOk result (bytes.new.items ≡ with_pieces bytes.old.items (pieces_of_strings self.now)) }
+        ensures moved { IfOk result (λ m. m ≡ strings_moved self.now bytes.old.items) }
+    {
+        let Some(strings) = self.strings else {
+            return Ok(None);
+        };
+        if self.shares() {
+            Ok(Some(push_grown(bytes, &strings, self.added)?))
+        } else {
+            Ok(Some(push_grown(bytes, &strings, &[])?))
+        }
+    }
+
+    // Appends the names' section with the names of the added sections, unless they stand in `.debug_str`.
+    #[tactic(auto, unfolding(reach_model::specs::Added::with_pieces))]
+    fn push_names(&self, bytes: &mut Vec<u8>) -> Result<Option<Moved>, NoMemory>
+        ensures bytes { OnOk result (bytes.new.items ≡ with_pieces bytes.old.items (pieces_of_names self.now)) }
+        ensures moved { IfOk result (λ m. m ≡ names_moved self.now bytes.old.items) }
+    {
+        if self.shares() {
+            return Ok(None);
+        }
+        let names = Grown {
+            index: self.names_index as usize,
+            bytes: self.names,
+            more: &[],
+        };
+        Ok(Some(push_grown(bytes, &names, self.added)?))
+    }
+}
+
+// The number of sections in the ELF header, `e_shnum`.
+fn count_field(count: u32) -> u16
+    ensures { result ≡ count_field count }
+{
+    if count < RESERVED {
+        count as u16
+    } else {
+        COUNT_IN_SECTION_0
+    }
+}
+
+// The index of the names' section in the ELF header, `e_shstrndx`.
+fn index_field(index: u32) -> u16
+    ensures { result ≡ index_field index }
+{
+    if index < RESERVED {
+        index as u16
+    } else {
+        SHN_XINDEX
+    }
+}
