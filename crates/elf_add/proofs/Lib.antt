@@ -2,3 +2,5 @@ mod Puts
 mod Steps
 mod Words
 mod OldHeaders
+mod Whole
+mod NameBytes

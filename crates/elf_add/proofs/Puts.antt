@@ -13,3 +13,9 @@ written n place number xs ys inside is =
     let none : drop (length xs - place) (drop place xs) ≡ [] = drop_all (length xs - place) (drop place xs) (omega (arith, long)) in
     let bytes : ys ≡ little_bytes n number ++ drop (place + n) xs = is ∙ ap (λ zs. little_bytes n number ++ drop n zs) rest ∙ ap (λ zs. little_bytes n number ++ zs) (drop-drop n place xs) in
     ap (λ zs. take place xs ++ (ys ++ zs)) none ∙ ap (λ zs. take place xs ++ zs) (append-nil ys ∙ bytes) ∙ sym (append_assoc (take place xs) (little_bytes n number) (drop (place + n) xs))
+
+-- a slice of all bytes was written into
+pub settled : (n : ℕ) (new items : List ℕ) → length new ≡ length items → n ≡ length items → take n (new ++ drop (length new) items) ≡ new
+settled n new items same all =
+    let none : drop (length new) items ≡ [] = drop_all (length new) items (omega (arith, same)) in
+    rw (none, append-nil) (take_all n new (omega (arith, same, all)))

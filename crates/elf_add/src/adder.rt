@@ -8,6 +8,7 @@ ghost use Rattle.file_image.specs.Headers.{header_of};
 ghost use Rattle.reach_model.specs.Added.{added, debug_str, names_start, new_sections, strings_index};
 ghost use Rattle.reach_model.specs.AddedSections.{HavePlaces};
 ghost use Rattle.elf_add.specs.Adders.{adder_of, has_section, is_full, with_section, with_strings, AddsAs};
+ghost use Rattle.elf_add.specs.Held.{is_alone};
 ghost use Rattle.elf_add.specs.Parts.{IsStrings};
 
 use crate::parts::Parts;
@@ -144,8 +145,15 @@ impl<'f> Adder<'f> {
     fn is_full(&self) -> bool
         ensures { result ≡ is_full self.now }
     {
-        let alone = self.strings.is_some() && self.sections.index_of(DEBUG_STR).is_none();
-        self.table.count() as usize + self.added.len() + usize::from(alone) + 1 > MOST_SECTIONS
+        let alone = if self.is_alone() { 1 } else { 0 };
+        self.table.count() as usize + self.added.len() + alone + 1 > MOST_SECTIONS
+    }
+
+    // Whether strings are added to a file that has no `.debug_str`.
+    fn is_alone(&self) -> bool
+        ensures { result ≡ is_alone self.now }
+    {
+        self.strings.is_some() && self.sections.index_of(DEBUG_STR).is_none()
     }
 
     // The `.debug_str` of the file, where strings are added to it.

@@ -2,7 +2,7 @@
 
 ghost use Rattle.std.specs.Prelude.{◌≡◌, ◌≤◌, ◌+◌, ◌*◌, ℕ, List, length, map, IfOk, OnOk};
 ghost use Rattle.index_model.specs.Sections.{Section, table_at};
-ghost use Rattle.reach_model.specs.Added.{Addition, added, count_field, index_field, with_pieces};
+ghost use Rattle.reach_model.specs.Added.{Addition, added, count_field, index_field, put, with_pieces};
 ghost use Rattle.reach_model.specs.AddedSections.{HavePlaces};
 ghost use Rattle.elf_add.specs.Pieces.{section_of};
 ghost use Rattle.elf_add.specs.Parts.{first_name_of, names_moved, pieces_of_names, pieces_of_strings, shares_of, strings_moved, IsPartsOf};
@@ -44,10 +44,7 @@ impl<'f> Parts<'_, 'f> {
         requires places { HavePlaces (first_name_of self.now) (map section_of self.now.added.now) }
         ensures { IfOk result (λ bytes. (file : List ℕ) (sections : List Section) (addition : Addition) → IsPartsOf self.now file sections addition → bytes.items ≡ added file sections addition) }
     {
-        let count = u32::try_from(self.added.len())
-            .ok()
-            .and_then(|more| self.count.checked_add(more))
-            .ok_or(NoMemory)?;
+        let count = self.new_count()?;
         let first_name = self.first_name()?;
         let mut bytes = Vec::with_capacity(alloc, self.file.len())?;
         bytes.extend_from_slice(self.file)?;
@@ -65,10 +62,16 @@ impl<'f> Parts<'_, 'f> {
         };
         push_old_headers(&mut bytes, self.file, self.count as usize, &changes)?;
         push_new_headers(&mut bytes, self.added, first_name, strings_end)?;
-        put_u64(&mut bytes, 40, headers_at as u64);
-        put_u16(&mut bytes, 60, count_field(count));
-        put_u16(&mut bytes, 62, index_field(self.names_index));
+        set_table(&mut bytes, headers_at as u64, count, self.names_index);
         Ok(bytes)
+    }
+
+    // How many sections there are with those that are added.
+    fn new_count(&self) -> Result<u32, NoMemory>
+        ensures { IfOk result (λ n. n ≡ self.now.count + length self.now.added.now) }
+    {
+        let count = sum(self.count as usize, self.added.len())?;
+        u32::try_from(count).map_err(|_| NoMemory)
     }
 
     // Whether the names stand in the `.debug_str` that gets the strings.
@@ -123,6 +126,16 @@ impl<'f> Parts<'_, 'f> {
         };
         Ok(Some(push_grown(bytes, &names, self.added)?))
     }
+}
+
+// Writes into the ELF header where the section headers are, how many there are, and the index of the names' section.
+fn set_table(bytes: &mut [u8], place: u64, count: u32, names_index: u32)
+    requires { 64 ≤ length bytes.old }
+    ensures { bytes.new ≡ put 2 62 (index_field names_index) (put 2 60 (count_field count) (put 8 40 place bytes.old)) }
+{
+    put_u64(bytes, 40, place);
+    put_u16(bytes, 60, count_field(count));
+    put_u16(bytes, 62, index_field(names_index));
 }
 
 // The number of sections in the ELF header, `e_shnum`.
