@@ -4,3 +4,6 @@ mod Words
 mod OldHeaders
 mod Whole
 mod NameBytes
+mod Opened
+mod Adding
+mod Found

@@ -1,5 +1,5 @@
 -- The parts, put together as the code does it, are the program with what is added.
-use Rattle.std.proofs.Common.{◌≡◌, ℕ, zero, suc, ◌+◌, ◌*◌, ◌≤◌, Bool, true, false, cond, eqb, List, [], ◌∷◌, ◌++◌, length, map, Option, Some, None, option_map, unwrap_or, refl, sym, ap, ◌∙◌, arith}
+use Rattle.std.proofs.Common.{◌≡◌, ℕ, zero, suc, ◌+◌, ◌*◌, ◌≤◌, Bool, true, false, cond, eqb, List, [], ◌∷◌, ◌++◌, length, map, Option, Some, None, option_map, unwrap_or, refl, subst, sym, ap, ◌∙◌, arith}
 use Rattle.std.specs.Prelude.{flat_map, replicate}
 use Rattle.std.proofs.lemmas.Bool.{eqb-true, eqb-false, ne_eqb, eq-eqb}
 use Rattle.std.proofs.lemmas.List.{append_assoc, length-append, length-map}
@@ -7,7 +7,8 @@ use Rattle.common_laws.proofs.Appended.{flat_map-map}
 use Rattle.common_laws.proofs.Filters.{map_map}
 use Rattle.index_model.specs.Layout.{below, ended}
 use Rattle.index_model.specs.Sections.{Section, bytes_from, names, names_index, section_bytes, section_count, table_at}
-use Rattle.reach_model.specs.Added.{Addition, added, body, count_field, debug_str, first_header, grown, grown_names, grown_strings, headers_at, index_field, is_at, more_strings, moved, name_pieces, names_at, names_start, new_headers, new_names, new_sections, new_sections_from, old_header, old_headers, padded, padding, put, section_pieces, shares, string_pieces, strings_at, strings_index, with_pieces}
+use Rattle.reach_model.specs.Added.{Addition, NewSection as NewSectionOf, added, body, count_field, debug_str, first_header, grown, grown_names, grown_strings, headers_at, index_field, is_at, more_strings, moved, name_pieces, names_at, names_start, new_headers, new_names, new_sections, new_sections_from, old_header, old_headers, padded, padding, put, section_pieces, shares, string_pieces, strings_at, strings_index, with_pieces}
+use Rattle.reach_model.specs.AddedSections.{HavePlaces}
 use Rattle.elf_add.specs.declared.pieces.NewSection.{NewSection}
 use Rattle.elf_add.specs.declared.pieces.Grown.{Grown}
 use Rattle.elf_add.specs.declared.pieces.Moved.{Moved}
@@ -139,6 +140,13 @@ module _ (p : Parts) (file : List ℕ) (sections : List Section) (addition : Add
       by None false e h = omega arith
       by (Some g) true e (own, more) = ap (λ xs. length p.names.now + length xs) more
       by (Some g) false e h = omega arith
+
+  -- the names of the added sections have places
+  pub places_are : HavePlaces (names_start file sections addition) (new_sections file sections addition) → HavePlaces (first_name_of p) (map section_of p.added.now)
+  places_are h =
+      let P : ℕ → Type 0 = λ n. HavePlaces n (map section_of p.added.now) in
+      let Q : List NewSectionOf → Type 0 = λ ss. HavePlaces (names_start file sections addition) ss in
+      subst P (sym first_name_is) (subst Q (sym is.added) h)
 
   -- ---- the names' section
 

@@ -1,15 +1,16 @@
 //! The adder.
 
-ghost use Rattle.std.specs.Prelude.{◌≡◌, ◌≤◌, ◌==◌, false, true, not, [], bytes_eq, length, option_map, unwrap_or, IfOk};
+ghost use Rattle.std.specs.Prelude.{◌≡◌, ◌≤◌, ◌==◌, false, true, not, [], bytes_eq, ◌++◌, length, map, option_map, unwrap_or, IfOk};
 ghost use Rattle.std.specs.List.{list_any, AllByRecursion as AllOf};
 ghost use Rattle.index_model.specs.Gives.{Gives};
 ghost use Rattle.index_model.specs.Sections.{is_empty, names, names_fit, section_bytes};
 ghost use Rattle.file_image.specs.Headers.{header_of};
-ghost use Rattle.reach_model.specs.Added.{added, debug_str, names_start, new_sections, strings_index};
+ghost use Rattle.reach_model.specs.Added.{added, debug_str, names_start, new_sections, strings_alone, strings_index};
 ghost use Rattle.reach_model.specs.AddedSections.{HavePlaces};
 ghost use Rattle.elf_add.specs.Adders.{adder_of, has_section, is_full, with_section, with_strings, AddsAs};
 ghost use Rattle.elf_add.specs.Held.{is_alone};
 ghost use Rattle.elf_add.specs.Parts.{IsStrings};
+ghost use Rattle.elf_add.specs.Pieces.{section_of};
 
 use crate::parts::Parts;
 use crate::pieces::{Grown, NewSection};
@@ -116,13 +117,7 @@ impl<'f> Adder<'f> {
         ensures { IfOk result (λ bytes. bytes.items ≡ added self.entry.file self.entry.sections self.entry.addition) }
     {
         let strings = self.grown_strings();
-        let mut added = self.added;
-        if let (Some(bytes), None) = (self.strings, strings) {
-            added.push(NewSection {
-                name: DEBUG_STR,
-                content: bytes,
-            })?;
-        }
+        let added = all_added(self.added, &strings, self.strings)?;
         let parts = Parts {
             file: self.file,
             count: self.table.count(),
@@ -157,6 +152,7 @@ impl<'f> Adder<'f> {
     }
 
     // The `.debug_str` of the file, where strings are added to it.
+    #[tactic(auto, unfolding(reach_model::specs::Added::strings_index))]
     fn grown_strings(&self) -> Option<Grown<'f>>
         ensures index { option_map (λ g. g.index) result ≡ strings_index self.now.file self.now.sections self.now.addition }
         ensures strings { IsStrings (section_bytes self.now.sections debug_str) (unwrap_or self.now.addition.strings []) result }
@@ -169,6 +165,23 @@ impl<'f> Adder<'f> {
             more,
         })
     }
+}
+
+// The sections that are added, and a `.debug_str` with the strings where none is grown.
+fn all_added<'f>(
+    mut added: Vec<NewSection<'f>>,
+    grown: &Option<Grown<'f>>,
+    strings: Option<&'f [u8]>,
+) -> Result<Vec<NewSection<'f>>, NoMemory>
+    ensures { IfOk result (λ v. map section_of v.items ≡ map section_of added.entry.items ++ strings_alone (option_map (λ g. g.index) grown.now) (option_map (λ s. s.now) strings.entry)) }
+{
+    if let (None, Some(content)) = (grown, strings) {
+        added.push(NewSection {
+            name: DEBUG_STR,
+            content,
+        })?;
+    }
+    Ok(added)
 }
 
 // Whether a section of this name is among these.
