@@ -1,7 +1,7 @@
 -- The parts that an adder finds are those of its file with what is added.
 use Rattle.std.proofs.Common.{◌≡◌, ℕ, List, [], ◌++◌, map, Option, option_map, unwrap_or, ap, ◌∙◌}
 use Rattle.index_model.specs.Sections.{Section, names, names_index, section_bytes, section_count}
-use Rattle.reach_model.specs.Added.{NewSection as NewSectionOf, debug_str, new_sections, strings_alone, strings_index}
+use Rattle.reach_model.specs.Added.{debug_str, new_sections, strings_alone, strings_index}
 use Rattle.elf_add.specs.declared.pieces.NewSection.{NewSection}
 use Rattle.elf_add.specs.declared.parts.Parts.{Parts}
 use Rattle.elf_add.specs.Adders.{Adder}

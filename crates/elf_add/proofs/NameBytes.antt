@@ -1,7 +1,7 @@
 -- The bytes of the names' section, by its header.
-use Rattle.std.proofs.Common.{◌≡◌, ℕ, ◌+◌, ◌*◌, ◌-◌, ◌≤◌, Bool, true, false, eqb, leb, List, [], length, take, drop, refl, sym, ap, ◌∙◌, arith}
+use Rattle.std.proofs.Common.{◌≡◌, ℕ, ◌+◌, ◌*◌, ◌-◌, ◌≤◌, Bool, true, false, eqb, leb, List, [], length, take, drop, refl, ap, ◌∙◌, arith}
 use Rattle.std.specs.Prelude.{not, ◌||◌}
-use Rattle.std.proofs.lemmas.Bool.{eq-eqb, ne_eqb, leb-true}
+use Rattle.std.proofs.lemmas.Bool.{ne_eqb, leb-true}
 use Rattle.file_image.specs.declared.section_header.Header.{Header}
 use Rattle.file_image.specs.Headers.{header_of, section_header, section_header_at}
 use Rattle.index_model.specs.Sections.{bytes_from, header, header_at, is_empty, names, names_fit, names_index, table_at}

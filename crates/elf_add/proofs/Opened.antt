@@ -1,17 +1,16 @@
 -- What a file without a fault in its sections has.
-use Rattle.std.proofs.Common.{◌≡◌, ◌+◌, ◌*◌, ◌<◌, ◌≤◌, ℕ, Bool, true, false, eqb, leb, ltb, List, [], length, Result, Ok, Err, refl, sym, ap, ◌∙◌}
+use Rattle.std.proofs.Common.{◌≡◌, ◌+◌, ◌*◌, ◌≤◌, ℕ, Bool, true, false, leb, ltb, List, [], length, Result, Ok, Err, refl}
 use Rattle.std.specs.Prelude.{◌&&◌, None}
 use Rattle.std.proofs.lemmas.Bool.{leb-true}
 use Rattle.ix_base.specs.declared.fault.Fault.{Fault}
 use Rattle.ix_base.specs.declared.fault.Stop.{Stop}
 use Rattle.ix_base.specs.declared.fault.Stop.TheVariants as stops
-use Rattle.index_model.specs.Meaning.{◌>>=◌, ◌>>◌, holds_or}
+use Rattle.index_model.specs.Meaning.{◌>>◌, holds_or}
 use Rattle.index_model.specs.Gives.{StopsAs}
 use Rattle.index_model.specs.Sections.{Section, ident, names_fit, names_index, section_count, sections_of, table_at, table_fits}
 use Rattle.index_model.proofs.Meanings.{holds_ok}
 use Rattle.file_image.specs.Headers.{with_table}
-use Rattle.reach_model.specs.Added.{Addition}
-use Rattle.elf_add.specs.Adders.{Adder, adder_of}
+use Rattle.elf_add.specs.Adders.{adder_of}
 
 first_ok : {B : Type 0} (r : Result (record {}) Fault) (s : Result B Fault) (y : B) → (r >> s) ≡ Ok y → (r ≡ Ok (record {})) × (s ≡ Ok y)
 first_ok (Ok x) s y is = (refl, is)

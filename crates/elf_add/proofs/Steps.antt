@@ -1,7 +1,7 @@
 -- One section more in each of the lists that go over the added sections.
 use Rattle.std.proofs.Common.{◌≡◌, ℕ, ◌+◌, ◌<◌, List, [], ◌∷◌, ◌++◌, length, get_or, drop, map, refl, subst, sym, ap, ◌∙◌, arith}
 use Rattle.std.proofs.lemmas.List.{append_assoc, at_drop_more, drop_more}
-use Rattle.reach_model.specs.Added.{NewSection as Section, new_header, new_headers, padded, padding, with_pieces}
+use Rattle.reach_model.specs.Added.{new_header, new_headers, padded, padding, with_pieces}
 use Rattle.reach_model.specs.AddedSections.{HavePlaces}
 use Rattle.elf_add.specs.declared.pieces.NewSection.{NewSection}
 use Rattle.elf_add.specs.Pieces.{content_of, section_of}

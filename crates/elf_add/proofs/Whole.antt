@@ -1,20 +1,19 @@
 -- The parts, put together as the code does it, are the program with what is added.
-use Rattle.std.proofs.Common.{◌≡◌, ℕ, zero, suc, ◌+◌, ◌*◌, ◌≤◌, Bool, true, false, cond, eqb, List, [], ◌∷◌, ◌++◌, length, map, Option, Some, None, option_map, unwrap_or, refl, subst, sym, ap, ◌∙◌, arith}
+use Rattle.std.proofs.Common.{◌≡◌, ℕ, ◌+◌, ◌*◌, ◌≤◌, Bool, true, false, cond, eqb, List, [], ◌∷◌, ◌++◌, length, map, Option, Some, None, option_map, unwrap_or, refl, subst, sym, ap, ◌∙◌, arith}
 use Rattle.std.specs.Prelude.{flat_map, replicate}
 use Rattle.std.proofs.lemmas.Bool.{eqb-true, eqb-false, ne_eqb, eq-eqb}
-use Rattle.std.proofs.lemmas.List.{append_assoc, length-append, length-map}
+use Rattle.std.proofs.lemmas.List.{length-append, length-map}
 use Rattle.common_laws.proofs.Appended.{flat_map-map}
 use Rattle.common_laws.proofs.Filters.{map_map}
 use Rattle.index_model.specs.Layout.{below, ended}
 use Rattle.index_model.specs.Sections.{Section, bytes_from, names, names_index, section_bytes, section_count, table_at}
 use Rattle.reach_model.specs.Added.{Addition, NewSection as NewSectionOf, added, body, count_field, debug_str, first_header, grown, grown_names, grown_strings, headers_at, index_field, is_at, more_strings, moved, name_pieces, names_at, names_start, new_headers, new_names, new_sections, new_sections_from, old_header, old_headers, padded, padding, put, section_pieces, shares, string_pieces, strings_at, strings_index, with_pieces}
 use Rattle.reach_model.specs.AddedSections.{HavePlaces}
-use Rattle.elf_add.specs.declared.pieces.NewSection.{NewSection}
 use Rattle.elf_add.specs.declared.pieces.Grown.{Grown}
 use Rattle.elf_add.specs.declared.pieces.Moved.{Moved}
 use Rattle.elf_add.specs.declared.parts.Parts.{Parts}
 use Rattle.elf_add.specs.declared.old_headers.Changes.{Changes}
-use Rattle.elf_add.specs.Headers.{header_then, moved_at, with_place}
+use Rattle.elf_add.specs.Headers.{moved_at, with_place}
 use Rattle.elf_add.specs.Parts.{IsPartsOf, IsStrings, first_behind, first_name_of, name_piece, named_in, names_moved, pieces_of_names, pieces_of_strings, shares_of, strings_grown, strings_moved}
 use Rattle.elf_add.specs.Pieces.{content_of, grown_bytes, names_of, section_of}
 use Rattle.elf_add.proofs.OldHeaders.{header_in}

@@ -1,10 +1,10 @@
 -- What an adder holds, and what each of its calls does (System V gABI, chapter 4, "Sections").
-use Rattle.std.specs.Prelude.{◌≡◌, ◌+◌, ℕ, Bool, not, ◌&&◌, ◌||◌, nat_lt, if◌then◌else◌, List, [], ◌∷◌, ◌++◌, length, bytes_eq, is_some, Some, None, Result, Ok, Err, IsOk}
+use Rattle.std.specs.Prelude.{◌≡◌, ◌+◌, ℕ, Bool, not, ◌&&◌, ◌||◌, nat_lt, if◌then◌else◌, List, [], ◌∷◌, ◌++◌, bytes_eq, is_some, Some, None, Result, Ok, Err, IsOk}
 use Rattle.std.specs.List.{list_any}
 use Rattle.ix_base.specs.declared.fault.Fault.{Fault}
 use Rattle.index_model.specs.Meaning.{◌>>=◌}
 use Rattle.index_model.specs.Sections.{Section, index_named, sections_of}
-use Rattle.reach_model.specs.Added.{Addition, debug_str, new_count, new_sections}
+use Rattle.reach_model.specs.Added.{Addition, debug_str, new_count}
 use Rattle.reach_model.specs.AddedIndex.{most_sections}
 use Rattle.elf_add.specs.declared.adder.AddStop.{AddStop}
 use Rattle.elf_add.specs.declared.adder.AddStop.TheVariants.{Present, TooMany, Memory}

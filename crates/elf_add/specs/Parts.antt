@@ -1,5 +1,5 @@
 -- What a program with sections added is put together from.
-use Rattle.std.specs.Prelude.{◌≡◌, ◌+◌, ℕ, Bool, false, if◌then◌else◌, List, [], ◌∷◌, ◌++◌, length, map, Option, Some, None, option_map, unwrap_or}
+use Rattle.std.specs.Prelude.{◌≡◌, ◌+◌, ℕ, Bool, if◌then◌else◌, List, [], ◌∷◌, ◌++◌, length, map, Option, Some, None, option_map, unwrap_or}
 use Rattle.index_model.specs.Sections.{Section, names, names_index, section_bytes, section_count}
 use Rattle.reach_model.specs.Added.{Addition, debug_str, is_at, new_sections, padded, strings_index}
 use Rattle.elf_add.specs.declared.pieces.NewSection.{NewSection}

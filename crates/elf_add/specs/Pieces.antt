@@ -1,5 +1,5 @@
 -- The pieces behind a program, by what they are made of.
-use Rattle.std.specs.Prelude.{List, ℕ, ◌++◌, flat_map, length}
+use Rattle.std.specs.Prelude.{List, ℕ, ◌++◌, flat_map}
 use Rattle.index_model.specs.Layout.{ended}
 use Rattle.reach_model.specs.Added.{NewSection as Section}
 use Rattle.elf_add.specs.declared.pieces.NewSection.{NewSection}

@@ -1,10 +1,9 @@
 //! The adder.
 
-ghost use Rattle.std.specs.Prelude.{◌≡◌, ◌≤◌, ◌==◌, false, true, not, [], bytes_eq, ◌++◌, length, map, option_map, unwrap_or, IfOk};
+ghost use Rattle.std.specs.Prelude.{◌≡◌, ◌≤◌, ◌==◌, false, [], bytes_eq, ◌++◌, length, map, option_map, unwrap_or, IfOk};
 ghost use Rattle.std.specs.List.{list_any, AllByRecursion as AllOf};
 ghost use Rattle.index_model.specs.Gives.{Gives};
-ghost use Rattle.index_model.specs.Sections.{is_empty, names, names_fit, section_bytes};
-ghost use Rattle.file_image.specs.Headers.{header_of};
+ghost use Rattle.index_model.specs.Sections.{section_bytes};
 ghost use Rattle.reach_model.specs.Added.{added, debug_str, names_start, new_sections, strings_alone, strings_index};
 ghost use Rattle.reach_model.specs.AddedSections.{HavePlaces};
 ghost use Rattle.elf_add.specs.Adders.{adder_of, has_section, is_full, with_section, with_strings, AddsAs};
@@ -12,9 +11,10 @@ ghost use Rattle.elf_add.specs.Held.{is_alone};
 ghost use Rattle.elf_add.specs.Parts.{IsStrings};
 ghost use Rattle.elf_add.specs.Pieces.{section_of};
 
+use crate::names::name_bytes;
 use crate::parts::Parts;
 use crate::pieces::{Grown, NewSection};
-use file_image::{Header, SectionTable, Sections};
+use file_image::{SectionTable, Sections};
 use ix_base::{MAX_FILE_BYTES, NoMemory, Stop};
 use std::alloc::Global;
 use std::marker::Model;
@@ -189,32 +189,4 @@ fn has_name(sections: &[NewSection<'_>], name: &[u8]) -> bool
     ensures { result ≡ list_any (λ s. bytes_eq s.name.now name.now) sections.now }
 {
     sections.iter().any(|section| section.name == name)
-}
-
-const SHT_NULL: u32 = 0;
-
-const SHT_NOBITS: u32 = 8;
-
-// The bytes of the section that holds the names. Section 0 has none.
-fn name_bytes<'f>(file: &'f [u8], table: &SectionTable<'f>) -> &'f [u8]
-    requires table { table.now ≡ file.now }
-    requires fits { names_fit file.now ≡ true }
-    ensures { result.now ≡ names file.now }
-{
-    let index = table.names();
-    match table.header(index) {
-        Some(header) if index != 0 && has_bytes(&header) => {
-            let at = header.at as usize;
-            let end = at + header.size as usize;
-            &file[at..end]
-        }
-        _ => &[],
-    }
-}
-
-// Whether a section has bytes in the file.
-fn has_bytes(header: &Header) -> bool
-    ensures { result ≡ not (is_empty (header_of header.now)) }
-{
-    header.kind != SHT_NULL && header.kind != SHT_NOBITS && header.size != 0
 }

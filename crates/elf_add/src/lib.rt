@@ -4,6 +4,9 @@
 #![tactic(auto)]
 
 mod adder;
+mod elf_header;
+mod fields;
+mod names;
 mod new_headers;
 mod numbers;
 mod old_headers;

@@ -5,11 +5,10 @@ ghost use Rattle.reach_model.specs.Added.{new_header, new_headers};
 ghost use Rattle.reach_model.specs.AddedSections.{HavePlaces};
 ghost use Rattle.elf_add.specs.Pieces.{section_of};
 
+use crate::fields::SHT_PROGBITS;
 use crate::numbers::{push_u32, push_u64, sum};
 use crate::pieces::{NewSection, padding};
 use ix_base::NoMemory;
-
-const SHT_PROGBITS: u32 = 1;
 
 const ALIGNMENT: u64 = 4;
 

@@ -6,21 +6,14 @@ ghost use Rattle.index_model.specs.Sections.{bytes_from, field, section_count, t
 ghost use Rattle.reach_model.specs.Added.{count_beside, first_header, index_beside, moved, with_bits};
 ghost use Rattle.elf_add.specs.Headers.{header_then, moved_at};
 
+use crate::fields::{
+    E_SHOFF, HEADER_LENGTH, SH_ADDRALIGN, SH_LINK, SH_OFFSET, SH_SIZE, SH_TYPE, SHN_LORESERVE,
+    SHT_NOBITS, SHT_NULL, SHT_PROGBITS,
+};
 use crate::numbers::{put_u32, put_u64};
 use crate::pieces::Moved;
 use byteorder::{ByteOrder, LittleEndian};
 use ix_base::NoMemory;
-
-const HEADER_LENGTH: usize = 64;
-
-// From here on a number of sections and an index stand in the header of section 0.
-const RESERVED: u32 = 0xFF00;
-
-const SHT_NULL: u32 = 0;
-
-const SHT_PROGBITS: u32 = 1;
-
-const SHT_NOBITS: u32 = 8;
 
 /// What changes in the headers.
 #[derive(Clone, Copy)]
@@ -78,7 +71,7 @@ fn table_offset(file: &[u8]) -> usize
     requires { 64 ≤ length file.now }
     ensures { result ≡ table_at file.now }
 {
-    LittleEndian::read_u64(&file[40..]) as usize
+    LittleEndian::read_u64(&file[E_SHOFF..]) as usize
 }
 
 // The header of the section with this index, by its bytes in the file.
@@ -102,14 +95,14 @@ fn set_numbers(header: &mut [u8], count: u32, names_index: u32)
     requires { length header.old ≡ 64 }
     ensures { header.new ≡ first_header count names_index header.old }
 {
-    let count_beside = if count < RESERVED { 0 } else { count };
-    let index_beside = if names_index < RESERVED {
+    let count_beside = if count < SHN_LORESERVE { 0 } else { count };
+    let index_beside = if names_index < SHN_LORESERVE {
         0
     } else {
         names_index
     };
-    put_u64(header, 32, u64::from(count_beside));
-    put_u32(header, 40, index_beside);
+    put_u64(header, SH_SIZE, u64::from(count_beside));
+    put_u32(header, SH_LINK, index_beside);
 }
 
 // Writes the place and the size of bytes, which have no alignment.
@@ -119,9 +112,9 @@ fn set_place(header: &mut [u8], at: u64, size: u64)
     ensures { header.new ≡ moved at size header.old }
 {
     set_bits(header);
-    put_u64(header, 24, at);
-    put_u64(header, 32, size);
-    put_u64(header, 48, 1);
+    put_u64(header, SH_OFFSET, at);
+    put_u64(header, SH_SIZE, size);
+    put_u64(header, SH_ADDRALIGN, 1);
 }
 
 // A section that has bytes isn't null, nor without bits.
@@ -130,8 +123,8 @@ fn set_bits(header: &mut [u8])
     requires { length header.old ≡ 64 }
     ensures { header.new ≡ with_bits header.old }
 {
-    let kind = LittleEndian::read_u32(&header[4..]);
+    let kind = LittleEndian::read_u32(&header[SH_TYPE..]);
     if kind == SHT_NULL || kind == SHT_NOBITS {
-        put_u32(header, 4, SHT_PROGBITS);
+        put_u32(header, SH_TYPE, SHT_PROGBITS);
     }
 }

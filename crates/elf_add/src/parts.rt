@@ -2,15 +2,17 @@
 
 ghost use Rattle.std.specs.Prelude.{◌≡◌, ◌≤◌, ◌+◌, ◌*◌, ℕ, List, length, map, IfOk, OnOk};
 ghost use Rattle.index_model.specs.Sections.{Section, table_at};
-ghost use Rattle.reach_model.specs.Added.{Addition, added, count_field, index_field, put, with_pieces};
+ghost use Rattle.reach_model.specs.Added.{Addition, added, with_pieces};
 ghost use Rattle.reach_model.specs.AddedSections.{HavePlaces};
 ghost use Rattle.elf_add.specs.Pieces.{section_of};
 ghost use Rattle.elf_add.specs.Parts.{first_name_of, names_moved, pieces_of_names, pieces_of_strings, shares_of, strings_moved, IsPartsOf};
 
+use crate::elf_header::set_table;
+use crate::fields::HEADER_LENGTH;
 use crate::new_headers::push_new_headers;
-use crate::numbers::{put_u16, put_u64, sum};
+use crate::numbers::sum;
 use crate::old_headers::{Changes, push_old_headers};
-use crate::pieces::{Grown, Moved, NewSection, pad, push_grown, push_pieces};
+use crate::pieces::{ALIGNMENT, Grown, Moved, NewSection, pad, push_grown, push_pieces};
 use ix_base::NoMemory;
 use std::alloc::Global;
 
@@ -29,13 +31,6 @@ pub(crate) struct Parts<'a, 'f> {
     pub(crate) added: &'a [NewSection<'f>],
 }
 
-// From here on a number of sections and an index don't stand in the ELF header.
-const RESERVED: u32 = 0xFF00;
-
-const SHN_XINDEX: u16 = 0xFFFF;
-
-const COUNT_IN_SECTION_0: u16 = 0;
-
 impl<'f> Parts<'_, 'f> {
     /// The bytes of the program with what is added.
     pub(crate) fn joined(&self, alloc: Global) -> Result<Vec<u8>, NoMemory>
@@ -46,7 +41,7 @@ impl<'f> Parts<'_, 'f> {
     {
         let count = self.new_count()?;
         let first_name = self.first_name()?;
-        let mut bytes = Vec::with_capacity(alloc, self.file.len())?;
+        let mut bytes = Vec::with_capacity(alloc, self.room())?;
         bytes.extend_from_slice(self.file)?;
         let strings = self.push_strings(&mut bytes)?;
         let strings_end = bytes.len();
@@ -64,6 +59,28 @@ impl<'f> Parts<'_, 'f> {
         push_new_headers(&mut bytes, self.added, first_name, strings_end)?;
         set_table(&mut bytes, headers_at as u64, count, self.names_index);
         Ok(bytes)
+    }
+
+    // At least as many bytes as there will be, so that they aren't moved while they grow.
+    fn room(&self) -> usize {
+        let headers = self.added.len().saturating_add(self.count as usize + 1);
+        let mut room = headers
+            .saturating_mul(HEADER_LENGTH)
+            .saturating_add(self.file.len())
+            .saturating_add(self.names.len());
+        if let Some(strings) = self.strings {
+            room = room
+                .saturating_add(strings.bytes.len())
+                .saturating_add(strings.more.len());
+        }
+        for section in self.added {
+            // One zero stands behind the name, and up to 7 before the content.
+            room = room
+                .saturating_add(section.name.len())
+                .saturating_add(section.content.len())
+                .saturating_add(ALIGNMENT);
+        }
+        room
     }
 
     // How many sections there are with those that are added.
@@ -125,37 +142,5 @@ impl<'f> Parts<'_, 'f> {
             more: &[],
         };
         Ok(Some(push_grown(bytes, &names, self.added)?))
-    }
-}
-
-// Writes into the ELF header where the section headers are, how many there are, and the index of the names' section.
-fn set_table(bytes: &mut [u8], place: u64, count: u32, names_index: u32)
-    requires { 64 ≤ length bytes.old }
-    ensures { bytes.new ≡ put 2 62 (index_field names_index) (put 2 60 (count_field count) (put 8 40 place bytes.old)) }
-{
-    put_u64(bytes, 40, place);
-    put_u16(bytes, 60, count_field(count));
-    put_u16(bytes, 62, index_field(names_index));
-}
-
-// The number of sections in the ELF header, `e_shnum`.
-fn count_field(count: u32) -> u16
-    ensures { result ≡ count_field count }
-{
-    if count < RESERVED {
-        count as u16
-    } else {
-        COUNT_IN_SECTION_0
-    }
-}
-
-// The index of the names' section in the ELF header, `e_shstrndx`.
-fn index_field(index: u32) -> u16
-    ensures { result ≡ index_field index }
-{
-    if index < RESERVED {
-        index as u16
-    } else {
-        SHN_XINDEX
     }
 }

@@ -33,7 +33,8 @@ pub(crate) struct Moved {
     pub(crate) size: usize,
 }
 
-const ALIGNMENT: usize = 8;
+/// A piece begins at a multiple of this.
+pub(crate) const ALIGNMENT: usize = 8;
 
 /// Appends zeros up to a multiple of 8.
 #[tactic(auto, unfolding(reach_model::specs::Added::padded))]

@@ -1,9 +1,7 @@
 use Rattle.std.proofs.Common.{ap, sym, ◌∙◌}
 use Rattle.std.specs.Prelude.{bytes_eq, is_some}
 use Rattle.std.specs.List.{list_any}
-use Rattle.index_model.specs.Sections.{index_named}
 use Rattle.elf_add.specs.Adders.{has_section}
-use Rattle.elf_add.specs.Pieces.{section_of}
 use Rattle.elf_add.proofs.Adding.{any_of_views, left_holds, right_decides}
 use Rattle.elf_add.proofs.adder.Adder.has.Goals as goal
 

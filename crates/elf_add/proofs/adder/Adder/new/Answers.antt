@@ -1,4 +1,4 @@
-use Rattle.std.proofs.Common.{◌≡◌, length, Ok, None, refl, sym, ap, ◌∙◌, arith}
+use Rattle.std.proofs.Common.{length, Ok, None, sym, ap, ◌∙◌, arith}
 use Rattle.std.proofs.lemmas.Result.{err_from_is_err_and}
 use Rattle.index_model.proofs.Meanings.{same_ok}
 use Rattle.elf_add.specs.Held.{adder_with}

@@ -1,4 +1,4 @@
-use Rattle.std.proofs.Common.{◌≤◌, ◌++◌, [], ◌∷◌, length, option_map, refl, sym, ap, ◌∙◌, arith}
+use Rattle.std.proofs.Common.{◌≤◌, [], ◌∷◌, length, option_map, refl, sym, ap, ◌∙◌, arith}
 use Rattle.std.proofs.lemmas.List.{length-append}
 use Rattle.elf_add.specs.Adders.{is_full}
 use Rattle.elf_add.proofs.Adding.{few_then, has_no_room, is_there, not_pushed, pushed}

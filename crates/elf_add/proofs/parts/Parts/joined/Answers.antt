@@ -1,4 +1,4 @@
-use Rattle.std.proofs.Common.{◌≡◌, ◌++◌, length, ap, ◌∙◌, sym, refl, arith}
+use Rattle.std.proofs.Common.{◌≡◌, ◌++◌, length, ap, ◌∙◌, arith}
 use Rattle.reach_model.specs.Added.{count_field, index_field, put}
 use Rattle.elf_add.proofs.Puts.{settled}
 use Rattle.elf_add.proofs.Whole.{IsJoined, joined_is, joined_long}

@@ -1,9 +1,9 @@
 use Rattle.std.proofs.Common.{◌+◌, ◌≤◌, length, arith, rules, sym, ◌∙◌, ap}
-use Rattle.index_model.specs.Sections.{names_index, section_count}
+use Rattle.index_model.specs.Sections.{names_index}
 use Rattle.file_image.specs.Headers.{section_header_at}
 use Rattle.elf_add.proofs.NameBytes.{first_has_none, names_are, names_inside, no_names}
-use Rattle.elf_add.proofs.adder.name_bytes.Goals as goal
-use Rattle.elf_add.proofs.adder.name_bytes.Goals.{in_default-via-in-Some+then-index-ne0+else-has_bytes, in_default-via-in-Some+else-index-ne0, in_default-via-in_default}
+use Rattle.elf_add.proofs.names.name_bytes.Goals as goal
+use Rattle.elf_add.proofs.names.name_bytes.Goals.{in_default-via-in-Some+then-index-ne0+else-has_bytes, in_default-via-in-Some+else-index-ne0, in_default-via-in_default}
 
 pub overflow_add-end : goal.overflow_add-end
 overflow_add-end c =
