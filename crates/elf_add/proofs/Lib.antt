@@ -1,0 +1,9 @@
+mod Puts
+mod Steps
+mod Words
+mod OldHeaders
+mod Whole
+mod NameBytes
+mod Opened
+mod Adding
+mod Found

@@ -1,0 +1,5 @@
+pub mod Adders
+pub mod Headers
+pub mod Pieces
+pub mod Parts
+pub mod Held
