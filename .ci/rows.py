@@ -2,8 +2,8 @@
 """python3 rows.py PROGRAM
 
 Runs PROGRAM over the rows of tools/rows and .ci/rows, each in a folder with copies of the row's files, with the row's `stdin` as
-its input, and compares what it writes, its status and the files that it stores with what the row says. A row that could name a
-number of workers and doesn't is run again with 1, 2, 8 and 64: none of them may change a byte. The last line is
+its input, and compares what it writes, its status and the files that it stores with what the row says. The folders that a row names
+in `dirs` are made first. A row that could name a number of workers and doesn't is run again with 1, 2, 8 and 64: none of them may change a byte. The last line is
 'rows: N passed, M failed'."""
 import os
 import shutil
@@ -14,9 +14,9 @@ import tempfile
 HERE = os.path.dirname(os.path.abspath(__file__))
 FOLDERS = (os.path.join(os.path.dirname(HERE), "tools", "rows"), os.path.join(HERE, "rows"))
 # What lies in a row's folder beside the files that the program reads.
-TOLD = {"args", "stdin", "stdout", "status", "expect"}
+TOLD = {"args", "stdin", "stdout", "status", "expect", "dirs"}
 # How many words stand before the option of the number of workers.
-BEFORE_WORKERS = {"ask": 1, "index": 3, "race": 1, "serve": 1}
+BEFORE_WORKERS = {"add": 3, "ask": 1, "index": 3, "race": 1, "serve": 1}
 WORKERS = (1, 2, 8, 64)
 
 
@@ -28,7 +28,8 @@ def read(path, otherwise=b""):
 
 
 def files_in(folder):
-    return {name: read(os.path.join(folder, name)) for name in os.listdir(folder)} if os.path.isdir(folder) else {}
+    names = os.listdir(folder) if os.path.isdir(folder) else ()
+    return {name: read(os.path.join(folder, name)) for name in names if os.path.isfile(os.path.join(folder, name))}
 
 
 def words_of(row):
@@ -50,6 +51,8 @@ def differs(program, row, words):
     with tempfile.TemporaryDirectory() as folder:
         for name in inputs:
             shutil.copy(os.path.join(row, name), folder)
+        for name in read(os.path.join(row, "dirs")).decode().split():
+            os.mkdir(os.path.join(folder, name))
         done = subprocess.run([program, *words], cwd=folder, input=read(os.path.join(row, "stdin")), capture_output=True, timeout=120)
         left = files_in(folder)
     wanted = read(os.path.join(row, "stdout")), int(read(os.path.join(row, "status"), b"0") or 0)

@@ -25,7 +25,7 @@ ROWS = os.path.join(TOOLS, 'rows')
 LIST = os.path.join(TOOLS, 'rows.txt')
 WRITTEN = 'Written by tools/gen_vectors.py; not to be changed by hand.'
 # the crates whose definitions a computation opens, as far as the statements use them
-OPENED = ('ix_base', 'index_model', 'index_vectors')
+OPENED = ('ix_base', 'index_model', 'reach_model', 'index_vectors')
 # modules of the crate that are written by hand, and the functions of those in src
 BY_HAND = {'specs': ['LookTexts', 'Says', 'Limits'], 'proofs': []}
 FUNCTIONS = {'limits': ['depth_ends', 'names_end', 'units_end']}
@@ -100,7 +100,7 @@ def statement(group, name):
     """The statement of a row, by the command in its args."""
     folder = os.path.join(ROWS, name)
     args = read(os.path.join(folder, 'args')).split(b'\n')[:-1]
-    command = {b'ask': asked, b'index': indexed, b'look': looked, b'serve': served}[args[0]]
+    command = {b'add': added, b'ask': asked, b'index': indexed, b'look': looked, b'serve': served}[args[0]]
     if len(args) > 2 and args[1] == b'--workers':    # how many workers there are changes nothing
         args[1:3] = []
     return command(group, folder, args[1:], int(read(os.path.join(folder, 'status'))), read(os.path.join(folder, 'stdout')))
@@ -139,6 +139,13 @@ def indexed(group, folder, args, status, stdout):
     if kind != b'names':
         return group.says({b'gdb8': 'WritesGdb8', b'gdb9': 'WritesGdb9'}[kind], source, bytes_)
     return group.says('WritesNames', source, bytes_, group.file(read(os.path.join(folder, 'expect', out + '.debug_str'))))
+
+
+def added(group, folder, args, status, stdout):
+    """add --as KIND FILE OUT: the bytes of the program with its index, which `expect` has."""
+    kind, source, out = args[1], group.file(read(os.path.join(folder, args[2].decode()))), args[3].decode()
+    bytes_ = group.file(read(os.path.join(folder, 'expect', out)))
+    return group.says({b'gdb8': 'AddsGdb8', b'gdb9': 'AddsGdb9', b'names': 'AddsNames'}[kind], source, bytes_)
 
 
 def looked(group, folder, args, status, stdout):

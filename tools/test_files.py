@@ -30,6 +30,8 @@ PROGRAMS = [
     ('ADA_NAME', 'ada_decodes_a__b__c__12_by_name', 'A', 'A subprogram of Ada whose name is coded.'),
     ('MAIN_MARK', 'main_mark_before_the_name_main', 'A', 'A function that is marked as the main program.'),
     ('TWO_RANGES', 'address_two_pairs_1007_inside', 'A', 'A unit whose root has two ranges.'),
+    ('PLAIN_WITH_GDB8', 'add_gdb8', 'expect/X', '`PLAIN` with its `.gdb_index`, version 8.'),
+    ('PLAIN_WITH_NAMES', 'add_names', 'expect/X', '`PLAIN` with its `.debug_names` and a `.debug_str`.'),
 ]
 
 INDEXES = [

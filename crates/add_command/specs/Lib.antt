@@ -1,1 +1,3 @@
 pub mod Adds
+pub mod Programs
+pub mod Stops

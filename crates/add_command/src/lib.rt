@@ -2,5 +2,6 @@
 #![tactic(auto)]
 
 mod add;
+mod program;
 
 pub use add::add_file;

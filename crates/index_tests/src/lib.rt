@@ -1,9 +1,11 @@
-//! Tests of the crates that read and write indexes, and of the one that makes programs.
+//! Tests of the crates that read and write indexes, of the one that adds them to programs, and of the one that makes programs.
 //!
 //! One happy path of each public call. The indexes of one small program were written by hand from the GDB manual, "Index Section
 //! Format", and from DWARF 5, section 6.1.1. Faults and rare cases are rows of tools/rows.
 #![tactic(auto)]
 
+#[cfg(test)]
+mod added;
 #[cfg(test)]
 mod made;
 #[cfg(test)]

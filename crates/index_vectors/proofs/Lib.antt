@@ -33,6 +33,7 @@ pub mod AdaNamesHold
 pub mod LanguagesHold
 pub mod GdbIndexesHold
 pub mod NameIndexesHold
+pub mod AddedIndexesHold
 pub mod GdbAreaFaultsHold
 pub mod GdbSlotFaultsHold
 pub mod GdbLookUpsHold

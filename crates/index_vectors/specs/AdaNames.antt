@@ -3,26 +3,26 @@
 use Rattle.std.specs.Prelude.{ℕ, List, [], ◌∷◌, ◌++◌, codes}
 use Rattle.index_vectors.specs.Parts3.{part_124}
 use Rattle.index_vectors.specs.Parts4.{part_136, part_138, part_140, part_141, part_142, part_146, part_149, part_150, part_155}
-use Rattle.index_vectors.specs.Parts6.{part_234, part_235, part_236, part_237}
+use Rattle.index_vectors.specs.Parts6.{part_239, part_240, part_241, part_242}
 use Rattle.index_vectors.specs.Says.{Prints}
 
 unfoldable pub file_0 : List ℕ
 file_0 =
-    part_234 ++
+    part_239 ++
     (0 ∷ 1 ∷ 120 ∷ 0 ∷ 13 ∷ 2 ∷ 95 ∷ 95 ∷ 49 ∷ 50 ∷ 0 ∷ 1 ∷ 0 ∷ 0 ∷ 0 ∷ 0 ∷ 0 ∷ 0 ∷ 0 ∷ 1 ∷ 0 ∷ 0 ∷ 0 ∷ 0 ∷
     []) ++
     part_140
 
 unfoldable pub file_1 : List ℕ
 file_1 =
-    part_235 ++
+    part_240 ++
     (0 ∷ 1 ∷ 120 ∷ 0 ∷ 13 ∷ 2 ∷ 95 ∷ 97 ∷ 100 ∷ 97 ∷ 95 ∷ 95 ∷ 97 ∷ 100 ∷ 97 ∷ 95 ∷ 113 ∷ 0 ∷ 1 ∷ 0 ∷ 0 ∷ 0 ∷ 0 ∷ 0 ∷
     []) ++
     part_150
 
 unfoldable pub file_2 : List ℕ
 file_2 =
-    part_236 ++
+    part_241 ++
     (0 ∷ 1 ∷ 120 ∷ 0 ∷ 13 ∷ 2 ∷ 95 ∷ 97 ∷ 100 ∷ 97 ∷ 95 ∷ 0 ∷ 1 ∷ 0 ∷ 0 ∷ 0 ∷ 0 ∷ 0 ∷ 0 ∷ 0 ∷ 1 ∷ 0 ∷ 0 ∷ 0 ∷
     []) ++
     part_136
@@ -57,49 +57,49 @@ file_4 =
 
 unfoldable pub file_5 : List ℕ
 file_5 =
-    part_237 ++
+    part_242 ++
     (0 ∷ 1 ∷ 120 ∷ 0 ∷ 13 ∷ 2 ∷ 97 ∷ 49 ∷ 95 ∷ 95 ∷ 98 ∷ 95 ∷ 99 ∷ 0 ∷ 1 ∷ 0 ∷ 0 ∷ 0 ∷ 0 ∷ 0 ∷ 0 ∷ 0 ∷ 1 ∷ 0 ∷
     []) ++
     part_138
 
 unfoldable pub file_6 : List ℕ
 file_6 =
-    part_237 ++
+    part_242 ++
     (0 ∷ 1 ∷ 120 ∷ 0 ∷ 13 ∷ 2 ∷ 97 ∷ 95 ∷ 95 ∷ 49 ∷ 95 ∷ 95 ∷ 50 ∷ 0 ∷ 1 ∷ 0 ∷ 0 ∷ 0 ∷ 0 ∷ 0 ∷ 0 ∷ 0 ∷ 1 ∷ 0 ∷
     []) ++
     part_138
 
 unfoldable pub file_7 : List ℕ
 file_7 =
-    part_234 ++
+    part_239 ++
     (0 ∷ 1 ∷ 120 ∷ 0 ∷ 13 ∷ 2 ∷ 97 ∷ 95 ∷ 95 ∷ 49 ∷ 0 ∷ 1 ∷ 0 ∷ 0 ∷ 0 ∷ 0 ∷ 0 ∷ 0 ∷ 0 ∷ 1 ∷ 0 ∷ 0 ∷ 0 ∷ 0 ∷
     []) ++
     part_140
 
 unfoldable pub file_8 : List ℕ
 file_8 =
-    part_236 ++
+    part_241 ++
     (0 ∷ 1 ∷ 120 ∷ 0 ∷ 13 ∷ 2 ∷ 97 ∷ 95 ∷ 95 ∷ 95 ∷ 98 ∷ 0 ∷ 1 ∷ 0 ∷ 0 ∷ 0 ∷ 0 ∷ 0 ∷ 0 ∷ 0 ∷ 1 ∷ 0 ∷ 0 ∷ 0 ∷
     []) ++
     part_136
 
 unfoldable pub file_9 : List ℕ
 file_9 =
-    part_236 ++
+    part_241 ++
     (0 ∷ 1 ∷ 120 ∷ 0 ∷ 13 ∷ 2 ∷ 97 ∷ 95 ∷ 95 ∷ 98 ∷ 50 ∷ 0 ∷ 1 ∷ 0 ∷ 0 ∷ 0 ∷ 0 ∷ 0 ∷ 0 ∷ 0 ∷ 1 ∷ 0 ∷ 0 ∷ 0 ∷
     []) ++
     part_136
 
 unfoldable pub file_10 : List ℕ
 file_10 =
-    part_235 ++
+    part_240 ++
     (0 ∷ 1 ∷ 120 ∷ 0 ∷ 13 ∷ 2 ∷ 97 ∷ 95 ∷ 95 ∷ 98 ∷ 95 ∷ 95 ∷ 99 ∷ 95 ∷ 95 ∷ 49 ∷ 50 ∷ 0 ∷ 1 ∷ 0 ∷ 0 ∷ 0 ∷ 0 ∷ 0 ∷
     []) ++
     part_150
 
 unfoldable pub file_11 : List ℕ
 file_11 =
-    part_234 ++
+    part_239 ++
     (0 ∷ 1 ∷ 120 ∷ 0 ∷ 13 ∷ 2 ∷ 65 ∷ 95 ∷ 95 ∷ 98 ∷ 0 ∷ 1 ∷ 0 ∷ 0 ∷ 0 ∷ 0 ∷ 0 ∷ 0 ∷ 0 ∷ 1 ∷ 0 ∷ 0 ∷ 0 ∷ 0 ∷
     []) ++
     part_140

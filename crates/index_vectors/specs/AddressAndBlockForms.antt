@@ -3,7 +3,7 @@
 use Rattle.std.specs.Prelude.{ℕ, List, [], ◌∷◌, ◌++◌, codes}
 use Rattle.index_vectors.specs.Parts2.{part_69, part_76, part_79, part_81, part_82, part_83}
 use Rattle.index_vectors.specs.Parts4.{part_133}
-use Rattle.index_vectors.specs.Parts5.{part_216}
+use Rattle.index_vectors.specs.Parts5.{part_220}
 use Rattle.index_vectors.specs.Says.{Prints}
 
 unfoldable pub file_0 : List ℕ
@@ -113,7 +113,7 @@ file_10 =
     0 ∷ 5 ∷ 0 ∷ 1 ∷ 8 ∷ 0 ∷ 0 ∷ 0 ∷ 0 ∷ 1 ∷ 97 ∷ 46 ∷ 99 ∷ 0 ∷ 12 ∷ 0 ∷ 16 ∷ 0 ∷ 0 ∷ 0 ∷ 0 ∷ 0 ∷ 0 ∷ 32 ∷
     0 ∷ 0 ∷ 0 ∷ 2 ∷ 2 ∷ 0 ∷ 0 ∷ 0 ∷ 1 ∷ 2 ∷ 109 ∷ 97 ∷ 105 ∷ 110 ∷ 0 ∷ 0 ∷ 16 ∷ 0 ∷ 0 ∷ 0 ∷ 0 ∷ 0 ∷ 0 ∷ 32 ∷
     []) ++
-    part_216
+    part_220
 
 -- what each row says
 abbrev pub AddressAndBlockForms : Type 0

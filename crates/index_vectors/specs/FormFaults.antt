@@ -1,10 +1,10 @@
 -- Written by tools/gen_vectors.py; not to be changed by hand.
 -- The first fault of the forms of attributes.
 use Rattle.std.specs.Prelude.{ℕ, List, [], ◌∷◌, ◌++◌, codes}
-use Rattle.index_vectors.specs.Parts1.{part_26}
+use Rattle.index_vectors.specs.Parts1.{part_24}
 use Rattle.index_vectors.specs.Parts2.{part_58, part_60, part_63, part_68, part_70, part_75, part_80, part_84}
 use Rattle.index_vectors.specs.Parts3.{part_107}
-use Rattle.index_vectors.specs.Parts5.{part_194, part_195}
+use Rattle.index_vectors.specs.Parts5.{part_198, part_199}
 use Rattle.index_vectors.specs.Says.{Prints}
 
 unfoldable pub file_0 : List ℕ
@@ -13,7 +13,7 @@ file_0 =
     0 ∷ 0 ∷ 0 ∷ 0 ∷ 0 ∷ 0 ∷ 0 ∷ 0 ∷ 0 ∷ 0 ∷ 0 ∷ 0 ∷ 0 ∷ 0 ∷ 0 ∷ 0 ∷ 184 ∷ 0 ∷ 0 ∷ 0 ∷ 0 ∷ 0 ∷ 0 ∷ 0 ∷
     0 ∷ 0 ∷ 0 ∷ 0 ∷ 64 ∷ 0 ∷ 0 ∷ 0 ∷ 0 ∷ 0 ∷ 64 ∷ 0 ∷ 4 ∷ 0 ∷ 3 ∷ 0 ∷ 1 ∷ 17 ∷ 1 ∷ 3 ∷ 2 ∷ 19 ∷ 11 ∷ 17 ∷
     []) ++
-    part_26
+    part_24
 
 unfoldable pub file_1 : List ℕ
 file_1 =
@@ -21,7 +21,7 @@ file_1 =
     0 ∷ 0 ∷ 0 ∷ 0 ∷ 0 ∷ 0 ∷ 0 ∷ 0 ∷ 0 ∷ 0 ∷ 0 ∷ 0 ∷ 0 ∷ 0 ∷ 0 ∷ 0 ∷ 184 ∷ 0 ∷ 0 ∷ 0 ∷ 0 ∷ 0 ∷ 0 ∷ 0 ∷
     0 ∷ 0 ∷ 0 ∷ 0 ∷ 64 ∷ 0 ∷ 0 ∷ 0 ∷ 0 ∷ 0 ∷ 64 ∷ 0 ∷ 4 ∷ 0 ∷ 3 ∷ 0 ∷ 1 ∷ 17 ∷ 1 ∷ 3 ∷ 28 ∷ 19 ∷ 11 ∷ 17 ∷
     []) ++
-    part_26
+    part_24
 
 unfoldable pub file_2 : List ℕ
 file_2 =
@@ -77,21 +77,21 @@ file_6 =
 
 unfoldable pub file_7 : List ℕ
 file_7 =
-    part_194 ++
+    part_198 ++
     (0 ∷ 0 ∷ 0 ∷ 2 ∷ 127 ∷ 109 ∷ 97 ∷ 105 ∷ 110 ∷ 0 ∷ 0 ∷ 16 ∷ 0 ∷ 0 ∷ 0 ∷ 0 ∷ 0 ∷ 0 ∷ 32 ∷ 0 ∷ 0 ∷ 0 ∷ 0 ∷ 0 ∷
     []) ++
     part_80
 
 unfoldable pub file_8 : List ℕ
 file_8 =
-    part_194 ++
+    part_198 ++
     (0 ∷ 0 ∷ 0 ∷ 2 ∷ 33 ∷ 109 ∷ 97 ∷ 105 ∷ 110 ∷ 0 ∷ 0 ∷ 16 ∷ 0 ∷ 0 ∷ 0 ∷ 0 ∷ 0 ∷ 0 ∷ 32 ∷ 0 ∷ 0 ∷ 0 ∷ 0 ∷ 0 ∷
     []) ++
     part_80
 
 unfoldable pub file_9 : List ℕ
 file_9 =
-    part_195 ++
+    part_199 ++
     (0 ∷ 2 ∷ 22 ∷ 109 ∷ 97 ∷ 105 ∷ 110 ∷ 0 ∷ 0 ∷ 16 ∷ 0 ∷ 0 ∷ 0 ∷ 0 ∷ 0 ∷ 0 ∷ 32 ∷ 0 ∷ 0 ∷ 0 ∷ 0 ∷ 0 ∷ 46 ∷ 100 ∷
     []) ++
     part_84
@@ -136,7 +136,7 @@ file_13 =
 
 unfoldable pub file_14 : List ℕ
 file_14 =
-    part_194 ++
+    part_198 ++
     (0 ∷ 0 ∷ 0 ∷ 2 ∷ 28 ∷ 109 ∷ 97 ∷ 105 ∷ 110 ∷ 0 ∷ 0 ∷ 16 ∷ 0 ∷ 0 ∷ 0 ∷ 0 ∷ 0 ∷ 0 ∷ 32 ∷ 0 ∷ 0 ∷ 0 ∷ 0 ∷ 0 ∷
     []) ++
     part_80

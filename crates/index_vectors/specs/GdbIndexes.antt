@@ -1,22 +1,22 @@
 -- Written by tools/gen_vectors.py; not to be changed by hand.
 -- The bytes of `.gdb_index` of small files, versions 8 and 9.
 use Rattle.std.specs.Prelude.{ℕ, List, [], ◌∷◌}
-use Rattle.index_vectors.specs.Parts1.{part_5, part_29, part_37}
-use Rattle.index_vectors.specs.Parts5.{part_205}
-use Rattle.index_vectors.specs.Parts6.{part_240}
+use Rattle.index_vectors.specs.Parts1.{part_5, part_27, part_36}
+use Rattle.index_vectors.specs.Parts5.{part_209}
+use Rattle.index_vectors.specs.Parts6.{part_245}
 use Rattle.index_vectors.specs.Says.{WritesGdb8, WritesGdb9}
 
 unfoldable pub file_0 : List ℕ
 file_0 =
-    part_29
+    part_27
 
 unfoldable pub file_1 : List ℕ
 file_1 =
-    part_240
+    part_245
 
 unfoldable pub file_2 : List ℕ
 file_2 =
-    part_37
+    part_36
 
 unfoldable pub file_3 : List ℕ
 file_3 =
@@ -43,7 +43,7 @@ file_5 =
 
 unfoldable pub file_6 : List ℕ
 file_6 =
-    part_205
+    part_209
 
 unfoldable pub file_7 : List ℕ
 file_7 =

@@ -41,6 +41,7 @@ pub mod AdaNames
 pub mod Languages
 pub mod GdbIndexes
 pub mod NameIndexes
+pub mod AddedIndexes
 pub mod GdbAreaFaults
 pub mod GdbSlotFaults
 pub mod GdbLookUps

@@ -2,7 +2,7 @@
 -- Attributes of the forms of references and strings are passed by their length.
 use Rattle.std.specs.Prelude.{ℕ, List, [], ◌∷◌, ◌++◌, codes}
 use Rattle.index_vectors.specs.Parts2.{part_58, part_71, part_73, part_76, part_77, part_78, part_79, part_81, part_82, part_83}
-use Rattle.index_vectors.specs.Parts5.{part_196, part_214}
+use Rattle.index_vectors.specs.Parts5.{part_200, part_218}
 use Rattle.index_vectors.specs.Says.{Prints}
 
 unfoldable pub file_0 : List ℕ
@@ -88,7 +88,7 @@ file_8 =
 
 unfoldable pub file_9 : List ℕ
 file_9 =
-    part_196 ++
+    part_200 ++
     (0 ∷ 0 ∷ 0 ∷ 2 ∷ 128 ∷ 128 ∷ 128 ∷ 128 ∷ 128 ∷ 128 ∷ 128 ∷ 128 ∷ 128 ∷ 127 ∷ 109 ∷ 97 ∷ 105 ∷ 110 ∷ 0 ∷ 0 ∷ 16 ∷ 0 ∷ 0 ∷ 0 ∷
     []) ++
     part_73
@@ -142,7 +142,7 @@ file_14 =
 
 unfoldable pub file_15 : List ℕ
 file_15 =
-    part_214 ++
+    part_218 ++
     (0 ∷ 5 ∷ 0 ∷ 1 ∷ 8 ∷ 0 ∷ 0 ∷ 0 ∷ 0 ∷ 1 ∷ 97 ∷ 46 ∷ 99 ∷ 0 ∷ 12 ∷ 0 ∷ 16 ∷ 0 ∷ 0 ∷ 0 ∷ 0 ∷ 0 ∷ 0 ∷ 32 ∷
     0 ∷ 0 ∷ 0 ∷ 2 ∷ 255 ∷ 255 ∷ 255 ∷ 255 ∷ 255 ∷ 255 ∷ 255 ∷ 255 ∷ 255 ∷ 1 ∷ 109 ∷ 97 ∷ 105 ∷ 110 ∷ 0 ∷ 0 ∷ 16 ∷ 0 ∷ 0 ∷ 0 ∷
     []) ++

@@ -1,5 +1,5 @@
 -- What a row says, in the words of the definitions.
-use Rattle.std.specs.Prelude.{◌≡◌, ℕ, List, Some, None, Result, Ok}
+use Rattle.std.specs.Prelude.{◌≡◌, ℕ, List, Option, Some, None, option_map, Result, Ok}
 use Rattle.ix_base.specs.declared.fault.Fault.{Fault}
 use Rattle.index_model.specs.declared.answer.CacheSize.TheVariants.{TooLarge}
 use Rattle.index_model.specs.declared.job.CacheKind.{CacheKind}
@@ -9,6 +9,8 @@ use Rattle.index_model.specs.Faults.{built_of}
 use Rattle.index_model.specs.Cache.{Cache, GdbBytes, NameBytes, cache_in, size_in}
 use Rattle.index_model.specs.Texts.{text_of_line}
 use Rattle.index_model.specs.Transcripts.{lines_of, transcript_of}
+use Rattle.reach_model.specs.Added.{added}
+use Rattle.reach_model.specs.AddedIndex.{addition_of}
 use Rattle.index_vectors.specs.LookTexts.{written_of_gdb, written_of_names}
 
 -- ---- questions about a file
@@ -46,6 +48,24 @@ WritesGdb9 file bytes = index_of Gdb9 file ≡ Ok (GdbBytes bytes)
 -- the bytes of the `.debug_names`, and the strings that it adds to `.debug_str`
 abbrev pub WritesNames : List ℕ → List ℕ → List ℕ → Type 0
 WritesNames file bytes strings = index_of Names file ≡ Ok (NameBytes bytes strings)
+
+-- ---- a program with its index
+
+-- the program with its index of this kind, which its format can hold; or the file's first fault
+abbrev pub with_index_of : CacheKind → List ℕ → Result (Option (List ℕ)) Fault
+with_index_of kind file = built_of file >>= λ b. Ok (option_map (added file b.program.sections) (addition_of (cache_in kind b)))
+
+-- the bytes of the program with its `.gdb_index` of version 8
+abbrev pub AddsGdb8 : List ℕ → List ℕ → Type 0
+AddsGdb8 file bytes = with_index_of Gdb8 file ≡ Ok (Some bytes)
+
+-- the bytes of the program with its `.gdb_index` of version 9
+abbrev pub AddsGdb9 : List ℕ → List ℕ → Type 0
+AddsGdb9 file bytes = with_index_of Gdb9 file ≡ Ok (Some bytes)
+
+-- the bytes of the program with its `.debug_names`, and its strings in `.debug_str`
+abbrev pub AddsNames : List ℕ → List ℕ → Type 0
+AddsNames file bytes = with_index_of Names file ≡ Ok (Some bytes)
 
 -- ---- questions about an index
 

@@ -1,17 +1,17 @@
 -- Written by tools/gen_vectors.py; not to be changed by hand.
 -- Answers to each query about small files of C, and lines that are no query.
 use Rattle.std.specs.Prelude.{ℕ, List, [], ◌∷◌, ◌++◌, codes}
-use Rattle.index_vectors.specs.Parts1.{part_5, part_29, part_37}
+use Rattle.index_vectors.specs.Parts1.{part_5, part_27, part_36}
 use Rattle.index_vectors.specs.Parts2.{part_66}
 use Rattle.index_vectors.specs.Says.{IsBadQuery, Prints, PrintsLength}
 
 unfoldable pub file_0 : List ℕ
 file_0 =
-    part_29
+    part_27
 
 unfoldable pub file_1 : List ℕ
 file_1 =
-    part_37
+    part_36
 
 unfoldable pub file_2 : List ℕ
 file_2 =

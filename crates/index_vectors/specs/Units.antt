@@ -1,10 +1,10 @@
 -- Written by tools/gen_vectors.py; not to be changed by hand.
 -- Units of each version, sort and format.
 use Rattle.std.specs.Prelude.{ℕ, List, [], ◌∷◌, ◌++◌, codes}
-use Rattle.index_vectors.specs.Parts1.{part_24}
+use Rattle.index_vectors.specs.Parts1.{part_28}
 use Rattle.index_vectors.specs.Parts3.{part_98, part_99, part_125, part_126}
 use Rattle.index_vectors.specs.Parts4.{part_157}
-use Rattle.index_vectors.specs.Parts5.{part_189, part_192, part_209, part_210}
+use Rattle.index_vectors.specs.Parts5.{part_193, part_196, part_213, part_214}
 use Rattle.index_vectors.specs.Says.{Prints}
 
 unfoldable pub file_0 : List ℕ
@@ -27,7 +27,7 @@ file_1 =
 
 unfoldable pub file_2 : List ℕ
 file_2 =
-    part_209 ++
+    part_213 ++
     part_99
 
 unfoldable pub file_3 : List ℕ
@@ -42,10 +42,10 @@ file_3 =
 
 unfoldable pub file_4 : List ℕ
 file_4 =
-    part_189 ++
+    part_193 ++
     (0 ∷ 3 ∷ 8 ∷ 0 ∷ 0 ∷ 0 ∷ 0 ∷ 1 ∷ 97 ∷ 46 ∷ 99 ∷ 0 ∷ 12 ∷ 0 ∷ 16 ∷ 0 ∷ 0 ∷ 0 ∷ 0 ∷ 0 ∷ 0 ∷ 32 ∷ 0 ∷ 0 ∷
     []) ++
-    part_24
+    part_28
 
 unfoldable pub file_5 : List ℕ
 file_5 =
@@ -84,10 +84,10 @@ file_7 =
 
 unfoldable pub file_8 : List ℕ
 file_8 =
-    part_210 ++
+    part_214 ++
     (0 ∷ 1 ∷ 8 ∷ 0 ∷ 0 ∷ 0 ∷ 0 ∷ 0 ∷ 0 ∷ 0 ∷ 0 ∷ 0 ∷ 46 ∷ 100 ∷ 101 ∷ 98 ∷ 117 ∷ 103 ∷ 95 ∷ 97 ∷ 98 ∷ 98 ∷ 114 ∷ 101 ∷
     []) ++
-    part_192
+    part_196
 
 -- what each row says
 abbrev pub Units : Type 0

@@ -3,8 +3,8 @@
 use Rattle.std.specs.Prelude.{ℕ, List, [], ◌∷◌, ◌++◌, codes}
 use Rattle.index_vectors.specs.Parts2.{part_71, part_73, part_74, part_78, part_80}
 use Rattle.index_vectors.specs.Parts3.{part_107}
-use Rattle.index_vectors.specs.Parts4.{part_167}
-use Rattle.index_vectors.specs.Parts5.{part_196, part_214, part_215}
+use Rattle.index_vectors.specs.Parts4.{part_171}
+use Rattle.index_vectors.specs.Parts5.{part_200, part_218, part_219}
 use Rattle.index_vectors.specs.Says.{Prints}
 
 unfoldable pub file_0 : List ℕ
@@ -58,14 +58,14 @@ file_4 =
 
 unfoldable pub file_5 : List ℕ
 file_5 =
-    part_196 ++
+    part_200 ++
     (0 ∷ 0 ∷ 0 ∷ 2 ∷ 128 ∷ 128 ∷ 128 ∷ 128 ∷ 128 ∷ 128 ∷ 128 ∷ 128 ∷ 128 ∷ 1 ∷ 109 ∷ 97 ∷ 105 ∷ 110 ∷ 0 ∷ 0 ∷ 16 ∷ 0 ∷ 0 ∷ 0 ∷
     []) ++
     part_73
 
 unfoldable pub file_6 : List ℕ
 file_6 =
-    part_214 ++
+    part_218 ++
     part_74
 
 unfoldable pub file_7 : List ℕ
@@ -77,10 +77,10 @@ file_7 =
     0 ∷ 1 ∷ 8 ∷ 0 ∷ 0 ∷ 0 ∷ 0 ∷ 1 ∷ 97 ∷ 46 ∷ 99 ∷ 0 ∷ 12 ∷ 0 ∷ 16 ∷ 0 ∷ 0 ∷ 0 ∷ 0 ∷ 0 ∷ 0 ∷ 32 ∷ 0 ∷ 0 ∷
     0 ∷ 2 ∷ 109 ∷ 97 ∷ 105 ∷ 110 ∷ 0 ∷ 46 ∷ 100 ∷ 101 ∷ 98 ∷ 117 ∷ 103 ∷ 95 ∷ 97 ∷ 98 ∷ 98 ∷ 114 ∷ 101 ∷ 118 ∷ 0 ∷ 46 ∷ 100 ∷ 101 ∷
     []) ++
-    part_167 ++
+    part_171 ++
     (0 ∷ 0 ∷ 0 ∷ 0 ∷ 0 ∷ 0 ∷ 0 ∷ 0 ∷ 91 ∷ 0 ∷ 0 ∷ 0 ∷ 0 ∷ 0 ∷ 0 ∷ 0 ∷ 35 ∷ 0 ∷ 0 ∷ 0 ∷ 0 ∷ 0 ∷ 0 ∷ 0 ∷
     []) ++
-    part_215
+    part_219
 
 unfoldable pub file_8 : List ℕ
 file_8 =

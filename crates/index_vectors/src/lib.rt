@@ -9,6 +9,7 @@
 ghost use Rattle.index_vectors.specs.AbbreviationFaults.{AbbreviationFaults};
 ghost use Rattle.index_vectors.specs.Abbreviations.{Abbreviations};
 ghost use Rattle.index_vectors.specs.AdaNames.{AdaNames};
+ghost use Rattle.index_vectors.specs.AddedIndexes.{AddedIndexes};
 ghost use Rattle.index_vectors.specs.AddressAndBlockForms.{AddressAndBlockForms};
 ghost use Rattle.index_vectors.specs.AddressIndexFaults.{AddressIndexFaults};
 ghost use Rattle.index_vectors.specs.ConstantAndFlagForms.{ConstantAndFlagForms};
@@ -212,6 +213,11 @@ pub fn gdb_indexes()
 /// The bytes of `.debug_names` of small files, and the strings that it adds.
 pub fn name_indexes()
     ensures { NameIndexes }
+{}
+
+/// The bytes of a small program with its index, of each kind.
+pub fn added_indexes()
+    ensures { AddedIndexes }
 {}
 
 /// The first fault of a `.gdb_index` up to its symbol table.

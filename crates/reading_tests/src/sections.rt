@@ -1,6 +1,6 @@
 //! The sections and the units of a file, as readelf shows them.
 
-use file_image::{Image, Sections, units};
+use file_image::{Image, SectionTable, Sections, units};
 use index_model::{Part, Unit, UnitSort};
 use std::test::Fail;
 use test_files::programs::{PLAIN, THREE_UNITS};
@@ -25,6 +25,23 @@ fn sections_by_name(rt: HostRuntime) -> Result<(), Fail> {
     let found = compared(&sections);
     let units = units(rt.alloc(), &sections)?.len();
     assert_eq!(rt; (found, units), ([true; 4], 1));
+    Ok(())
+}
+
+// Name, type, place, size and alignment of `.debug_info`, as readelf shows them; and behind the last section.
+#[test]
+fn sections_by_index(rt: HostRuntime) -> Result<(), Fail> {
+    let table = SectionTable::open(&PLAIN)?;
+    let found = match table.header(2) {
+        Some(h) => (h.name, h.kind, h.at, h.size, h.alignment),
+        None => (0, 0, 0, 0, 0),
+    };
+    let index = Sections::open(rt.alloc(), &PLAIN)?.index_of(b".debug_info");
+    assert_eq!(rt; (table.count(), table.names(), index), (4, 3, Some(2)));
+    assert_eq!(rt;
+        (found, table.header(4).is_none()),
+        ((15, 1, 91, 49, 1), true)
+    );
     Ok(())
 }
 
