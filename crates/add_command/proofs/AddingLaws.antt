@@ -1,15 +1,13 @@
 -- What the sections of a program say to those that are to be added for an index.
-use Rattle.std.proofs.Common.{◌≡◌, ◌+◌, ℕ, Bool, true, false, not, ◌&&◌, ◌||◌, ltb, List, [], ◌∷◌, ◌++◌, length, append-nil, Result, Ok, Err, Some, None, refl, sym, ap, ◌∙◌, arith}
+use Rattle.std.proofs.Common.{◌≡◌, ◌+◌, ℕ, Bool, true, false, ◌||◌, ltb, List, [], ◌++◌, length, append-nil, Result, Ok, Err, Some, None, refl, sym, ap, ◌∙◌, arith}
 use Rattle.std.specs.Prelude.{if◌then◌else◌}
-use Rattle.index_model.specs.Sections.{Section, section_count}
-use Rattle.reach_model.specs.Added.{Addition, debug_str, new_sections, strings_index}
+use Rattle.index_model.specs.Sections.{section_count}
+use Rattle.reach_model.specs.Added.{new_sections, strings_index}
 use Rattle.reach_model.specs.AddedIndex.{most_sections}
 use Rattle.elf_add.specs.Adders.{Adder, has_section, is_full, with_section, with_strings, AddsAs}
 use Rattle.elf_add.specs.declared.adder.AddStop.{AddStop}
 use Rattle.elf_add.specs.declared.adder.AddStop.TheVariants as adds
 use Rattle.add_command.specs.Programs.{is_full_with, is_there, lacks_strings, nothing, one_section, reason, HasRoomForOne, SectionStops, StringsStop}
-use Rattle.add_command.specs.declared.program.Stop.{Stop}
-use Rattle.add_command.specs.declared.program.Stop.TheVariants as stops
 
 -- ---- a test of the names, and then one of the number
 

@@ -6,16 +6,16 @@ use Rattle.index_model.specs.declared.job.CacheKind.TheVariants.{Gdb8, Gdb9, Nam
 use Rattle.index_model.specs.Cache.{Cache, GdbBytes, NameBytes, DoesNotFit}
 use Rattle.ix_base.specs.declared.limits.TheConstants.{MAX_FILE_BYTES}
 use Rattle.index_model.specs.Cache.{cache_in, cache_of}
-use Rattle.index_model.specs.Faults.{Built, built_of}
-use Rattle.index_model.specs.Sections.{Section, sections_of}
-use Rattle.reach_model.specs.Added.{Addition, added, names_start, new_sections}
+use Rattle.index_model.specs.Faults.{Built}
+use Rattle.index_model.specs.Sections.{Section}
+use Rattle.reach_model.specs.Added.{added, names_start, new_sections}
 use Rattle.reach_model.specs.AddedIndex.{addition_of}
 use Rattle.reach_model.specs.AddedSections.{HavePlaces}
 use Rattle.index_model.proofs.Meanings.{same_ok}
 use Rattle.reach_model.proofs.BuiltSections.{built_sections}
 use Rattle.reach_model.proofs.Places.{places_fit}
 use Rattle.elf_add.specs.Adders.{Adder, adder_of}
-use Rattle.add_command.specs.Adds.{ForProgram, HasRoom, HasTooLarge, OfAdded}
+use Rattle.add_command.specs.Adds.{ForProgram, HasRoom, OfAdded}
 use Rattle.add_command.specs.Programs.{gdb_section, nothing, staged, AddStops, FillStops, FinishStops, FitsKind, HasRoomForOne, IsIndexOf, SectionStops}
 use Rattle.add_command.specs.declared.program.Stop.{Stop}
 use Rattle.add_command.specs.declared.program.Stop.TheVariants as stops

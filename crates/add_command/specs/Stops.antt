@@ -1,10 +1,9 @@
 -- How a command ends whose program isn't given its index, or isn't stored.
-use Rattle.std.specs.Prelude.{ℕ, List, Option, ⊤}
+use Rattle.std.specs.Prelude.{ℕ, List, ⊤}
 use Rattle.index_model.specs.declared.job.CacheKind.{CacheKind}
-use Rattle.outside.specs.Files.{Files, SameFiles, Stored, StoredOrPrefix}
 use Rattle.command_base.specs.declared.status.Status.{Status}
 use Rattle.command_base.specs.declared.status.Status.TheVariants.{Answered, StoreFault, NoMemory, IndexTooLarge, AlreadyIndexed, TooManySections}
-use Rattle.add_command.specs.Adds.{ForProgram, HasIndex, HasNoRoom, HasTooLarge, OfAdded}
+use Rattle.add_command.specs.Adds.{ForProgram, HasIndex, HasNoRoom, HasTooLarge}
 use Rattle.add_command.specs.declared.program.Stop.{Stop}
 use Rattle.add_command.specs.declared.program.Stop.TheVariants as stops
 
