@@ -12,17 +12,19 @@ use Rattle.index_model.specs.GdbIndexRead.{GdbIndex, gdb_index}
 use Rattle.index_model.specs.NameIndexRead.{NameIndex, name_index}
 use Rattle.index_model.specs.Queries.{Query}
 use Rattle.index_model.proofs.Meanings.{same_ok}
-use Rattle.outside.specs.Files.{Files}
+use Rattle.index_model.specs.Sections.{Section}
+use Rattle.outside.specs.Files.{Files, Stored}
 use Rattle.session_commands.specs.declared.script.TheConstants.{MAX_SCRIPT_BYTES}
-use Rattle.index_cmd.specs.Requests.{Request, TheHelp, TheVersion, OfFile, OfIndex, OfGdb, OfNames, OfServe, OfRace, OfDrill, AsksFile, AsksProgram, AsksIndex}
+use Rattle.index_cmd.specs.Requests.{Request, TheHelp, TheVersion, OfFile, OfIndex, OfAdd, OfGdb, OfNames, OfServe, OfRace, OfDrill, AsksFile, AsksProgram, AsksIndex}
 use Rattle.drill_command.specs.Drills.{HasTooLarge, IsSummaryOf}
 use Rattle.command_base.specs.FilesRead.{HoldsMore}
 use Rattle.session_commands.specs.Heard.{Heard}
 use Rattle.index_cmd.specs.Results.{Says, Completes}
 use Rattle.session_commands.specs.SessionResults.{IsServeMeant}
 use Rattle.drill_command.specs.DrillResults.{IsDrillMeant}
-use Rattle.index_cmd.specs.Replies.{Causes, MakesTooLarge, IsIndexRefusal}
+use Rattle.index_cmd.specs.Replies.{Causes, HasTooManySections, IsAlreadyIndexed, IsIndexRefusal, MakesTooLarge}
 use Rattle.command_base.specs.Replies.{IsMeant, line_of}
+use Rattle.add_command.specs.Adds.{ForNamedProgram, ForProgram, IsAddMeant, OfAdded}
 use Rattle.index_commands.specs.Indexes.{IsIndexMeant}
 use Rattle.index_commands.specs.GdbLooks.{IsLookMeant}
 use Rattle.index_commands.specs.NamesLooks.{IsNamesMeant}
@@ -30,30 +32,33 @@ use Rattle.command_base.specs.Statuses.{status_code}
 use Rattle.index_commands.specs.Stores.{Keeps}
 use Rattle.index_cmd.specs.Stores.{LeavesAtEnd}
 use Rattle.command_base.specs.declared.status.Status.{Status}
-use Rattle.command_base.specs.declared.status.Status.TheVariants.{Answered, Refused, Usage, ReadFault, StoreFault, WriteFault, NoMemory, IndexRefused, IndexTooLarge, FileTooBig, InputFault, InputTooLong, Stopped}
+use Rattle.command_base.specs.declared.status.Status.TheVariants.{Answered, Refused, Usage, ReadFault, StoreFault, WriteFault, NoMemory, IndexRefused, IndexTooLarge, FileTooBig, AlreadyIndexed, TooManySections, InputFault, InputTooLong, Stopped}
+use Rattle.index_cmd.proofs.Adding.{short_of_memory, when_crowded, when_indexed, when_refused, when_stored, when_too_large}
 use Rattle.index_cmd.proofs.Outcomes.{Outcome, tells, stops, lines, fails, Plain, answers, refuses, index_refuses, plain_lines, plain_fails, plain, no_request, same_bytes, accepted_built, none_some}
 
 -- ---- the program's own texts
 
 module _ (told : Option Files) (reads stores writes : Type 0) (old new : Option (List ℕ)) where
-  own_text : (request : Request) → ((P : List ℕ → ℕ → Type 0) → AsksFile (Some request) P → ⊥) → ((P : List ℕ → Type 0) → AsksProgram (Some request) P → ⊥) → ((P : CacheKind → List ℕ → List ℕ → Type 0) → AsksIndex (Some request) P → ⊥) → (MakesTooLarge (Some request) told → ⊥) → ((text : List ℕ) → IsIndexRefusal (Some request) told text → ⊥) → (writes → ⊥) → (status : Status) → Plain (Some request) told reads stores writes old new status → (status_code status ≡ 0) ⊎ (status_code status ≡ 7)
-  own_text request file program index large look none status (answers w) = inl refl
-  own_text request file program index large look none status (refuses w) = absurd (program _ w.1)
-  own_text request file program index large look none status (index_refuses w) = absurd (look _ w.1)
-  own_text request file program index large look none status (plain_fails f) = absurd (none f)
-  own_text request file program index large look none Usage (plain_lines text is c) = absurd (cc c)
-  own_text request file program index large look none ReadFault (plain_lines text is c) = absurd (file _ c)
-  own_text request file program index large look none StoreFault (plain_lines text is c) = absurd (index _ c)
-  own_text request file program index large look none NoMemory (plain_lines text is c) = inr refl
-  own_text request file program index large look none IndexTooLarge (plain_lines text is c) = absurd (large c)
-  own_text request file program index large look none FileTooBig (plain_lines text is c) = absurd (file _ c)
-  own_text request file program index large look none Answered (plain_lines text is c) = absurd (cc is)
-  own_text request file program index large look none Refused (plain_lines text is c) = absurd (cc is)
-  own_text request file program index large look none IndexRefused (plain_lines text is c) = absurd (cc is)
-  own_text request file program index large look none WriteFault (plain_lines text is c) = absurd (cc is)
-  own_text request file program index large look none InputFault (plain_lines text is c) = absurd (cc is)
-  own_text request file program index large look none InputTooLong (plain_lines text is c) = absurd (cc is)
-  own_text request file program index large look none Stopped (plain_lines text is c) = absurd (cc is)
+  own_text : (request : Request) → ((P : List ℕ → ℕ → Type 0) → AsksFile (Some request) P → ⊥) → ((P : List ℕ → Type 0) → AsksProgram (Some request) P → ⊥) → ((P : CacheKind → List ℕ → List ℕ → Type 0) → AsksIndex (Some request) P → ⊥) → (MakesTooLarge (Some request) told → ⊥) → ((text : List ℕ) → IsIndexRefusal (Some request) told text → ⊥) → (IsAlreadyIndexed (Some request) told → ⊥) → (HasTooManySections (Some request) told → ⊥) → (writes → ⊥) → (status : Status) → Plain (Some request) told reads stores writes old new status → (status_code status ≡ 0) ⊎ (status_code status ≡ 7)
+  own_text request file program index large look indexed crowded none status (answers w) = inl refl
+  own_text request file program index large look indexed crowded none status (refuses w) = absurd (program _ w.1)
+  own_text request file program index large look indexed crowded none status (index_refuses w) = absurd (look _ w.1)
+  own_text request file program index large look indexed crowded none status (plain_fails f) = absurd (none f)
+  own_text request file program index large look indexed crowded none Usage (plain_lines text is c) = absurd (cc c)
+  own_text request file program index large look indexed crowded none ReadFault (plain_lines text is c) = absurd (file _ c)
+  own_text request file program index large look indexed crowded none StoreFault (plain_lines text is c) = absurd (index _ c)
+  own_text request file program index large look indexed crowded none NoMemory (plain_lines text is c) = inr refl
+  own_text request file program index large look indexed crowded none IndexTooLarge (plain_lines text is c) = absurd (large c)
+  own_text request file program index large look indexed crowded none FileTooBig (plain_lines text is c) = absurd (file _ c)
+  own_text request file program index large look indexed crowded none AlreadyIndexed (plain_lines text is c) = absurd (indexed c)
+  own_text request file program index large look indexed crowded none TooManySections (plain_lines text is c) = absurd (crowded c)
+  own_text request file program index large look indexed crowded none Answered (plain_lines text is c) = absurd (cc is)
+  own_text request file program index large look indexed crowded none Refused (plain_lines text is c) = absurd (cc is)
+  own_text request file program index large look indexed crowded none IndexRefused (plain_lines text is c) = absurd (cc is)
+  own_text request file program index large look indexed crowded none WriteFault (plain_lines text is c) = absurd (cc is)
+  own_text request file program index large look indexed crowded none InputFault (plain_lines text is c) = absurd (cc is)
+  own_text request file program index large look indexed crowded none InputTooLong (plain_lines text is c) = absurd (cc is)
+  own_text request file program index large look indexed crowded none Stopped (plain_lines text is c) = absurd (cc is)
 
   nothing_asked : (status : Status) → Plain None told reads stores writes old new status → (writes → ⊥) → (status_code status ≡ 2) ⊎ (status_code status ≡ 7)
   nothing_asked status o none = by (no_request told reads stores writes old new status o)
@@ -84,6 +89,8 @@ module _ (files : Files) (reads stores writes : Type 0) (old new : Option (List 
     only_memory StoreFault text is c = absurd c
     only_memory IndexTooLarge text is c = absurd c
     only_memory FileTooBig text is c = absurd (fits MAX_FILE_BYTES (files file) bytes holds small c)
+    only_memory AlreadyIndexed text is c = absurd c
+    only_memory TooManySections text is c = absurd c
     only_memory Answered text is c = absurd (cc is)
     only_memory Refused text is c = absurd (cc is)
     only_memory IndexRefused text is c = absurd (cc is)
@@ -118,6 +125,8 @@ module _ (files : Files) (reads stores writes : Type 0) (old new : Option (List 
     only_memory_looks StoreFault text is c = absurd c
     only_memory_looks IndexTooLarge text is c = absurd c
     only_memory_looks FileTooBig text is c = absurd (fits MAX_FILE_BYTES (files file) bytes holds small c)
+    only_memory_looks AlreadyIndexed text is c = absurd c
+    only_memory_looks TooManySections text is c = absurd c
     only_memory_looks Answered text is c = absurd (cc is)
     only_memory_looks Refused text is c = absurd (cc is)
     only_memory_looks IndexRefused text is c = absurd (cc is)
@@ -171,6 +180,8 @@ module _ (files : Files) (reads stores writes : Type 0) (old new : Option (List 
     by_line ReadFault text is c = absurd (no_read c)
     by_line StoreFault text is c = absurd (no_store c)
     by_line FileTooBig text is c = absurd (fits MAX_FILE_BYTES (files file) bytes holds small c)
+    by_line AlreadyIndexed text is c = absurd c
+    by_line TooManySections text is c = absurd c
     by_line Answered text is c = absurd (cc is)
     by_line Refused text is c = absurd (cc is)
     by_line IndexRefused text is c = absurd (cc is)
@@ -191,6 +202,40 @@ module _ (files : Files) (reads stores writes : Type 0) (old new : Option (List 
     index_meant status (index_refuses w) left = absurd w.1
     index_meant status (plain_lines text is c) left = by_line status text is c
     index_meant status (plain_fails f) left = absurd (no_write f)
+
+  -- ---- add
+
+  module _ (kind : CacheKind) (out : List ℕ) (no_store : stores → ⊥) (shelf : Option Files) where
+    abbrev with_index : Option Request
+    with_index = Some (OfAdd kind file out)
+
+    -- what holds of the program with this name holds of these bytes
+    of_these : (P : List ℕ → List Section → Cache → Type 0) → ForNamedProgram (Some files) file kind P → ForProgram bytes kind P
+    of_these P h = subst (λ (own : List ℕ). ForProgram own kind P) (same_bytes (files file) h.0 bytes h.1 holds) h.2
+
+    add_line : (status : Status) (text : List ℕ) → line_of status ≡ Some text → Causes with_index (Some files) reads stores writes status → IsAddMeant bytes kind (status_code status)
+    add_line NoMemory text is c = short_of_memory bytes kind
+    add_line IndexTooLarge text is c = when_too_large bytes kind (of_these _ c)
+    add_line AlreadyIndexed text is c = when_indexed bytes kind (of_these _ c)
+    add_line TooManySections text is c = when_crowded bytes kind (of_these _ c)
+    add_line Usage text is c = absurd (cc c)
+    add_line ReadFault text is c = absurd (no_read c)
+    add_line StoreFault text is c = absurd (no_store c)
+    add_line FileTooBig text is c = absurd (fits MAX_FILE_BYTES (files file) bytes holds small c)
+    add_line Answered text is c = absurd (cc is)
+    add_line Refused text is c = absurd (cc is)
+    add_line IndexRefused text is c = absurd (cc is)
+    add_line WriteFault text is c = absurd (cc is)
+    add_line InputFault text is c = absurd (cc is)
+    add_line InputTooLong text is c = absurd (cc is)
+    add_line Stopped text is c = absurd (cc is)
+
+    add_meant : (status : Status) → Plain with_index (Some files) reads stores writes old new status → LeavesAtEnd with_index (Some files) shelf status → IsAddMeant bytes kind (status_code status)
+    add_meant status (answers w) left = when_stored bytes kind (Stored (Some files) shelf out) (of_these (OfAdded kind (Stored (Some files) shelf out)) left)
+    add_meant status (refuses w) left = when_refused bytes kind w.1.2.fault (ap first_fault (sym (same_bytes (files file) w.1.0 bytes w.1.1 holds)) ∙ w.1.2.first)
+    add_meant status (index_refuses w) left = absurd w.1
+    add_meant status (plain_lines text is c) left = add_line status text is c
+    add_meant status (plain_fails f) left = absurd (no_write f)
 
 -- ---- look, in an index and its strings
 
@@ -213,6 +258,8 @@ module _ (files : Files) (reads stores writes : Type 0) (old new : Option (List 
   only_memory_names StoreFault text is c = absurd c
   only_memory_names IndexTooLarge text is c = absurd c
   only_memory_names FileTooBig text is c = absurd (both_fit c)
+  only_memory_names AlreadyIndexed text is c = absurd c
+  only_memory_names TooManySections text is c = absurd c
   only_memory_names Answered text is c = absurd (cc is)
   only_memory_names Refused text is c = absurd (cc is)
   only_memory_names IndexRefused text is c = absurd (cc is)
@@ -253,7 +300,7 @@ not_refused own bytes same some none = nothing_there (subst IsSome (ap first_fau
     nothing_there : IsSome {T = Fault} None → ⊥
     nothing_there h = absurd (cc h)
 
-module _ (request : Option Request) (files : Files) (heard : Heard) (reads stores writes : Type 0) (old new : Option (List ℕ)) (file bytes : List ℕ) (holds : files file ≡ Some bytes) (no_read : AsksFile request (λ _ _. reads) → ⊥) (no_store : AsksIndex request (λ _ _ _. stores) → ⊥) (small : AsksFile request (HoldsMore (Some files)) → ⊥) (no_large : MakesTooLarge request (Some files) → ⊥) (asks : request ≡ None → ⊥) (no_write : writes → ⊥) where
+module _ (request : Option Request) (files : Files) (heard : Heard) (reads stores writes : Type 0) (old new : Option (List ℕ)) (file bytes : List ℕ) (holds : files file ≡ Some bytes) (no_read : AsksFile request (λ _ _. reads) → ⊥) (no_store : AsksIndex request (λ _ _ _. stores) → ⊥) (small : AsksFile request (HoldsMore (Some files)) → ⊥) (no_large : MakesTooLarge request (Some files) → ⊥) (no_indexed : IsAlreadyIndexed request (Some files) → ⊥) (no_crowded : HasTooManySections request (Some files) → ⊥) (asks : request ≡ None → ⊥) (no_write : writes → ⊥) where
   session_line : (status : Status) (text : List ℕ) → line_of status ≡ Some text → Causes request (Some files) reads stores writes status → status_code status ≡ 7
   session_line NoMemory text is c = refl
   session_line Usage text is c = absurd (asks c)
@@ -261,6 +308,8 @@ module _ (request : Option Request) (files : Files) (heard : Heard) (reads store
   session_line StoreFault text is c = absurd (no_store c)
   session_line IndexTooLarge text is c = absurd (no_large c)
   session_line FileTooBig text is c = absurd (small c)
+  session_line AlreadyIndexed text is c = absurd (no_indexed c)
+  session_line TooManySections text is c = absurd (no_crowded c)
   session_line Answered text is c = absurd (cc is)
   session_line Refused text is c = absurd (cc is)
   session_line IndexRefused text is c = absurd (cc is)
@@ -291,6 +340,8 @@ module _ (request : Option Request) (files : Files) (heard : Heard) (reads store
   session_meant says_yes says_no never input NoMemory (tells t w) = absurd t
   session_meant says_yes says_no never input IndexTooLarge (tells t w) = absurd t
   session_meant says_yes says_no never input FileTooBig (tells t w) = absurd t
+  session_meant says_yes says_no never input AlreadyIndexed (tells t w) = absurd t
+  session_meant says_yes says_no never input TooManySections (tells t w) = absurd t
   session_meant says_yes says_no never input Stopped (tells t w) = absurd t
   session_meant says_yes says_no never input status (stops text says part) = record { answered = λ _. inr (inl refl); refused_ = λ f some. inr (inl refl) }
   session_meant says_yes says_no never input status (lines text is c a) = let e = session_line status text is c in record { answered = λ _. inr (inl e); refused_ = λ f some. inr (inl e) }
@@ -338,6 +389,8 @@ module _ (seed units : ℕ) (told : Option Files) (heard : Heard) (reads stores 
   drill_line ReadFault text is c = absurd c
   drill_line StoreFault text is c = absurd c
   drill_line FileTooBig text is c = absurd c
+  drill_line AlreadyIndexed text is c = absurd c
+  drill_line TooManySections text is c = absurd c
   drill_line Answered text is c = absurd (cc is)
   drill_line Refused text is c = absurd (cc is)
   drill_line IndexRefused text is c = absurd (cc is)
@@ -367,6 +420,8 @@ module _ (seed units : ℕ) (told : Option Files) (heard : Heard) (reads stores 
   drill_meant NoMemory (tells t w) = absurd t
   drill_meant IndexTooLarge (tells t w) = absurd t
   drill_meant FileTooBig (tells t w) = absurd t
+  drill_meant AlreadyIndexed (tells t w) = absurd t
+  drill_meant TooManySections (tells t w) = absurd t
   drill_meant Stopped (tells t w) = absurd t
   drill_meant status (stops text says part) = absurd says
   drill_meant status (lines text is c a) = drill_line status text is c
@@ -375,22 +430,24 @@ module _ (seed units : ℕ) (told : Option Files) (heard : Heard) (reads stores 
 pub complete : (request : Option Request) (told shelf : Option Files) (heard : Heard) (reads stores writes : Type 0) (old new : Option (List ℕ)) (status : Status) → Outcome request told heard reads stores writes old new status → LeavesAtEnd request told shelf status →
     Completes request told heard reads stores writes (status_code status)
 complete None told shelf heard reads stores writes old new status o left = nothing_asked told reads stores writes old new status (plain None told reads stores writes old new heard (λ _ _ h. h) status o)
-complete (Some TheHelp) told shelf heard reads stores writes old new status o left = λ none. own_text told reads stores writes old new TheHelp (λ P h. h) (λ P h. h) (λ P h. h) (λ h. h) (λ text h. h) none status (plain (Some TheHelp) told reads stores writes old new heard (λ _ _ h. h) status o)
-complete (Some TheVersion) told shelf heard reads stores writes old new status o left = λ none. own_text told reads stores writes old new TheVersion (λ P h. h) (λ P h. h) (λ P h. h) (λ h. h) (λ text h. h) none status (plain (Some TheVersion) told reads stores writes old new heard (λ _ _ h. h) status o)
+complete (Some TheHelp) told shelf heard reads stores writes old new status o left = λ none. own_text told reads stores writes old new TheHelp (λ P h. h) (λ P h. h) (λ P h. h) (λ h. h) (λ text h. h) (λ h. h) (λ h. h) none status (plain (Some TheHelp) told reads stores writes old new heard (λ _ _ h. h) status o)
+complete (Some TheVersion) told shelf heard reads stores writes old new status o left = λ none. own_text told reads stores writes old new TheVersion (λ P h. h) (λ P h. h) (λ P h. h) (λ h. h) (λ text h. h) (λ h. h) (λ h. h) none status (plain (Some TheVersion) told reads stores writes old new heard (λ _ _ h. h) status o)
 complete (Some (OfFile file q)) None shelf heard reads stores writes old new status o left = tt
 complete (Some (OfFile file q)) (Some files) shelf heard reads stores writes old new status o left = λ bytes holds small no_read no_write. meant files reads stores writes old new file bytes holds small no_read no_write q status (plain (Some (OfFile file q)) (Some files) reads stores writes old new heard (λ _ _ h. h) status o)
 complete (Some (OfIndex kind file out)) None shelf heard reads stores writes old new status o left = tt
 complete (Some (OfIndex kind file out)) (Some files) shelf heard reads stores writes old new status o left = λ bytes holds small no_read no_write no_store. index_meant files reads stores writes old new file bytes holds small no_read no_write kind out no_store shelf status (plain (Some (OfIndex kind file out)) (Some files) reads stores writes old new heard (λ _ _ h. h) status o) left
+complete (Some (OfAdd kind file out)) None shelf heard reads stores writes old new status o left = tt
+complete (Some (OfAdd kind file out)) (Some files) shelf heard reads stores writes old new status o left = λ bytes holds small no_read no_write no_store. add_meant files reads stores writes old new file bytes holds small no_read no_write kind out no_store shelf status (plain (Some (OfAdd kind file out)) (Some files) reads stores writes old new heard (λ _ _ h. h) status o) left
 complete (Some (OfGdb index q)) None shelf heard reads stores writes old new status o left = tt
 complete (Some (OfGdb index q)) (Some files) shelf heard reads stores writes old new status o left = λ bytes holds small no_read no_write. look_meant files reads stores writes old new index bytes holds small no_read no_write q status (plain (Some (OfGdb index q)) (Some files) reads stores writes old new heard (λ _ _ h. h) status o)
 complete (Some (OfNames base index strings name)) None shelf heard reads stores writes old new status o left = tt
 complete (Some (OfNames base index strings name)) (Some files) shelf heard reads stores writes old new status o left = λ bytes has_index small_index no_read no_write held has_strings small_strings again_no_read again_no_write. names_meant files reads stores writes old new index strings bytes held has_index small_index has_strings small_strings no_read no_write base name status (plain (Some (OfNames base index strings name)) (Some files) reads stores writes old new heard (λ _ _ h. h) status o)
 complete (Some (OfServe wait file)) None shelf heard reads stores writes old new status o left = tt
 complete (Some (OfServe wait file)) (Some files) shelf heard reads stores writes old new status o left = λ bytes holds small no_read no_write no_input.
-    session_meant (Some (OfServe wait file)) files heard reads stores writes old new file bytes holds no_read (λ h. h) (fits MAX_FILE_BYTES (files file) bytes holds small) (λ h. h) (λ e. cc e) no_write
+    session_meant (Some (OfServe wait file)) files heard reads stores writes old new file bytes holds no_read (λ h. h) (fits MAX_FILE_BYTES (files file) bytes holds small) (λ h. h) (λ h. h) (λ h. h) (λ e. cc e) no_write
     (λ text h. (h.0, h.1, h.2.0)) (λ text h. (h.0, h.1, h.2.0)) (λ text h. h.2) (λ text h. no_input h.2.0) status o
 complete (Some (OfRace readers file script)) None shelf heard reads stores writes old new status o left = tt
 complete (Some (OfRace readers file script)) (Some files) shelf heard reads stores writes old new status o left = λ bytes holds small no_read no_write held has_script small_script again_no_read again_no_write.
-    session_meant (Some (OfRace readers file script)) files heard reads stores writes old new file bytes holds (⊎_elim no_read no_read) (λ h. h) (⊎_elim (fits MAX_FILE_BYTES (files file) bytes holds small) (fits MAX_SCRIPT_BYTES (files script) held has_script small_script)) (λ h. h) (λ e. cc e) no_write
+    session_meant (Some (OfRace readers file script)) files heard reads stores writes old new file bytes holds (⊎_elim no_read no_read) (λ h. h) (⊎_elim (fits MAX_FILE_BYTES (files file) bytes holds small) (fits MAX_SCRIPT_BYTES (files script) held has_script small_script)) (λ h. h) (λ h. h) (λ h. h) (λ e. cc e) no_write
     (λ text h. (h.0, h.1, h.2.2.0)) (λ text h. (h.0, h.1, h.2.2.0)) (λ text h. h.2.2) (λ text h. h.2.2) status o
 complete (Some (OfDrill seed units)) told shelf heard reads stores writes old new status o left = λ no_write. drill_meant seed units told heard reads stores writes old new no_write status o

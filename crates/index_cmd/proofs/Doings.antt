@@ -5,7 +5,7 @@ use Rattle.index_model.specs.declared.job.CacheKind.{CacheKind}
 use Rattle.index_model.specs.Cache.{cache_in}
 use Rattle.index_model.specs.Queries.{Query}
 use Rattle.outside.specs.Counts.{Rose}
-use Rattle.outside.specs.Files.{Files, SameFiles}
+use Rattle.outside.specs.Files.{Files, SameFiles, Stored, StoredOrPrefix}
 use Rattle.outside.specs.Written.{Appends, AppendsPrefix}
 use Rattle.outside.proofs.CountLaws.{then-rose}
 use Rattle.outside.proofs.FileLaws.{same_files-refl, same_files-trans}
@@ -16,7 +16,7 @@ use Rattle.command_base.specs.Stops.{stop_status}
 use Rattle.command_base.specs.declared.file.ReadStop.{ReadStop}
 use Rattle.command_base.specs.declared.file.ReadStop.TheVariants as stops
 use Rattle.command_base.specs.declared.status.Status.{Status}
-use Rattle.command_base.specs.declared.status.Status.TheVariants.{Answered, Refused, Usage, ReadFault, StoreFault, WriteFault, NoMemory, IndexRefused, IndexTooLarge, FileTooBig, InputFault, InputTooLong, Stopped}
+use Rattle.command_base.specs.declared.status.Status.TheVariants.{Answered, Refused, Usage, ReadFault, StoreFault, WriteFault, NoMemory, IndexRefused, IndexTooLarge, FileTooBig, AlreadyIndexed, TooManySections, InputFault, InputTooLong, Stopped}
 use Rattle.command_base.proofs.FileReads.{same_more, same_whole}
 use Rattle.command_base.proofs.ReplyLaws.{wrote_weaker}
 use Rattle.session_commands.specs.declared.script.TheConstants.{MAX_SCRIPT_BYTES}
@@ -27,10 +27,11 @@ use Rattle.session_commands.specs.SessionResults.{SaysServe}
 use Rattle.index_commands.specs.GdbLooks.{SaysGdb}
 use Rattle.index_commands.specs.Indexes.{CausesOfIndex, LeavesIndex, SaysIndex}
 use Rattle.index_commands.specs.NamesLooks.{SaysNames}
+use Rattle.add_command.specs.Adds.{CausesOfAdd, LeavesAdd, SaysAdd}
 use Rattle.drill_command.specs.DrillResults.{CausesOfDrill, SaysDrill}
 use Rattle.index_cmd.specs.Doings.{CausesBeside, Does, SaysBeside, WasRead}
 use Rattle.index_cmd.specs.Replies.{Causes, IsAnswer}
-use Rattle.index_cmd.specs.Requests.{Request, OfFile, OfIndex, OfGdb, OfNames, OfServe, OfRace, OfDrill, AsksFile, StoresNothing}
+use Rattle.index_cmd.specs.Requests.{Request, OfFile, OfIndex, OfAdd, OfGdb, OfNames, OfServe, OfRace, OfDrill, AsksFile, StoresNothing}
 use Rattle.index_cmd.specs.Results.{Says}
 use Rattle.index_cmd.specs.Stores.{Leaves}
 use Rattle.index_cmd.specs.Tasks.{request_on}
@@ -38,13 +39,14 @@ use Rattle.index_cmd.specs.declared.task.Action.{Action}
 use Rattle.index_cmd.specs.declared.task.Action.TheVariants as actions
 use Rattle.index_cmd.proofs.Leavings.{leaves_same}
 use Rattle.index_cmd.proofs.Outcomes.{IsPlain, says_plain}
-use Rattle.index_cmd.proofs.Storings.{keeps_from, keeps_part_from}
+use Rattle.index_cmd.proofs.Storings.{keeps_from, keeps_part_from, of_added, part_from, stored_from}
 
 -- ---- the file wasn't read
 
 asks_first : (file : List ℕ) (action : Action) (P : List ℕ → ℕ → Type 0) → P file MAX_FILE_BYTES → AsksFile (Some (request_on file action)) P
 asks_first file (actions.Ask q) P p = p
 asks_first file (actions.Index kind out) P p = p
+asks_first file (actions.Add kind out) P p = p
 asks_first file (actions.LookGdb q) P p = p
 asks_first file (actions.LookNames base strings name) P p = inl p
 asks_first file (actions.Serve wait) P p = p
@@ -89,6 +91,8 @@ module _ (seed units : ℕ) (told : Option Files) (heard : Heard) (reads stores 
   causes_drilled IndexRefused c = absurd c
   causes_drilled IndexTooLarge c = c
   causes_drilled FileTooBig c = absurd c
+  causes_drilled AlreadyIndexed c = absurd c
+  causes_drilled TooManySections c = absurd c
   causes_drilled InputFault c = absurd c
   causes_drilled InputTooLong c = absurd c
   causes_drilled Stopped c = absurd c
@@ -111,6 +115,8 @@ causes_of_result request told reads stores writes NoMemory c = tt
 causes_of_result request told reads stores writes IndexRefused c = tt
 causes_of_result request told reads stores writes IndexTooLarge c = absurd c
 causes_of_result request told reads stores writes FileTooBig c = absurd c
+causes_of_result request told reads stores writes AlreadyIndexed c = absurd c
+causes_of_result request told reads stores writes TooManySections c = absurd c
 causes_of_result request told reads stores writes InputFault c = absurd c
 causes_of_result request told reads stores writes InputTooLong c = absurd c
 causes_of_result request told reads stores writes Stopped c = absurd c
@@ -151,6 +157,8 @@ module _ (told shelf : Option Files) (file bytes : List ℕ) (heard : Heard) (ol
   causes_beside request second most asks IndexRefused c = tt
   causes_beside request second most asks IndexTooLarge c = absurd c
   causes_beside request second most asks FileTooBig c = asks (HoldsMore told) (same_more second most told shelf was.same c)
+  causes_beside request second most asks AlreadyIndexed c = absurd c
+  causes_beside request second most asks TooManySections c = absurd c
   causes_beside request second most asks InputFault c = absurd c
   causes_beside request second most asks InputTooLong c = tt
   causes_beside request second most asks Stopped c = tt
@@ -169,6 +177,8 @@ module _ (told shelf : Option Files) (file bytes : List ℕ) (heard : Heard) (ol
     says_asked IndexRefused text h = absurd h
     says_asked IndexTooLarge text h = absurd h
     says_asked FileTooBig text h = absurd h
+    says_asked AlreadyIndexed text h = absurd h
+    says_asked TooManySections text h = absurd h
     says_asked InputFault text h = absurd h
     says_asked InputTooLong text h = absurd h
     says_asked Stopped text h = absurd h
@@ -189,6 +199,8 @@ module _ (told shelf : Option Files) (file bytes : List ℕ) (heard : Heard) (ol
     says_looked IndexRefused text h = (bytes, was.holds, h)
     says_looked IndexTooLarge text h = absurd h
     says_looked FileTooBig text h = absurd h
+    says_looked AlreadyIndexed text h = absurd h
+    says_looked TooManySections text h = absurd h
     says_looked InputFault text h = absurd h
     says_looked InputTooLong text h = absurd h
     says_looked Stopped text h = absurd h
@@ -210,6 +222,8 @@ module _ (told shelf : Option Files) (file bytes : List ℕ) (heard : Heard) (ol
     says_names IndexRefused text h = (bytes, was.holds, (h.0, same_whole strings h.0 told shelf was.same h.1, h.2))
     says_names IndexTooLarge text h = absurd h.2
     says_names FileTooBig text h = absurd h.2
+    says_names AlreadyIndexed text h = absurd h.2
+    says_names TooManySections text h = absurd h.2
     says_names InputFault text h = absurd h.2
     says_names InputTooLong text h = absurd h.2
     says_names Stopped text h = absurd h.2
@@ -232,6 +246,8 @@ module _ (told shelf : Option Files) (file bytes : List ℕ) (heard : Heard) (ol
   causes_served wait IndexRefused c = absurd c
   causes_served wait IndexTooLarge c = absurd c
   causes_served wait FileTooBig c = absurd c
+  causes_served wait AlreadyIndexed c = absurd c
+  causes_served wait TooManySections c = absurd c
   causes_served wait InputFault c = tt
   causes_served wait InputTooLong c = tt
   causes_served wait Stopped c = tt
@@ -263,6 +279,8 @@ module _ (told shelf : Option Files) (file bytes : List ℕ) (heard : Heard) (ol
     says_index IndexRefused text h = absurd h
     says_index IndexTooLarge text h = absurd h
     says_index FileTooBig text h = absurd h
+    says_index AlreadyIndexed text h = absurd h
+    says_index TooManySections text h = absurd h
     says_index InputFault text h = absurd h
     says_index InputTooLong text h = absurd h
     says_index Stopped text h = absurd h
@@ -278,6 +296,8 @@ module _ (told shelf : Option Files) (file bytes : List ℕ) (heard : Heard) (ol
     index_causes IndexRefused c = tt
     index_causes IndexTooLarge c = (bytes, was.holds, c)
     index_causes FileTooBig c = absurd c
+    index_causes AlreadyIndexed c = absurd c
+    index_causes TooManySections c = absurd c
     index_causes InputFault c = absurd c
     index_causes InputTooLong c = absurd c
     index_causes Stopped c = absurd c
@@ -293,6 +313,8 @@ module _ (told shelf : Option Files) (file bytes : List ℕ) (heard : Heard) (ol
     index_leaves after IndexRefused c h = same_files-trans told shelf after was.same h
     index_leaves after IndexTooLarge c h = same_files-trans told shelf after was.same h
     index_leaves after FileTooBig c h = absurd c
+    index_leaves after AlreadyIndexed c h = absurd c
+    index_leaves after TooManySections c h = absurd c
     index_leaves after InputFault c h = absurd c
     index_leaves after InputTooLong c h = absurd c
     index_leaves after Stopped c h = absurd c
@@ -302,4 +324,68 @@ module _ (told shelf : Option Files) (file bytes : List ℕ) (heard : Heard) (ol
       wrote = wrote_weaker (SaysIndex bytes) (Says stored told heard) says_index status old new w;
       causes = index_causes status c;
       leaves = index_leaves after status c h;
+    }
+
+  -- ---- `add`
+
+  module _ (kind : CacheKind) (out : List ℕ) where
+    abbrev with_index : Option Request
+    with_index = Some (OfAdd kind file out)
+
+    says_add : (status : Status) (text : List ℕ) → SaysAdd bytes status text → Says with_index told heard status text
+    says_add Answered text h = h
+    says_add Refused text h = (bytes, was.holds, h)
+    says_add Usage text h = absurd h
+    says_add ReadFault text h = absurd h
+    says_add StoreFault text h = absurd h
+    says_add WriteFault text h = absurd h
+    says_add NoMemory text h = absurd h
+    says_add IndexRefused text h = absurd h
+    says_add IndexTooLarge text h = absurd h
+    says_add FileTooBig text h = absurd h
+    says_add AlreadyIndexed text h = absurd h
+    says_add TooManySections text h = absurd h
+    says_add InputFault text h = absurd h
+    says_add InputTooLong text h = absurd h
+    says_add Stopped text h = absurd h
+
+    add_causes : (status : Status) → CausesOfAdd bytes kind later_stores writes status → Causes with_index told reads stores writes status
+    add_causes Answered c = tt
+    add_causes Refused c = tt
+    add_causes Usage c = absurd c
+    add_causes ReadFault c = absurd c
+    add_causes StoreFault c = stores_on c
+    add_causes WriteFault c = c
+    add_causes NoMemory c = tt
+    add_causes IndexRefused c = tt
+    add_causes IndexTooLarge c = (bytes, was.holds, c)
+    add_causes FileTooBig c = absurd c
+    add_causes AlreadyIndexed c = (bytes, was.holds, c)
+    add_causes TooManySections c = (bytes, was.holds, c)
+    add_causes InputFault c = absurd c
+    add_causes InputTooLong c = absurd c
+    add_causes Stopped c = absurd c
+
+    add_leaves : (after : Option Files) (status : Status) → CausesOfAdd bytes kind later_stores writes status → LeavesAdd bytes kind shelf after out status → Leaves with_index told after status
+    add_leaves after Answered c h = (bytes, was.holds, of_added bytes kind (Stored shelf after out) (Stored told after out) (λ program. stored_from out program told shelf after was.same) h)
+    add_leaves after Refused c h = same_files-trans told shelf after was.same h
+    add_leaves after Usage c h = absurd c
+    add_leaves after ReadFault c h = absurd c
+    add_leaves after StoreFault c h = (bytes, was.holds, of_added bytes kind (StoredOrPrefix shelf after out) (StoredOrPrefix told after out) (λ program. part_from out program told shelf after was.same) h)
+    add_leaves after WriteFault c h = same_files-trans told shelf after was.same h
+    add_leaves after NoMemory c h = same_files-trans told shelf after was.same h
+    add_leaves after IndexRefused c h = same_files-trans told shelf after was.same h
+    add_leaves after IndexTooLarge c h = same_files-trans told shelf after was.same h
+    add_leaves after FileTooBig c h = absurd c
+    add_leaves after AlreadyIndexed c h = same_files-trans told shelf after was.same h
+    add_leaves after TooManySections c h = same_files-trans told shelf after was.same h
+    add_leaves after InputFault c h = absurd c
+    add_leaves after InputTooLong c h = absurd c
+    add_leaves after Stopped c h = absurd c
+
+    pub added : (after : Option Files) (status : Status) → Wrote (SaysAdd bytes) status old new → CausesOfAdd bytes kind later_stores writes status → LeavesAdd bytes kind shelf after out status → Does with_index told after heard reads stores writes old new status
+    added after status w c h = record {
+      wrote = wrote_weaker (SaysAdd bytes) (Says with_index told heard) says_add status old new w;
+      causes = add_causes status c;
+      leaves = add_leaves after status c h;
     }

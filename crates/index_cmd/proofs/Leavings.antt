@@ -1,13 +1,13 @@
 -- What the shelf holds, once a status's line is written.
 use Rattle.std.proofs.Common.{◌≡◌, ◌⊎◌, inl, inr, ℕ, List, Option, Some, None, refl, subst}
 use Rattle.outside.specs.Files.{Files, SameFiles}
-use Rattle.index_cmd.specs.Requests.{Request, TheHelp, TheVersion, OfFile, OfIndex, OfGdb, OfNames, OfServe, OfRace, OfDrill, AsksIndex, StoresNothing}
+use Rattle.index_cmd.specs.Requests.{Request, TheHelp, TheVersion, OfFile, OfIndex, OfAdd, OfGdb, OfNames, OfServe, OfRace, OfDrill, AsksIndex, StoresNothing}
 use Rattle.index_cmd.specs.Replies.{Causes, Ends, without_line, with_line, cut}
 use Rattle.command_base.specs.Replies.{line_of}
 use Rattle.command_base.specs.Statuses.{status_code}
 use Rattle.index_cmd.specs.Stores.{IsStored, IsPartStored, Leaves, LeavesAtEnd}
 use Rattle.command_base.specs.declared.status.Status.{Status}
-use Rattle.command_base.specs.declared.status.Status.TheVariants.{Answered, Refused, Usage, ReadFault, StoreFault, WriteFault, NoMemory, IndexRefused, IndexTooLarge, FileTooBig, InputFault, InputTooLong, Stopped}
+use Rattle.command_base.specs.declared.status.Status.TheVariants.{Answered, Refused, Usage, ReadFault, StoreFault, WriteFault, NoMemory, IndexRefused, IndexTooLarge, FileTooBig, AlreadyIndexed, TooManySections, InputFault, InputTooLong, Stopped}
 use Rattle.index_cmd.proofs.Outcomes.{one_status}
 
 -- ---- a command that stores nothing
@@ -23,6 +23,7 @@ stored_same (Some (OfServe wait file)) old new n h = h
 stored_same (Some (OfRace readers file script)) old new n h = h
 stored_same (Some (OfDrill seed units)) old new n h = h
 stored_same (Some (OfIndex kind file out)) old new n h = absurd n
+stored_same (Some (OfAdd kind file out)) old new n h = absurd n
 
 same_stored : (request : Option Request) (old new : Option Files) → StoresNothing request → SameFiles old new → IsStored request old new
 same_stored None old new n h = h
@@ -35,6 +36,7 @@ same_stored (Some (OfServe wait file)) old new n h = h
 same_stored (Some (OfRace readers file script)) old new n h = h
 same_stored (Some (OfDrill seed units)) old new n h = h
 same_stored (Some (OfIndex kind file out)) old new n h = absurd n
+same_stored (Some (OfAdd kind file out)) old new n h = absurd n
 
 no_part : (request : Option Request) (old new : Option Files) → StoresNothing request → IsPartStored request old new → ⊥
 no_part None old new n h = h
@@ -47,6 +49,7 @@ no_part (Some (OfServe wait file)) old new n h = h
 no_part (Some (OfRace readers file script)) old new n h = h
 no_part (Some (OfDrill seed units)) old new n h = h
 no_part (Some (OfIndex kind file out)) old new n h = n
+no_part (Some (OfAdd kind file out)) old new n h = n
 
 no_index : (request : Option Request) (P : Type 0) → StoresNothing request → AsksIndex request (λ _ _ _. P) → ⊥
 no_index None P n h = h
@@ -59,6 +62,7 @@ no_index (Some (OfServe wait file)) P n h = h
 no_index (Some (OfRace readers file script)) P n h = h
 no_index (Some (OfDrill seed units)) P n h = h
 no_index (Some (OfIndex kind file out)) P n h = n
+no_index (Some (OfAdd kind file out)) P n h = n
 
 module _ (request : Option Request) (old new : Option Files) (n : StoresNothing request) where
   -- it leaves what was there
@@ -73,6 +77,8 @@ module _ (request : Option Request) (old new : Option Files) (n : StoresNothing 
   leaves_same told reads stores writes IndexRefused c same = same
   leaves_same told reads stores writes IndexTooLarge c same = same
   leaves_same told reads stores writes FileTooBig c same = same
+  leaves_same told reads stores writes AlreadyIndexed c same = same
+  leaves_same told reads stores writes TooManySections c same = same
   leaves_same told reads stores writes InputFault c same = same
   leaves_same told reads stores writes InputTooLong c same = same
   leaves_same told reads stores writes Stopped c same = same
@@ -89,6 +95,8 @@ module _ (request : Option Request) (old new : Option Files) (n : StoresNothing 
   kept IndexRefused h = h
   kept IndexTooLarge h = h
   kept FileTooBig h = h
+  kept AlreadyIndexed h = h
+  kept TooManySections h = h
   kept InputFault h = h
   kept InputTooLong h = h
   kept Stopped h = h
@@ -107,6 +115,8 @@ module _ (request : Option Request) (old new : Option Files) where
   as_left IndexRefused h = h
   as_left IndexTooLarge h = h
   as_left FileTooBig h = h
+  as_left AlreadyIndexed h = h
+  as_left TooManySections h = h
   as_left InputFault h = h
   as_left InputTooLong h = h
   as_left Stopped h = h
@@ -119,6 +129,8 @@ module _ (request : Option Request) (old new : Option Files) where
   cut_left NoMemory text has h = inl h
   cut_left IndexTooLarge text has h = inl h
   cut_left FileTooBig text has h = inl h
+  cut_left AlreadyIndexed text has h = inl h
+  cut_left TooManySections text has h = inl h
   cut_left Answered text has h = absurd (cc has)
   cut_left Refused text has h = absurd (cc has)
   cut_left IndexRefused text has h = absurd (cc has)
@@ -148,6 +160,8 @@ module _ (request : Option Request) (old new : Option Files) where
   untouched IndexRefused a b c h = h
   untouched IndexTooLarge a b c h = h
   untouched FileTooBig a b c h = h
+  untouched AlreadyIndexed a b c h = h
+  untouched TooManySections a b c h = h
   untouched InputFault a b c h = h
   untouched InputTooLong a b c h = h
   untouched Stopped a b c h = h

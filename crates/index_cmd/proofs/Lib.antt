@@ -4,4 +4,5 @@ mod Leavings
 mod Storings
 mod Beside
 mod Doings
+mod Adding
 mod Completeness

@@ -9,18 +9,18 @@ use Rattle.outside.specs.Written.{Appends, AppendsPrefix}
 use Rattle.outside.proofs.WrittenLaws.{appends_more, appends_more_prefix}
 use Rattle.command_words.specs.Words.{Wanted, command_of}
 use Rattle.session_commands.specs.Heard.{Heard}
-use Rattle.index_cmd.specs.Requests.{Request, TheHelp, TheVersion, OfFile, OfIndex, OfGdb, OfNames, OfServe, OfRace, OfDrill, AsksFile, AsksIndex, requested, request_of}
+use Rattle.index_cmd.specs.Requests.{Request, TheHelp, TheVersion, OfFile, OfIndex, OfAdd, OfGdb, OfNames, OfServe, OfRace, OfDrill, AsksFile, AsksIndex, requested, request_of}
 use Rattle.index_cmd.specs.Replies.{Causes, Ends, without_line, with_line, cut, IsAnswer, IsRefusal, IsIndexRefusal, IsStatus, SaysRequest}
 use Rattle.command_base.specs.Replies.{Wrote, Writes, line_of}
 use Rattle.index_cmd.specs.Results.{Says, SaysNoMemory, WritesPrefix}
 use Rattle.command_base.specs.Statuses.{status_code}
 use Rattle.command_base.specs.declared.status.Status.{Status}
-use Rattle.command_base.specs.declared.status.Status.TheVariants.{Answered, Refused, Usage, ReadFault, StoreFault, WriteFault, NoMemory, IndexRefused, IndexTooLarge, FileTooBig, InputFault, InputTooLong, Stopped}
+use Rattle.command_base.specs.declared.status.Status.TheVariants.{Answered, Refused, Usage, ReadFault, StoreFault, WriteFault, NoMemory, IndexRefused, IndexTooLarge, FileTooBig, AlreadyIndexed, TooManySections, InputFault, InputTooLong, Stopped}
 
 -- ---- numbers of statuses
 
 from_code : ℕ → Status
-from_code n = if n == 0 then Answered else if n == 1 then Refused else if n == 2 then Usage else if n == 3 then ReadFault else if n == 4 then StoreFault else if n == 5 then WriteFault else if n == 6 then InputFault else if n == 8 then IndexRefused else if n == 9 then IndexTooLarge else if n == 10 then FileTooBig else InputTooLong
+from_code n = if n == 0 then Answered else if n == 1 then Refused else if n == 2 then Usage else if n == 3 then ReadFault else if n == 4 then StoreFault else if n == 5 then WriteFault else if n == 6 then InputFault else if n == 8 then IndexRefused else if n == 9 then IndexTooLarge else if n == 10 then FileTooBig else if n == 12 then AlreadyIndexed else if n == 13 then TooManySections else InputTooLong
 
 -- 7 alone is the number of two
 code_back : (status : Status) → (status_code status ≡ 7 → ⊥) → from_code (status_code status) ≡ status
@@ -35,6 +35,8 @@ code_back InputFault n = refl
 code_back IndexRefused n = refl
 code_back IndexTooLarge n = refl
 code_back FileTooBig n = refl
+code_back AlreadyIndexed n = refl
+code_back TooManySections n = refl
 code_back InputTooLong n = refl
 code_back NoMemory n = absurd (n refl)
 code_back Stopped n = absurd (n refl)
@@ -67,6 +69,8 @@ told_no_line WriteFault t = absurd t
 told_no_line NoMemory t = absurd t
 told_no_line IndexTooLarge t = absurd t
 told_no_line FileTooBig t = absurd t
+told_no_line AlreadyIndexed t = absurd t
+told_no_line TooManySections t = absurd t
 told_no_line Stopped t = absurd t
 
 told_not_7 : (status : Status) → IsTold status → status_code status ≡ 7 → ⊥
@@ -82,6 +86,8 @@ told_not_7 WriteFault t e = t
 told_not_7 NoMemory t e = t
 told_not_7 IndexTooLarge t e = t
 told_not_7 FileTooBig t e = t
+told_not_7 AlreadyIndexed t e = t
+told_not_7 TooManySections t e = t
 told_not_7 Stopped t e = t
 
 module _ (request : Option Request) (told : Option Files) (heard : Heard) (reads stores writes : Type 0) (old new : Option (List ℕ)) where
@@ -135,6 +141,8 @@ module _ (request : Option Request) (told : Option Files) (heard : Heard) (reads
   no_memory_line IndexRefused text e is = absurd (omega (arith, e))
   no_memory_line IndexTooLarge text e is = absurd (omega (arith, e))
   no_memory_line FileTooBig text e is = absurd (omega (arith, e))
+  no_memory_line AlreadyIndexed text e is = absurd (omega (arith, e))
+  no_memory_line TooManySections text e is = absurd (omega (arith, e))
   no_memory_line InputTooLong text e is = absurd (omega (arith, e))
 
   pub no_memory : (status : Status) → Outcome status → status_code status ≡ 7 → SaysNoMemory request told heard old new
@@ -158,6 +166,7 @@ says_plain (Some TheHelp) p told heard status text h = h
 says_plain (Some TheVersion) p told heard status text h = h
 says_plain (Some (OfFile file q)) p told heard status text h = h
 says_plain (Some (OfIndex kind file out)) p told heard status text h = h
+says_plain (Some (OfAdd kind file out)) p told heard status text h = h
 says_plain (Some (OfGdb index q)) p told heard status text h = h
 says_plain (Some (OfNames base index strings name)) p told heard status text h = h
 says_plain (Some (OfServe wait file)) p told heard status text h = absurd p
@@ -187,6 +196,8 @@ module _ (request : Option Request) (told : Option Files) (reads stores writes :
     plain NoMemory (tells t w) = absurd t
     plain IndexTooLarge (tells t w) = absurd t
     plain FileTooBig (tells t w) = absurd t
+    plain AlreadyIndexed (tells t w) = absurd t
+    plain TooManySections (tells t w) = absurd t
     plain Stopped (tells t w) = absurd t
     plain status (stops text says part) = absurd (f Stopped text says)
     plain status (lines text is c a) = plain_lines text is c
@@ -196,6 +207,7 @@ module _ (request : Option Request) (told : Option Files) (reads stores writes :
 pub asks : (request : Option Request) (P : Type 0) → AsksFile request (λ _ _. P) → P
 asks (Some (OfFile file q)) P h = h
 asks (Some (OfIndex kind file out)) P h = h
+asks (Some (OfAdd kind file out)) P h = h
 asks (Some (OfGdb index q)) P h = h
 asks (Some (OfNames base index strings name)) P (inl h) = h
 asks (Some (OfNames base index strings name)) P (inr h) = h
@@ -209,6 +221,7 @@ asks None P h = absurd h
 
 pub asks_index : (request : Option Request) (P : Type 0) → AsksIndex request (λ _ _ _. P) → P
 asks_index (Some (OfIndex kind file out)) P h = h
+asks_index (Some (OfAdd kind file out)) P h = h
 asks_index (Some (OfFile file q)) P h = absurd h
 asks_index (Some (OfGdb index q)) P h = absurd h
 asks_index (Some (OfNames base index strings name)) P h = absurd h
@@ -230,6 +243,8 @@ module _ (request : Option Request) (told : Option Files) (heard : Heard) (reads
   cause_up WriteFault c = weaker c
   cause_up NoMemory c = tt
   cause_up FileTooBig c = c
+  cause_up AlreadyIndexed c = c
+  cause_up TooManySections c = c
   cause_up InputFault c = tt
   cause_up InputTooLong c = tt
   cause_up Stopped c = tt
@@ -246,6 +261,8 @@ module _ (request : Option Request) (told : Option Files) (heard : Heard) (reads
   nothing ReadFault line old mid has w = w
   nothing NoMemory line old mid has w = w
   nothing FileTooBig line old mid has w = w
+  nothing AlreadyIndexed line old mid has w = w
+  nothing TooManySections line old mid has w = w
   nothing StoreFault line old mid has w = w
   nothing IndexTooLarge line old mid has w = w
   nothing IndexRefused line old mid has w = absurd (cc has)
@@ -261,6 +278,8 @@ module _ (request : Option Request) (told : Option Files) (heard : Heard) (reads
   without ReadFault old new none w c = absurd (cc none)
   without NoMemory old new none w c = absurd (cc none)
   without FileTooBig old new none w c = absurd (cc none)
+  without AlreadyIndexed old new none w c = absurd (cc none)
+  without TooManySections old new none w c = absurd (cc none)
   without StoreFault old new none w c = absurd (cc none)
   without IndexTooLarge old new none w c = absurd (cc none)
   without IndexRefused old new none w c = tells tt w
@@ -290,6 +309,8 @@ is_status IndexRefused = (8, omega arith, refl)
 is_status IndexTooLarge = (9, omega arith, refl)
 is_status FileTooBig = (10, omega arith, refl)
 is_status InputTooLong = (11, omega arith, refl)
+is_status AlreadyIndexed = (12, omega arith, refl)
+is_status TooManySections = (13, omega arith, refl)
 
 module _ (told : Option Files) (reads stores writes : Type 0) (old new : Option (List ℕ)) where
   -- where nothing is asked, that is said, or memory was refused, or a write failed
@@ -305,6 +326,8 @@ module _ (told : Option Files) (reads stores writes : Type 0) (old new : Option 
   no_request WriteFault (plain_lines text is c) = absurd (cc is)
   no_request ReadFault (plain_lines text is c) = absurd c
   no_request FileTooBig (plain_lines text is c) = absurd c
+  no_request AlreadyIndexed (plain_lines text is c) = absurd c
+  no_request TooManySections (plain_lines text is c) = absurd c
   no_request StoreFault (plain_lines text is c) = absurd c
   no_request IndexTooLarge (plain_lines text is c) = absurd c
   no_request IndexRefused (plain_lines text is c) = absurd (cc is)

@@ -1,11 +1,13 @@
--- An index is stored behind a shelf that holds the same.
+-- An index, or a program with its index, is stored behind a shelf that holds the same.
 use Rattle.std.proofs.Common.{◌≡◌, ◌⊎◌, inl, inr, ℕ, List, take, Option, Some, None, ◌∙◌}
+use Rattle.index_model.specs.declared.job.CacheKind.{CacheKind}
 use Rattle.index_model.specs.Cache.{Cache, GdbBytes, NameBytes, DoesNotFit}
 use Rattle.outside.specs.Files.{Files, SameFiles, Stored, StoredOrPrefix}
 use Rattle.index_commands.specs.Stores.{Keeps, KeepsPart, strings_name}
+use Rattle.add_command.specs.Adds.{ForProgram, OfAdded}
 
 module _ (name bytes : List ℕ) where
-  stored_from : (a b c : Option Files) → SameFiles a b → Stored b c name bytes → Stored a c name bytes
+  pub stored_from : (a b c : Option Files) → SameFiles a b → Stored b c name bytes → Stored a c name bytes
   stored_from None None None same h = tt
   stored_from None None (Some h) same s = absurd s
   stored_from None (Some g) c same s = absurd same
@@ -17,7 +19,7 @@ module _ (name bytes : List ℕ) where
   held_from f g holds e (inl same) = inl (same ∙ e)
   held_from f g holds e (inr part) = inr part
 
-  part_from : (a b c : Option Files) → SameFiles a b → StoredOrPrefix b c name bytes → StoredOrPrefix a c name bytes
+  pub part_from : (a b c : Option Files) → SameFiles a b → StoredOrPrefix b c name bytes → StoredOrPrefix a c name bytes
   part_from None None None same h = tt
   part_from None None (Some h) same s = absurd s
   part_from None (Some g) c same s = absurd same
@@ -39,3 +41,7 @@ module _ (name : List ℕ) (a b c : Option Files) (same : SameFiles a b) where
   keeps_part_from (GdbBytes bytes) h = part_from name bytes a b c same h
   keeps_part_from (NameBytes names strings) h = part_of_both names strings h
   keeps_part_from DoesNotFit h = h
+
+-- what holds of the program with its index, by what holds of all bytes
+pub of_added : (file : List ℕ) (kind : CacheKind) (P Q : List ℕ → Type 0) → ((bytes : List ℕ) → P bytes → Q bytes) → ForProgram file kind (OfAdded kind P) → ForProgram file kind (OfAdded kind Q)
+of_added file kind P Q f h = record { built = h.built; accepted = h.accepted; holds = (h.holds.0, (h.holds.1.0, h.holds.1.1, f _ h.holds.1.2)) }

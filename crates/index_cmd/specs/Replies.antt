@@ -7,24 +7,26 @@ use Rattle.outside.specs.Written.{Appends, AppendsPrefix}
 use Rattle.command_base.specs.FilesRead.{HoldsMore}
 use Rattle.command_base.specs.Replies.{IsAnswerOf, IsRefusalOf, OfFileBytes, IsTooLarge, IsMeant, OfWholeFile, line_of}
 use Rattle.command_base.specs.declared.status.Status.{Status}
-use Rattle.command_base.specs.declared.status.Status.TheVariants.{Answered, Refused, Usage, ReadFault, StoreFault, WriteFault, InputFault, NoMemory, IndexRefused, IndexTooLarge, FileTooBig, InputTooLong, Stopped}
+use Rattle.command_base.specs.declared.status.Status.TheVariants.{Answered, Refused, Usage, ReadFault, StoreFault, WriteFault, InputFault, NoMemory, IndexRefused, IndexTooLarge, FileTooBig, AlreadyIndexed, TooManySections, InputTooLong, Stopped}
 use Rattle.drill_command.specs.Drills.{HasTooLarge}
 use Rattle.index_commands.specs.GdbLooks.{IsGdbAnswerOf, IsGdbRefusalOf, IsLookMeant}
 use Rattle.index_commands.specs.Indexes.{IsIndexMeant}
 use Rattle.index_commands.specs.NamesLooks.{IsNamesAnswerOf, IsNamesMeant, IsNamesRefusalOf}
 use Rattle.index_commands.specs.Stores.{ForIndex}
-use Rattle.index_cmd.specs.Requests.{Request, TheHelp, TheVersion, OfFile, OfIndex, OfGdb, OfNames, OfServe, OfRace, OfDrill, AsksFile, AsksProgram, AsksIndex}
+use Rattle.add_command.specs.Adds.{ForNamedProgram, HasIndex, HasNoRoom, HasTooLarge as AddsTooLarge, IsAddMeant}
+use Rattle.index_cmd.specs.Requests.{Request, TheHelp, TheVersion, OfFile, OfIndex, OfAdd, OfGdb, OfNames, OfServe, OfRace, OfDrill, AsksFile, AsksProgram, AsksIndex}
 use Rattle.index_cmd.specs.declared.about.TheConstants as about
 
 -- ---- texts
 
--- the text answers what was asked of a file or an index; that of a stored index is empty
+-- the text answers what was asked of a file or an index; that of a stored index or program is empty
 abbrev pub IsAnswer : Option Request → Option Files → List ℕ → Type 0
 IsAnswer None told text = ⊥
 IsAnswer (Some TheHelp) told text = text ≡ about.HELP.now
 IsAnswer (Some TheVersion) told text = text ≡ about.VERSION.now
 IsAnswer (Some (OfFile file q)) told text = OfFileBytes told file (λ bytes. IsAnswerOf bytes q text)
 IsAnswer (Some (OfIndex kind file out)) told text = text ≡ []
+IsAnswer (Some (OfAdd kind file out)) told text = text ≡ []
 IsAnswer (Some (OfGdb index q)) told text = OfFileBytes told index (λ bytes. IsGdbAnswerOf bytes q text)
 IsAnswer (Some (OfNames base index strings name)) told text = OfFileBytes told index (λ bytes. OfFileBytes told strings (λ held. IsNamesAnswerOf bytes held base name text))
 IsAnswer (Some (OfServe wait file)) told text = ⊥
@@ -52,11 +54,22 @@ SaysRequest request told other text = ⊥
 
 -- ---- statuses
 
--- an index that was asked for doesn't fit its format
+-- an index that was asked for, or was to be added, doesn't fit its format
 abbrev pub MakesTooLarge : Option Request → Option Files → Type 0
 MakesTooLarge (Some (OfIndex kind file out)) told = ForIndex told file kind IsTooLarge
+MakesTooLarge (Some (OfAdd kind file out)) told = ForNamedProgram told file kind (AddsTooLarge kind)
 MakesTooLarge (Some (OfDrill seed units)) told = HasTooLarge (generated_file seed units)
 MakesTooLarge other told = ⊥
+
+-- the program to which an index was to be added has a section for one
+abbrev pub IsAlreadyIndexed : Option Request → Option Files → Type 0
+IsAlreadyIndexed (Some (OfAdd kind file out)) told = ForNamedProgram told file kind (HasIndex kind)
+IsAlreadyIndexed other told = ⊥
+
+-- it has none, and no room for the sections that are to be added
+abbrev pub HasTooManySections : Option Request → Option Files → Type 0
+HasTooManySections (Some (OfAdd kind file out)) told = ForNamedProgram told file kind (HasNoRoom kind)
+HasTooManySections other told = ⊥
 
 -- the cause of a status that isn't a result, by what was asked, the files, and whether a read, a store or a write failed
 abbrev pub Causes : Option Request → Option Files → Type 0 → Type 0 → Type 0 → Status → Type 0
@@ -73,6 +86,8 @@ Causes request told reads stores writes StoreFault = AsksIndex request (λ _ _ _
 Causes request told reads stores writes WriteFault = writes
 Causes request told reads stores writes IndexTooLarge = MakesTooLarge request told
 Causes request told reads stores writes FileTooBig = AsksFile request (HoldsMore told)
+Causes request told reads stores writes AlreadyIndexed = IsAlreadyIndexed request told
+Causes request told reads stores writes TooManySections = HasTooManySections request told
 
 -- a status without a line, after which nothing more is written; one with its line; or the line wasn't written whole
 pub data Ends (status : Status) (old new : Option (List ℕ)) (failed : Type 0) : Status → Type 0 where
@@ -82,7 +97,7 @@ pub data Ends (status : Status) (old new : Option (List ℕ)) (failed : Type 0) 
 
 -- the numbers of the statuses that come
 abbrev pub IsStatus : ℕ → Type 0
-IsStatus n = Contains (0 ∷ 1 ∷ 2 ∷ 3 ∷ 4 ∷ 5 ∷ 6 ∷ 7 ∷ 8 ∷ 9 ∷ 10 ∷ 11 ∷ []) n
+IsStatus n = Contains (0 ∷ 1 ∷ 2 ∷ 3 ∷ 4 ∷ 5 ∷ 6 ∷ 7 ∷ 8 ∷ 9 ∷ 10 ∷ 11 ∷ 12 ∷ 13 ∷ []) n
 
 -- Where nothing failed, the status is that of what was asked, or want of memory: of a file within the limit, that of its meaning.
 -- Of sessions and of generated programs nothing is said here.
@@ -92,6 +107,7 @@ IsComplete (Some TheHelp) told reads stores writes status = (writes → ⊥) →
 IsComplete (Some TheVersion) told reads stores writes status = (writes → ⊥) → (status ≡ 0) ⊎ (status ≡ 7)
 IsComplete (Some (OfFile file q)) told reads stores writes status = OfWholeFile MAX_FILE_BYTES told file reads writes (λ bytes. IsMeant bytes status)
 IsComplete (Some (OfIndex kind file out)) told reads stores writes status = OfWholeFile MAX_FILE_BYTES told file reads writes (λ bytes. (stores → ⊥) → IsIndexMeant bytes kind status)
+IsComplete (Some (OfAdd kind file out)) told reads stores writes status = OfWholeFile MAX_FILE_BYTES told file reads writes (λ bytes. (stores → ⊥) → IsAddMeant bytes kind status)
 IsComplete (Some (OfGdb index q)) told reads stores writes status = OfWholeFile MAX_FILE_BYTES told index reads writes (λ bytes. IsLookMeant bytes status)
 IsComplete (Some (OfNames base index strings name)) told reads stores writes status = OfWholeFile MAX_FILE_BYTES told index reads writes (λ bytes. OfWholeFile MAX_FILE_BYTES told strings reads writes (λ held. IsNamesMeant bytes held base status))
 IsComplete (Some (OfServe wait file)) told reads stores writes status = ⊤

@@ -7,16 +7,17 @@ use Rattle.session_commands.specs.declared.script.TheConstants.{MAX_SCRIPT_BYTES
 use Rattle.index_commands.specs.GdbLooks.{offer_gdb}
 use Rattle.command_words.specs.DrillWords.{Drilled}
 use Rattle.command_words.specs.SessionWords.{Raced, Served}
-use Rattle.command_words.specs.Words.{Asked, Indexed, Looked, NamesLooked, Wanted, Help, Version, Ask, Index, LookGdb, LookNames, Serve, Race, Drill, command_of, query_text}
+use Rattle.command_words.specs.Words.{Asked, Indexed, Looked, NamesLooked, Wanted, Help, Version, Ask, Index, Add, LookGdb, LookNames, Serve, Race, Drill, command_of, query_text}
 
 -- The program's own texts; the answer of a file, by its name, to a query; the index of a kind of a file, to be stored under a
--- name; the answer of a `.gdb_index`, by its name, to a query; or the entries of a name in a `.debug_names`, by the base of its
--- strings, its own name and that of the strings. Or a session over a file from a stage on; sessions of so many readers over a file
--- and a script; or the sizes of the program that a seed makes of so many units, and of its indexes.
+-- name, or the file with that index as a section, to be stored so; the answer of a `.gdb_index`, by its name, to a query; or the
+-- entries of a name in a `.debug_names`, by the base of its strings, its own name and that of the strings. Or a session over a
+-- file from a stage on; sessions of so many readers over a file and a script; or the sizes of the program that a seed makes of so
+-- many units, and of its indexes.
 pub data Request : Type 0 where
   TheHelp TheVersion : Request
   OfFile : List ℕ → Query → Request
-  OfIndex : CacheKind → List ℕ → List ℕ → Request
+  OfIndex OfAdd : CacheKind → List ℕ → List ℕ → Request
   OfGdb : List ℕ → Query → Request
   OfNames : ℕ → List ℕ → List ℕ → List ℕ → Request
   OfServe : ℕ → List ℕ → Request
@@ -30,6 +31,10 @@ asked a = option_map (OfFile a.file) (query_of (query_text a.query))
 -- the index of a file
 abbrev pub indexed : Indexed → Option Request
 indexed i = Some (OfIndex i.kind i.file i.out)
+
+-- a file with its index
+abbrev pub with_index : Indexed → Option Request
+with_index i = Some (OfAdd i.kind i.file i.out)
 
 -- the query of a line, if a `.gdb_index` answers it
 abbrev pub offered_gdb : List ℕ → Option Query
@@ -70,6 +75,7 @@ requested Help = Some TheHelp
 requested Version = Some TheVersion
 requested (Ask a) = asked a
 requested (Index i) = indexed i
+requested (Add i) = with_index i
 requested (LookGdb l) = looked l
 requested (LookNames l) = looked_names l
 requested (Serve s) = served s
@@ -84,6 +90,7 @@ request_of words = option_and_then requested (command_of words)
 abbrev pub AsksFile : Option Request → (List ℕ → ℕ → Type 0) → Type 0
 AsksFile (Some (OfFile file q)) P = P file MAX_FILE_BYTES
 AsksFile (Some (OfIndex kind file out)) P = P file MAX_FILE_BYTES
+AsksFile (Some (OfAdd kind file out)) P = P file MAX_FILE_BYTES
 AsksFile (Some (OfGdb index q)) P = P index MAX_FILE_BYTES
 AsksFile (Some (OfNames base index strings name)) P = P index MAX_FILE_BYTES ⊎ P strings MAX_FILE_BYTES
 AsksFile (Some (OfServe wait file)) P = P file MAX_FILE_BYTES
@@ -93,20 +100,23 @@ AsksFile (Some TheHelp) P = ⊥
 AsksFile (Some TheVersion) P = ⊥
 AsksFile None P = ⊥
 
--- the program file that is asked or indexed
+-- the program file that is asked or indexed, or gets its index
 abbrev pub AsksProgram : Option Request → (List ℕ → Type 0) → Type 0
 AsksProgram (Some (OfFile file q)) P = P file
 AsksProgram (Some (OfIndex kind file out)) P = P file
+AsksProgram (Some (OfAdd kind file out)) P = P file
 AsksProgram other P = ⊥
 
--- the index of a kind of a file, to be stored under a name
+-- the index of a kind of a file, to be stored under a name, alone or in the file
 abbrev pub AsksIndex : Option Request → (CacheKind → List ℕ → List ℕ → Type 0) → Type 0
 AsksIndex (Some (OfIndex kind file out)) P = P kind file out
+AsksIndex (Some (OfAdd kind file out)) P = P kind file out
 AsksIndex other P = ⊥
 
 -- nothing is to be stored
 abbrev pub StoresNothing : Option Request → Type 0
 StoresNothing (Some (OfIndex kind file out)) = ⊥
+StoresNothing (Some (OfAdd kind file out)) = ⊥
 StoresNothing other = ⊤
 
 -- the input isn't read

@@ -1,19 +1,22 @@
 -- What the shelf holds then, by what was asked.
 use Rattle.std.specs.Prelude.{◌⊎◌, Option, Some}
-use Rattle.outside.specs.Files.{Files, SameFiles}
+use Rattle.outside.specs.Files.{Files, SameFiles, Stored, StoredOrPrefix}
 use Rattle.command_base.specs.declared.status.Status.{Status}
 use Rattle.command_base.specs.declared.status.Status.TheVariants.{Answered, StoreFault, WriteFault}
 use Rattle.index_commands.specs.Stores.{ForIndex, Keeps, KeepsPart}
-use Rattle.index_cmd.specs.Requests.{Request, OfIndex}
+use Rattle.add_command.specs.Adds.{ForNamedProgram, OfAdded}
+use Rattle.index_cmd.specs.Requests.{Request, OfIndex, OfAdd}
 
--- the index is stored, where one was asked for; nothing else is stored
+-- the index is stored, or the program with its index, where that was asked for; nothing else is stored
 abbrev pub IsStored : Option Request → Option Files → Option Files → Type 0
 IsStored (Some (OfIndex kind file out)) old new = ForIndex old file kind (Keeps old new out)
+IsStored (Some (OfAdd kind file out)) old new = ForNamedProgram old file kind (OfAdded kind (Stored old new out))
 IsStored other old new = SameFiles old new
 
--- a store of the index failed, and left this
+-- a store of the index, or of the program with it, failed, and left this
 abbrev pub IsPartStored : Option Request → Option Files → Option Files → Type 0
 IsPartStored (Some (OfIndex kind file out)) old new = ForIndex old file kind (KeepsPart old new out)
+IsPartStored (Some (OfAdd kind file out)) old new = ForNamedProgram old file kind (OfAdded kind (StoredOrPrefix old new out))
 IsPartStored other old new = ⊥
 
 -- what the shelf holds, by the status that a command came to

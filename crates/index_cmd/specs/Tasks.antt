@@ -4,7 +4,7 @@ use Rattle.index_model.specs.Seen.{query_seen}
 use Rattle.command_words.specs.SeenWords.{IsReaders}
 use Rattle.command_words.specs.Words.{Wanted, Ask, LookGdb, LookNames}
 use Rattle.index_commands.specs.GdbLooks.{offer_gdb}
-use Rattle.index_cmd.specs.Requests.{Request, TheHelp, TheVersion, OfFile, OfIndex, OfGdb, OfNames, OfServe, OfRace, OfDrill}
+use Rattle.index_cmd.specs.Requests.{Request, TheHelp, TheVersion, OfFile, OfIndex, OfAdd, OfGdb, OfNames, OfServe, OfRace, OfDrill}
 use Rattle.index_cmd.specs.declared.task.Action.{Action}
 use Rattle.index_cmd.specs.declared.task.Action.TheVariants as actions
 use Rattle.index_cmd.specs.declared.task.Task.{Task}
@@ -21,6 +21,7 @@ query_words other = []
 abbrev pub request_on : List ℕ → Action → Request
 request_on file (actions.Ask q) = OfFile file (query_seen q)
 request_on file (actions.Index kind out) = OfIndex kind file out.now
+request_on file (actions.Add kind out) = OfAdd kind file out.now
 request_on file (actions.LookGdb q) = OfGdb file (query_seen q)
 request_on file (actions.LookNames base strings name) = OfNames base file strings.now name.now
 request_on file (actions.Serve wait) = OfServe wait file

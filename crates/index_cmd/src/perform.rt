@@ -16,6 +16,7 @@ ghost use Rattle.index_cmd.specs.Tasks.{request_on, request_seen, IsActionInBoun
 use crate::about::{HELP, VERSION};
 use crate::say::say;
 use crate::task::{Action, OnFile, Task};
+use add_command::add_file;
 use command_base::{Status, read_file};
 use drill_command::run_drill;
 use index_commands::{ask_file, index_file, look_gdb, look_names};
@@ -91,6 +92,7 @@ fn act<R: Threads + Wait + Sync, F: Shelf, S: Source + Send, K: Sink + Send, G: 
     match action {
         Action::Ask(query) => ask_file(crew, bytes, query, out),
         Action::Index { kind, out: name } => index_file(crew, bytes, *kind, name, shelf, out),
+        Action::Add { kind, out: name } => add_file(crew, bytes, *kind, name, shelf, out),
         Action::LookGdb(query) => look_gdb(bytes, query, out),
         Action::LookNames {
             base,

@@ -39,6 +39,11 @@ pub(crate) enum Action<'w> {
         /// The name under which the index is stored.
         out: &'w str,
     },
+    Add {
+        kind: CacheKind,
+        /// The name under which the program with its index is stored.
+        out: &'w str,
+    },
     LookGdb(Query<'w>),
     LookNames {
         base: u32,
@@ -65,6 +70,7 @@ pub(crate) fn query_words<'w>(command: &Command<'w>) -> &'w [String]
         Command::Help
         | Command::Version
         | Command::Index(_)
+        | Command::Add(_)
         | Command::Serve(_)
         | Command::Race(_)
         | Command::Drill(_) => &[],
@@ -80,6 +86,7 @@ pub(crate) fn workers(command: &Command<'_>) -> u32
     match command {
         Command::Ask(words) => words.workers,
         Command::Index(words) => words.workers,
+        Command::Add(words) => words.workers,
         Command::Serve(words) => words.workers,
         Command::Race(words) => words.workers,
         Command::Drill(words) => words.workers,
@@ -101,6 +108,13 @@ pub(crate) fn task_for<'w>(command: &Command<'w>, line: &'w [u8]) -> Option<Task
         Command::Index(words) => Some(Task::OnFile(OnFile {
             file: words.file,
             action: Action::Index {
+                kind: words.kind,
+                out: words.out,
+            },
+        })),
+        Command::Add(words) => Some(Task::OnFile(OnFile {
+            file: words.file,
+            action: Action::Add {
                 kind: words.kind,
                 out: words.out,
             },

@@ -9,7 +9,7 @@ ghost use Rattle.command_base.specs.FilesRead.{HoldsMore};
 ghost use Rattle.session_commands.specs.Heard.{heard};
 ghost use Rattle.index_cmd.specs.Requests.{request_of, AsksFile, ReadsNoInput, StoresNothing};
 ghost use Rattle.index_cmd.specs.Doings.{Does};
-ghost use Rattle.index_cmd.specs.Replies.{Ends, IsStatus, MakesTooLarge};
+ghost use Rattle.index_cmd.specs.Replies.{Ends, HasTooManySections, IsAlreadyIndexed, IsStatus, MakesTooLarge};
 ghost use Rattle.command_base.specs.Replies.{Writes};
 ghost use Rattle.index_cmd.specs.Results.{Completes, Says, SaysNoMemory, WritesPrefix};
 ghost use Rattle.command_words.specs.SeenWords.{words_of};
@@ -29,8 +29,9 @@ use std::sync::Wait;
 use std::thread::Threads;
 
 /// Does what the words after the program's name ask for: reads the file from the shelf, builds its index, and writes the answer to
-/// the sink or stores the index; answers the lines of the input or of a script while it builds; reads an index and writes its
-/// answer; or makes a program and writes the sizes of its indexes. It gives the status. No clause speaks of the number of workers.
+/// the sink, or stores the index or the file with it; answers the lines of the input or of a script while it builds; reads an index
+/// and writes its answer; or makes a program and writes the sizes of its indexes. It gives the status. No clause speaks of the
+/// number of workers.
 pub fn run<R: Threads + Wait + Sync, F: Shelf, S: Source + Send, K: Sink + Send, G: Gate + Sync>(
     rt: &R,
     alloc: Global,
@@ -52,6 +53,8 @@ pub fn run<R: Threads + Wait + Sync, F: Shelf, S: Source + Send, K: Sink + Send,
     ensures index_refused { result ≡ 8 → Writes (K.written out.old) (K.written out.new) (Says (request_of (words_of words.now)) (F.files shelf.old) (heard S.left S.read_faults input.old input.new) statuses.IndexRefused) }
     ensures index_too_large { result ≡ 9 → MakesTooLarge (request_of (words_of words.now)) (F.files shelf.old) }
     ensures file_too_big { result ≡ 10 → AsksFile (request_of (words_of words.now)) (HoldsMore (F.files shelf.old)) }
+    ensures already_indexed { result ≡ 12 → IsAlreadyIndexed (request_of (words_of words.now)) (F.files shelf.old) }
+    ensures too_many_sections { result ≡ 13 → HasTooManySections (request_of (words_of words.now)) (F.files shelf.old) }
 
     // The sessions of `serve` and `race` stopped: at a fault of the input, at a line or an input that is too long, or for want of
     // memory.
@@ -72,10 +75,13 @@ pub fn run<R: Threads + Wait + Sync, F: Shelf, S: Source + Send, K: Sink + Send,
     ensures store_fault_line { result ≡ 4 → Appends (K.written out.old) (K.written out.new) (line (codes "store" ∷ codes "fault" ∷ [])) }
     ensures index_too_large_line { result ≡ 9 → Appends (K.written out.old) (K.written out.new) (line (codes "too" ∷ codes "large" ∷ [])) }
     ensures file_too_big_line { result ≡ 10 → Appends (K.written out.old) (K.written out.new) (line (codes "file" ∷ codes "too" ∷ codes "big" ∷ [])) }
+    ensures already_indexed_line { result ≡ 12 → Appends (K.written out.old) (K.written out.new) (line (codes "already" ∷ codes "indexed" ∷ [])) }
+    ensures too_many_sections_line { result ≡ 13 → Appends (K.written out.old) (K.written out.new) (line (codes "too" ∷ codes "many" ∷ codes "sections" ∷ [])) }
     ensures prefix { result ≡ 5 → WritesPrefix (request_of (words_of words.now)) (F.files shelf.old) (heard S.left S.read_faults input.old input.new) (K.written out.old) (K.written out.new) }
 
-    // The index of the definitions over the file's bytes is stored, and nothing else; `ask` and `look` store nothing. A store that
-    // fails leaves what was there or a prefix, and a file that was stored before it stays.
+    // The index of the definitions over the file's bytes is stored, or the file with that index as a section, and nothing else;
+    // `ask` and `look` store nothing. A store that fails leaves what was there or a prefix, and a file that was stored before it
+    // stays.
     ensures stored { result ≡ 0 → IsStored (request_of (words_of words.now)) (F.files shelf.old) (F.files shelf.new) }
     ensures part_stored { result ≡ 4 → IsPartStored (request_of (words_of words.now)) (F.files shelf.old) (F.files shelf.new) }
     ensures kept { StoresNothing (request_of (words_of words.now)) → SameFiles (F.files shelf.old) (F.files shelf.new) }
@@ -140,5 +146,7 @@ fn end<K: Sink>(out: &mut K, status: Status) -> Status
         Status::NoMemory => say(out, status, b"no memory\n"),
         Status::IndexTooLarge => say(out, status, b"too large\n"),
         Status::FileTooBig => say(out, status, b"file too big\n"),
+        Status::AlreadyIndexed => say(out, status, b"already indexed\n"),
+        Status::TooManySections => say(out, status, b"too many sections\n"),
     }
 }

@@ -5,7 +5,7 @@ use Rattle.index_cmd.specs.Doings.{Does}
 use Rattle.index_cmd.specs.Requests.{ReadsNoInput}
 use Rattle.index_cmd.specs.Tasks.{request_on, IsActionInBounds}
 use Rattle.index_cmd.specs.declared.task.Action.{Action}
-use Rattle.index_cmd.proofs.Doings.{asked, indexed, looked, looked_names, raced, served}
+use Rattle.index_cmd.proofs.Doings.{added, asked, indexed, looked, looked_names, raced, served}
 use Rattle.index_cmd.proofs.perform.act.Goals as goal
 
 pub returns-in-Ask-clause-did : goal.returns-in-Ask-clause-did
@@ -34,6 +34,20 @@ returns-in-Index-clause-did g c told file old_reads old_stores was =
     let new = g.K.Sink.written call.new.out in
     subst (λ (a : Action). Does (Some (request_on file a)) told after input reads stores writes old new call.result) (sym c.in-Index.is)
     (indexed told shelf file c.args.bytes.now input old_reads _ _ old_stores _ _ writes was old new _ _ after call.result call.ensures.wrote call.ensures.causes call.ensures.leaves)
+
+pub returns-in-Add-clause-did : goal.returns-in-Add-clause-did
+returns-in-Add-clause-did g c told file old_reads old_stores was =
+    let shelf = g.F.Shelf.files c.args.shelf.now in
+    let input = heard g.S.Source.left g.S.Source.read_faults c.args.input.now c.args.input.now in
+    let call = c.add_file in
+    let after = g.F.Shelf.files call.new.shelf in
+    let reads = Rose old_reads (g.F.Shelf.read_faults call.new.shelf) in
+    let stores = Rose old_stores (g.F.Shelf.store_faults call.new.shelf) in
+    let writes = Rose (g.K.Sink.write_faults c.args.out.now) (g.K.Sink.write_faults call.new.out) in
+    let old = g.K.Sink.written c.args.out.now in
+    let new = g.K.Sink.written call.new.out in
+    subst (λ (a : Action). Does (Some (request_on file a)) told after input reads stores writes old new call.result) (sym c.in-Add.is)
+    (added told shelf file c.args.bytes.now input old_reads _ _ old_stores _ _ writes was old new _ _ after call.result call.ensures.wrote call.ensures.causes call.ensures.leaves)
 
 pub look_gdb-requires : goal.look_gdb-requires
 look_gdb-requires g c = subst IsActionInBounds c.in-LookGdb.is c.requires.bounds

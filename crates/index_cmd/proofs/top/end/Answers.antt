@@ -34,3 +34,9 @@ returns-in-StoreFault-clause-ends g c = line_said c.args.status c.say-in-StoreFa
 
 pub returns-in-IndexTooLarge-clause-ends : goal.returns-in-IndexTooLarge-clause-ends
 returns-in-IndexTooLarge-clause-ends g c = line_said c.args.status c.say-in-IndexTooLarge.result (g.K.Sink.written c.args.out.now) (g.K.Sink.written c.say-in-IndexTooLarge.new.out) _ _ (ap line_of c.in-IndexTooLarge.is) c.say-in-IndexTooLarge.ensures.said c.say-in-IndexTooLarge.ensures.either c.say-in-IndexTooLarge.ensures.fault c.say-in-IndexTooLarge.ensures.left
+
+pub returns-in-AlreadyIndexed-clause-ends : goal.returns-in-AlreadyIndexed-clause-ends
+returns-in-AlreadyIndexed-clause-ends g c = line_said c.args.status c.say-in-AlreadyIndexed.result (g.K.Sink.written c.args.out.now) (g.K.Sink.written c.say-in-AlreadyIndexed.new.out) _ _ (ap line_of c.in-AlreadyIndexed.is) c.say-in-AlreadyIndexed.ensures.said c.say-in-AlreadyIndexed.ensures.either c.say-in-AlreadyIndexed.ensures.fault c.say-in-AlreadyIndexed.ensures.left
+
+pub returns-in-TooManySections-clause-ends : goal.returns-in-TooManySections-clause-ends
+returns-in-TooManySections-clause-ends g c = line_said c.args.status c.say-in-TooManySections.result (g.K.Sink.written c.args.out.now) (g.K.Sink.written c.say-in-TooManySections.new.out) _ _ (ap line_of c.in-TooManySections.is) c.say-in-TooManySections.ensures.said c.say-in-TooManySections.ensures.either c.say-in-TooManySections.ensures.fault c.say-in-TooManySections.ensures.left

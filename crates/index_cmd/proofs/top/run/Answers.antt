@@ -8,7 +8,7 @@ use Rattle.index_cmd.specs.Results.{Completes}
 use Rattle.index_cmd.specs.Requests.{Request, request_of}
 use Rattle.command_words.specs.SeenWords.{words_of}
 use Rattle.index_cmd.specs.Stores.{LeavesAtEnd}
-use Rattle.command_base.specs.declared.status.Status.TheVariants.{Answered, Refused, IndexRefused, Usage, ReadFault, StoreFault, WriteFault, IndexTooLarge, FileTooBig, InputFault, InputTooLong}
+use Rattle.command_base.specs.declared.status.Status.TheVariants.{Answered, Refused, IndexRefused, Usage, ReadFault, StoreFault, WriteFault, IndexTooLarge, FileTooBig, AlreadyIndexed, TooManySections, InputFault, InputTooLong}
 use Rattle.index_cmd.proofs.Outcomes.{Outcome, outcome, telling, failed, lined, no_memory, asks, asks_index, is_status, outside_grammar}
 use Rattle.index_cmd.proofs.Leavings.{left_at_end, left_by, kept, untouched}
 use Rattle.index_cmd.proofs.Completeness.{complete}
@@ -137,3 +137,15 @@ returns-clause-kept g c nothing = kept (request g c) (told g c) (shelf g c) noth
 
 pub returns-clause-untouched : goal.returns-clause-untouched
 returns-clause-untouched g c a b d = untouched (request g c) (told g c) (shelf g c) c.end.result (λ e. a (c.code.ensures ∙ e)) (λ e. b (c.code.ensures ∙ e)) (λ e. d (c.code.ensures ∙ e)) (left g c)
+
+pub returns-clause-already_indexed : goal.returns-clause-already_indexed
+returns-clause-already_indexed g c is = (lined (request g c) (told g c) (input g c) (reads g c) (stores g c) (Rose (first g c) (last g c)) (old g c) (new g c) c.end.result AlreadyIndexed _ (λ n. omega (arith, n)) (came g c) (sym c.code.ensures ∙ is) refl).0
+
+pub returns-clause-already_indexed_line : goal.returns-clause-already_indexed_line
+returns-clause-already_indexed_line g c is = (lined (request g c) (told g c) (input g c) (reads g c) (stores g c) (Rose (first g c) (last g c)) (old g c) (new g c) c.end.result AlreadyIndexed _ (λ n. omega (arith, n)) (came g c) (sym c.code.ensures ∙ is) refl).1
+
+pub returns-clause-too_many_sections : goal.returns-clause-too_many_sections
+returns-clause-too_many_sections g c is = (lined (request g c) (told g c) (input g c) (reads g c) (stores g c) (Rose (first g c) (last g c)) (old g c) (new g c) c.end.result TooManySections _ (λ n. omega (arith, n)) (came g c) (sym c.code.ensures ∙ is) refl).0
+
+pub returns-clause-too_many_sections_line : goal.returns-clause-too_many_sections_line
+returns-clause-too_many_sections_line g c is = (lined (request g c) (told g c) (input g c) (reads g c) (stores g c) (Rose (first g c) (last g c)) (old g c) (new g c) c.end.result TooManySections _ (λ n. omega (arith, n)) (came g c) (sym c.code.ensures ∙ is) refl).1
