@@ -31,7 +31,6 @@ PROGRAMS = [
     ('MAIN_MARK', 'main_mark_before_the_name_main', 'A', 'A function that is marked as the main program.'),
     ('TWO_RANGES', 'address_two_pairs_1007_inside', 'A', 'A unit whose root has two ranges.'),
     ('PLAIN_WITH_GDB8', 'add_gdb8', 'expect/X', '`PLAIN` with its `.gdb_index`, version 8.'),
-    ('PLAIN_WITH_NAMES', 'add_names', 'expect/X', '`PLAIN` with its `.debug_names` and a `.debug_str`.'),
 ]
 
 INDEXES = [

@@ -7,7 +7,8 @@ use std::test::Fail;
 use test_files::indexes::NAMES;
 use test_files::programs::PLAIN;
 
-fn holds(shelf: &MemShelf, name: &str, bytes: &[u8]) -> bool {
+/// Whether the name holds these bytes.
+pub(crate) fn holds(shelf: &MemShelf, name: &str, bytes: &[u8]) -> bool {
     match shelf.bytes(name) {
         Some(held) => held == bytes,
         None => false,

@@ -5,6 +5,8 @@
 #![tactic(auto)]
 
 #[cfg(test)]
+mod added;
+#[cfg(test)]
 mod called;
 #[cfg(test)]
 mod faults;

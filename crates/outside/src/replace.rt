@@ -28,8 +28,11 @@ pub(crate) fn replace<R: Files>(
         Target::InPlace => fs::write(files, name, bytes),
         Target::File(path, permissions) => {
             let (beside, file) = create_beside(files, alloc, path.as_str())?;
-            let done = fill(file, bytes, permissions)
-                .and_then(|()| fs::rename(files, beside.as_str(), path.as_str()));
+            let done = fill(file, bytes, permissions).and_then(|()| fs::rename(
+                files,
+                beside.as_str(),
+                path.as_str(),
+            ));
             if done.is_err() {
                 fs::remove_file(files, beside.as_str())?;
             }

@@ -13,6 +13,6 @@ mod gates;
 #[cfg(test)]
 mod locks;
 #[cfg(test)]
-mod streams;
-#[cfg(test)]
 mod replaced;
+#[cfg(test)]
+mod streams;

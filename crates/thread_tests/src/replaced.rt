@@ -18,7 +18,10 @@ fn a_link_is_followed_and_permissions_stay(rt: HostRuntime) -> Result<(), Fail> 
     symlink(&rt, file, link)?;
     let stored = FileShelf::new(&rt, rt.alloc())?.store(link, b"the new one");
     let held = fs::read(&rt, file)?;
-    let (mode, is_link) = (mode(&rt, file)?, fs::symlink_metadata(&rt, link)?.is_symlink());
+    let (mode, is_link) = (
+        mode(&rt, file)?,
+        fs::symlink_metadata(&rt, link)?.is_symlink(),
+    );
     fs::remove_file(&rt, link)?;
     fs::remove_file(&rt, file)?;
     assert_eq!(rt; (stored, held.as_slice()), (Ok(()), &b"the new one"[..]));
@@ -34,6 +37,9 @@ fn a_store_that_fails_leaves_the_old_file(rt: HostRuntime) -> Result<(), Fail> {
     let stored = FileShelf::new(&rt, rt.alloc())?.store(name.as_str(), b"new");
     let held = fs::read(&rt, name.as_str())?;
     fs::remove_file(&rt, name.as_str())?;
-    assert_eq!(rt; (stored, held.as_slice()), (Err(Failed), &b"the old program"[..]));
+    assert_eq!(rt;
+        (stored, held.as_slice()),
+        (Err(Failed), &b"the old program"[..])
+    );
     Ok(())
 }
