@@ -9,6 +9,7 @@ link, leaves link and permissions. The last line is 'added: N passed, M failed'.
 import os
 import re
 import shutil
+import subprocess
 import sys
 import tempfile
 
@@ -54,6 +55,12 @@ def wrong_sections(file, made, index, kind):
         yield None if after == before + read(index + ".debug_str") else ".debug_str isn't what it was and the added strings"
 
 
+def ran(file):
+    """What the program writes and its status, whatever the name of its file is."""
+    done = subprocess.run(["program"], executable=file, capture_output=True, stdin=subprocess.DEVNULL)
+    return done.returncode, done.stdout, done.stderr
+
+
 def lint(file):
     """The lines of eu-elflint, without numbers that tell places."""
     _, out, err = run("eu-elflint", "--gnu-ld", file)
@@ -70,7 +77,7 @@ def wrong_tools(file, made, folder):
         words = [*tool, made, copy] if tool == ("objcopy",) else [*tool, copy, made]
         status, _, said = run(*words)
         yield None if status == 0 and not said else "%s: %s" % (" ".join(tool), said[:200])
-        yield None if status or not runs(file) or run(copy) == run(file) else "%s: the copy doesn't run as the program" % " ".join(tool)
+        yield None if status or not runs(file) or ran(copy) == ran(file) else "%s: the copy doesn't run as the program" % " ".join(tool)
 
 
 def runs(file):
@@ -115,7 +122,7 @@ def wrong_program(program, file, function, questions, folder):
         os.chmod(made, 0o755)
         for wrong in (*wrong_sections(file, made, index, kind), *wrong_tools(file, made, folder)):
             yield wrong and "%s: %s" % (kind, wrong)
-        yield None if not runs(file) or run(made) == run(file) else "%s: it doesn't run as the program" % kind
+        yield None if not runs(file) or ran(made) == ran(file) else "%s: it doesn't run as the program" % kind
         if kind == "gdb8" and shutil.which("gdb"):
             yield from wrong_gdb(file, made, function, questions)
     yield from wrong_in_place(program, file, folder)

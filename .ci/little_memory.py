@@ -2,7 +2,7 @@
 """python3 little_memory.py PROGRAM
 
 Runs PROGRAM with less and less memory (the limit of its address space) over programs of the rows and a made one. Each run says
-what it says with plenty of memory, or ends with status 7: then `ask`, `index`, `look` and `drill` write `no memory` alone and store
+what it says with plenty of memory, or ends with status 7: then `add`, `ask`, `index`, `look` and `drill` write `no memory` alone and store
 nothing, and `serve` and `race` write that or a prefix of a text. No run ends otherwise, and with each command 7 has to come.
 The last line is 'little memory: N passed, M failed'."""
 import os
@@ -21,6 +21,8 @@ COMMANDS = [
     (["ask", "--workers", "4", "FILE", "main"], b""),
     (["index", "--as", "gdb8", "--workers", "2", "FILE", "OUT"], b""),
     (["index", "--as", "names", "--workers", "1", "FILE", "OUT"], b""),
+    (["add", "--as", "gdb8", "--workers", "2", "FILE", "OUT"], b""),
+    (["add", "--as", "names", "--workers", "1", "FILE", "OUT"], b""),
     (["look", "gdb", "INDEX", "name", "main"], b""),
     (["serve", "--workers", "1", "--wait", "3", "FILE"], b"main\nname main\n"),
     (["race", "--workers", "1", "--readers", "2", "FILE", "SCRIPT"], b""),
