@@ -81,9 +81,9 @@ def wrong_tools(file, made, folder):
 
 
 def runs(file):
-    """Whether the file is a program, and no library."""
-    _, shown, _ = run("readelf", "-lW", file)
-    return "INTERP" in shown and os.access(file, os.X_OK) and "Entry point 0x0" not in shown
+    """Whether the file is a program with its code, and no library or file of debug information."""
+    _, shown, _ = run("readelf", "-SW", file)
+    return re.search(r" \.interp +PROGBITS", shown) is not None and os.access(file, os.X_OK)
 
 
 def wrong_gdb(file, made, function, questions):
