@@ -17,6 +17,9 @@ from gdb_uses import PROGRAMS, gdb, run
 from real_program import compiled
 
 KINDS = ("gdb8", "gdb9", "names")
+# Flags that lay a program out otherwise.
+LAYOUTS = [("-gdwarf-5", "-gdwarf64"), ("-gdwarf-5", "-O2", "-shared", "-fPIC"), ("-gdwarf-5", "-static"), ("-gdwarf-4", "-static-pie"),
+           ("-gdwarf-5", "-no-pie", "-O1"), ("-gdwarf-5", "-O3", "-Wl,-z,noseparate-code"), ("-gdwarf-5", "-ffunction-sections", "-Wl,--gc-sections")]
 # What readelf shows of a section: its name, type, address, place, size and what is left.
 SECTION = re.compile(r"^  \[ *\d+\] (\S*) +(\S+) +([0-9a-f]{16}) ([0-9a-f]+) ([0-9a-f]+) (.*)$")
 
@@ -136,7 +139,7 @@ def files_of(given):
         if not shutil.which(compiler):
             print("added: no program of %s, which is missing" % compiler)
             continue
-        for flags in all_flags:
+        for flags in (*all_flags, *(LAYOUTS if compiler in ("gcc", "g++") else ())):
             yield (lambda folder, words=(compiler, sources, flags): compiled(*words, folder)), function, questions, "%s %s" % (compiler, " ".join(flags))
 
 
