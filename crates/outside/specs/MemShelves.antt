@@ -18,10 +18,13 @@ shelf_files shelf name = option_map (λ bytes. bytes.items) (get_by_text shelf.f
 pub record Calls : Type 0 where
   pub failing_reads : List ℕ
   pub failing_stores : List FailingStore
+  pub failing_kept_reads : List ℕ
   pub reads : ℕ
   pub stores : ℕ
+  pub kept_reads : ℕ
   pub read_faults : ℕ
   pub store_faults : ℕ
+  pub kept_faults : ℕ
 
 -- the calls of a shelf, past and planned
 abbrev pub shelf_calls : MemShelf → Calls
@@ -29,10 +32,13 @@ shelf_calls shelf =
     record {
       failing_reads = shelf.failing_reads.items;
       failing_stores = shelf.failing_stores.items;
+      failing_kept_reads = shelf.failing_kept_reads.items;
       reads = shelf.reads;
       stores = shelf.stores;
+      kept_reads = shelf.kept_reads;
       read_faults = shelf.read_faults;
       store_faults = shelf.store_faults;
+      kept_faults = shelf.kept_faults;
     }
 
 -- the calls after a read, which went well or not
@@ -43,6 +49,14 @@ after_read calls well =
       read_faults = if well then calls.read_faults else one_more calls.read_faults;
     }
 
+-- the calls after a read of a kept file, which went well or not
+abbrev pub after_kept_read : Calls → Bool → Calls
+after_kept_read calls well =
+    record calls {
+      kept_reads = one_more calls.kept_reads;
+      kept_faults = if well then calls.kept_faults else one_more calls.kept_faults;
+    }
+
 -- the calls after a store, which went well or not
 abbrev pub after_store : Calls → Bool → Calls
 after_store calls well =
@@ -51,11 +65,19 @@ after_store calls well =
       store_faults = if well then calls.store_faults else one_more calls.store_faults;
     }
 
+-- How many bytes of what a name holds a call gives, and None where it fails. Some calls are to fail, by their numbers.
+abbrev pub piece_count : List ℕ → ℕ → Option (List ℕ) → ℕ → ℕ → Option ℕ
+piece_count failing number None at room = None
+piece_count failing number (Some bytes) at room =
+    if list_any (λ call. call == number) failing then None else Some (min room (length bytes - at))
+
 -- how many bytes the next read of what a name holds gives, and None where that read fails
 abbrev pub read_count : Calls → Option (List ℕ) → ℕ → ℕ → Option ℕ
-read_count calls None at room = None
-read_count calls (Some bytes) at room =
-    if list_any (λ call. call == one_more calls.reads) calls.failing_reads then None else Some (min room (length bytes - at))
+read_count calls = piece_count calls.failing_reads (one_more calls.reads)
+
+-- the same of the next read of a kept file
+abbrev pub kept_count : Calls → Option (List ℕ) → ℕ → ℕ → Option ℕ
+kept_count calls = piece_count calls.failing_kept_reads (one_more calls.kept_reads)
 
 -- what the call with this number leaves, if it is one that is to fail
 abbrev pub leaves_at : List FailingStore → ℕ → Option Leaves

@@ -31,6 +31,7 @@ pub struct FileShelf<R: Files> {
     piece: Vec<u8>,
     read_faults: u64,
     store_faults: u64,
+    kept_faults: u64,
 }
 
 impl<R: Files + Drop> FileShelf<R> {
@@ -38,6 +39,7 @@ impl<R: Files + Drop> FileShelf<R> {
     pub fn new(files: R, alloc: Global) -> Result<Self, AllocError>
         ensures reads { IfOk result (λ shelf. ⟦<FileShelf<R> as Shelf>⟧.read_faults shelf ≡ 0) }
         ensures stores { IfOk result (λ shelf. ⟦<FileShelf<R> as Shelf>⟧.store_faults shelf ≡ 0) }
+        ensures kept_reads { IfOk result (λ shelf. ⟦<FileShelf<R> as Shelf>⟧.kept_faults shelf ≡ 0) }
     {
         Ok(FileShelf {
             files,
@@ -46,6 +48,7 @@ impl<R: Files + Drop> FileShelf<R> {
             piece: vec![in alloc; 0; PIECE]?,
             read_faults: 0,
             store_faults: 0,
+            kept_faults: 0,
         })
     }
 
@@ -54,6 +57,7 @@ impl<R: Files + Drop> FileShelf<R> {
     fn open_at(&mut self, name: &str, at: u64) -> io::Result<Opened<R>>
         ensures reads { self.new.read_faults ≡ self.old.read_faults }
         ensures stores { self.new.store_faults ≡ self.old.store_faults }
+        ensures kept_reads { self.new.kept_faults ≡ self.old.kept_faults }
     {
         let mut opened = match self.opened.take() {
             Some(opened) if at > 0 && opened.name.as_str() == name => opened,
@@ -79,6 +83,7 @@ impl<R: Files + Drop> FileShelf<R> {
         ensures rest { IfOk result (λ n. drop n into.new ≡ drop n into.old) }
         ensures reads { self.new.read_faults ≡ self.old.read_faults }
         ensures stores { self.new.store_faults ≡ self.old.store_faults }
+        ensures kept_reads { self.new.kept_faults ≡ self.old.kept_faults }
     {
         let mut opened = self.open_at(name, at)?;
         let room = into.len().min(self.piece.len());
@@ -95,6 +100,8 @@ impl<R: Files + Drop> Shelf for FileShelf<R> {
 
     ghost store_faults = { λ s. s.store_faults };
 
+    ghost kept_faults = { λ s. s.kept_faults };
+
     ghost files = { λ _. None };
 
     fn read_at(&mut self, name: &str, at: u64, into: &mut [u8]) -> Result<usize, Failed> {
@@ -102,6 +109,16 @@ impl<R: Files + Drop> Shelf for FileShelf<R> {
             Ok(count) => Ok(count),
             Err(_) => {
                 self.read_faults = self.read_faults.saturating_add(1);
+                Err(Failed)
+            }
+        }
+    }
+
+    fn read_kept(&mut self, name: &str, at: u64, into: &mut [u8]) -> Result<usize, Failed> {
+        match self.read_piece(name, at, into) {
+            Ok(count) => Ok(count),
+            Err(_) => {
+                self.kept_faults = self.kept_faults.saturating_add(1);
                 Err(Failed)
             }
         }

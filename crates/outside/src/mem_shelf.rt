@@ -4,7 +4,7 @@ ghost use Rattle.std.specs.Prelude.{◌≡◌, ℕ, ◌-◌, ◌≤◌, [], ◌�
 ghost use Rattle.std.specs.Result.{result_ok};
 ghost use Rattle.outside.specs.Counts.{Rose};
 ghost use Rattle.outside.specs.Files.{SameFiles, IsPiece, ReadsPiece, Stored, StoredOrPrefix};
-ghost use Rattle.outside.specs.MemShelves.{shelf_files, shelf_calls, after_read, after_store, read_count, leaves_at, next_leaves, IsLeft};
+ghost use Rattle.outside.specs.MemShelves.{shelf_files, shelf_calls, after_read, after_kept_read, after_store, read_count, kept_count, leaves_at, next_leaves, IsLeft};
 
 use crate::shelf::{Failed, Shelf};
 use std::alloc::{AllocError, Global};
@@ -25,7 +25,7 @@ pub struct FailingStore {
     pub leaves: Leaves,
 }
 
-/// A store of files in memory. It keeps the numbers of the reads and of the stores that are to fail,
+/// A store of files in memory. It keeps the numbers of the reads, of the stores and of the reads of kept files that are to fail,
 /// each counted from 1. A store that is refused memory fails too, and leaves all as before.
 #[derive(Drop)]
 pub struct MemShelf {
@@ -33,10 +33,13 @@ pub struct MemShelf {
     files: BTreeMap<String, Vec<u8>>,
     failing_reads: Vec<u64>,
     failing_stores: Vec<FailingStore>,
+    failing_kept_reads: Vec<u64>,
     reads: u64,
     stores: u64,
+    kept_reads: u64,
     read_faults: u64,
     store_faults: u64,
+    kept_faults: u64,
 }
 
 impl MemShelf {
@@ -46,10 +49,13 @@ impl MemShelf {
         ensures calls { shelf_calls result ≡ record {
           failing_reads = [];
           failing_stores = [];
+          failing_kept_reads = [];
           reads = 0;
           stores = 0;
+          kept_reads = 0;
           read_faults = 0;
           store_faults = 0;
+          kept_faults = 0;
         } }
     {
         MemShelf {
@@ -57,10 +63,13 @@ impl MemShelf {
             files: BTreeMap::new(alloc),
             failing_reads: Vec::new(alloc),
             failing_stores: Vec::new(alloc),
+            failing_kept_reads: Vec::new(alloc),
             reads: 0,
             stores: 0,
+            kept_reads: 0,
             read_faults: 0,
             store_faults: 0,
+            kept_faults: 0,
         }
     }
 
@@ -99,7 +108,18 @@ impl MemShelf {
         Ok(())
     }
 
-    /// What the name holds, without a call of `read_at`.
+    /// Makes the read of a kept file with this number fail. The first is 1.
+    pub fn fail_kept_read(&mut self, call: u64) -> Result<(), AllocError>
+        ensures files { SameFiles (Some (shelf_files self.old)) (Some (shelf_files self.new)) }
+        ensures ok { OnOk result (shelf_calls self.new
+            ≡ (let calls = shelf_calls self.old in record calls { failing_kept_reads = calls.failing_kept_reads ++ call ∷ [] })) }
+        ensures err { OnErr result (shelf_calls self.new ≡ shelf_calls self.old) }
+    {
+        self.failing_kept_reads.push(call)?;
+        Ok(())
+    }
+
+    /// What the name holds, without a call that reads.
     pub fn bytes(&self, name: &str) -> Option<&[u8]>
         ensures { MatchOption result (shelf_files self.now name.now ≡ None)
             (λ bytes. shelf_files self.now name.now ≡ Some bytes.now) }
@@ -124,6 +144,13 @@ impl MemShelf {
         self.stores
     }
 
+    /// How many calls of `read_kept` there were.
+    pub fn kept_reads(&self) -> u64
+        ensures { result ≡ (shelf_calls self.now).kept_reads }
+    {
+        self.kept_reads
+    }
+
     /// How many reads failed.
     pub fn read_faults(&self) -> u64
         ensures { result ≡ (shelf_calls self.now).read_faults }
@@ -136,6 +163,13 @@ impl MemShelf {
         ensures { result ≡ (shelf_calls self.now).store_faults }
     {
         self.store_faults
+    }
+
+    /// How many reads of kept files failed.
+    pub fn kept_faults(&self) -> u64
+        ensures { result ≡ (shelf_calls self.now).kept_faults }
+    {
+        self.kept_faults
     }
 }
 
@@ -167,6 +201,8 @@ impl Shelf for MemShelf {
 
     ghost store_faults = { λ s. (shelf_calls s).store_faults };
 
+    ghost kept_faults = { λ s. (shelf_calls s).kept_faults };
+
     ghost files = { λ s. Some (shelf_files s) };
 
     fn read_at(&mut self, name: &str, at: u64, into: &mut [u8]) -> Result<usize, Failed>
@@ -177,6 +213,7 @@ impl Shelf for MemShelf {
         ensures kept { SameFiles (Some (shelf_files self.old)) (Some (shelf_files self.new)) }
         ensures reads { (shelf_calls self.old).read_faults ≤ (shelf_calls self.new).read_faults }
         ensures stores { (shelf_calls self.new).store_faults ≡ (shelf_calls self.old).store_faults }
+        ensures kept_reads { (shelf_calls self.new).kept_faults ≡ (shelf_calls self.old).kept_faults }
 
         ensures answer { result_ok result
             ≡ read_count (shelf_calls self.old) (shelf_files self.old name.now) at (length into.old) }
@@ -193,6 +230,31 @@ impl Shelf for MemShelf {
         }
     }
 
+    fn read_kept(&mut self, name: &str, at: u64, into: &mut [u8]) -> Result<usize, Failed>
+        ensures within { IfOk result (λ n. n ≤ length into.old) }
+        ensures rest { IfOk result (λ n. drop n into.new ≡ drop n into.old) }
+        ensures piece { IfOk result (λ n. ReadsPiece (Some (shelf_files self.old)) name.now at into.old into.new n) }
+        ensures failed { OnErr result (Rose (shelf_calls self.old).kept_faults (shelf_calls self.new).kept_faults) }
+        ensures kept { SameFiles (Some (shelf_files self.old)) (Some (shelf_files self.new)) }
+        ensures reads { (shelf_calls self.new).read_faults ≡ (shelf_calls self.old).read_faults }
+        ensures stores { (shelf_calls self.new).store_faults ≡ (shelf_calls self.old).store_faults }
+        ensures kept_reads { (shelf_calls self.old).kept_faults ≤ (shelf_calls self.new).kept_faults }
+
+        ensures answer { result_ok result
+            ≡ kept_count (shelf_calls self.old) (shelf_files self.old name.now) at (length into.old) }
+        ensures calls { shelf_calls self.new ≡ after_kept_read (shelf_calls self.old) (is_ok result) }
+    {
+        self.kept_reads = self.kept_reads.saturating_add(1);
+        let fails = self.failing_kept_reads.contains(&self.kept_reads);
+        match self.files.get(name) {
+            Some(bytes) if !fails => Ok(copy_piece(bytes.as_slice(), at, into)),
+            _ => {
+                self.kept_faults = self.kept_faults.saturating_add(1);
+                Err(Failed)
+            }
+        }
+    }
+
     fn store(&mut self, name: &str, bytes: &[u8]) -> Result<(), Failed>
         ensures ok { OnOk result (Stored (Some (shelf_files self.old)) (Some (shelf_files self.new)) name.now bytes.now) }
         ensures failed { OnErr result (Rose (shelf_calls self.old).store_faults (shelf_calls self.new).store_faults) }
@@ -200,6 +262,7 @@ impl Shelf for MemShelf {
             (StoredOrPrefix (Some (shelf_files self.old)) (Some (shelf_files self.new)) name.now bytes.now) }
         ensures reads { (shelf_calls self.new).read_faults ≡ (shelf_calls self.old).read_faults }
         ensures stores { (shelf_calls self.old).store_faults ≤ (shelf_calls self.new).store_faults }
+        ensures kept_reads { (shelf_calls self.new).kept_faults ≡ (shelf_calls self.old).kept_faults }
 
         ensures planned { IfSome (next_leaves (shelf_calls self.old)) (λ _. IsErr result) }
         ensures leaves { IfSome (next_leaves (shelf_calls self.old))

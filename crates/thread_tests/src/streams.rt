@@ -16,6 +16,15 @@ fn piece<S: Shelf>(shelf: &mut S, name: &str, at: u64) -> Result<(usize, [u8; 3]
     }
 }
 
+// The same, of a file that was kept.
+fn kept_piece<S: Shelf>(shelf: &mut S, name: &str, at: u64) -> Result<(usize, [u8; 3]), Failed> {
+    let mut into = *b"...";
+    match shelf.read_kept(name, at, &mut into) {
+        Ok(count) => Ok((count, into)),
+        Err(failed) => Err(failed),
+    }
+}
+
 const PLACES: [(u64, Result<(usize, [u8; 3]), Failed>); 5] = [
     (0, Ok((3, *b"abc"))),
     (3, Ok((3, *b"def"))),
@@ -47,11 +56,15 @@ fn a_real_file_is_read_back_in_pieces(rt: HostRuntime) -> Result<(), Fail> {
     let mut shelf = FileShelf::new(&rt, rt.alloc())?;
     let stored = stores(&mut shelf, name);
     let other = first_other(&mut shelf, name);
+    let kept = kept_piece(&mut shelf, name, 3);
     fs::remove_file(&rt, name)?;
-    let gone = piece(&mut shelf, name, 0);
+    let gone = [piece(&mut shelf, name, 0), kept_piece(&mut shelf, name, 0)];
     let no_folder = shelf.store("no_such_folder/a.bin", b"a");
-    assert_eq!(rt; (stored, other), (true, None));
-    assert_eq!(rt; (gone, no_folder), (Err(Failed), Err(Failed)));
+    assert_eq!(rt; (stored, other, kept), (true, None, Ok((3, *b"def"))));
+    assert_eq!(rt;
+        (gone, no_folder),
+        ([Err(Failed), Err(Failed)], Err(Failed))
+    );
     Ok(())
 }
 
