@@ -5,3 +5,5 @@ pub mod Kept
 pub mod BuiltSections
 pub mod Indexes
 pub mod Places
+mod AddressDefinitions
+mod Definitions

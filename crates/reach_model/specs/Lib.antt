@@ -1,3 +1,11 @@
 pub mod Added
 pub mod AddedIndex
 pub mod AddedSections
+pub mod AddressSets
+pub mod Differences
+pub mod AddressTexts
+pub mod LineTables
+pub mod FileTexts
+pub mod BuildIds
+pub mod KeptIndexes
+pub mod KeptTexts

@@ -4,3 +4,8 @@
 #![tactic(auto)]
 
 pub mod code;
+mod difference;
+mod line_table;
+
+pub use difference::Difference;
+pub use line_table::{Content, Format};
