@@ -4,6 +4,8 @@
 #![tactic(auto)]
 
 #[cfg(test)]
+mod address_tables;
+#[cfg(test)]
 mod addresses;
 #[cfg(test)]
 mod links;

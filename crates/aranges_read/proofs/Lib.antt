@@ -1,0 +1,9 @@
+mod Changes
+mod Edges
+mod Units
+mod PairSteps
+mod LeastUnits
+mod UnitsRise
+mod SetSteps
+mod MapOfSets
+mod FirstLaws

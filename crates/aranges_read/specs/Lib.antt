@@ -1,0 +1,4 @@
+pub mod Tables
+pub mod Edges
+pub mod Sets
+pub mod Laws
