@@ -9,6 +9,8 @@ mod abbreviations;
 #[cfg(test)]
 mod entries;
 #[cfg(test)]
+mod files;
+#[cfg(test)]
 mod numbers;
 #[cfg(test)]
 mod rules;

@@ -1,0 +1,12 @@
+mod FormatLaws
+mod EntryLaws
+mod TableLaws
+mod HeaderLaws
+mod AheadLaws
+mod RootLaws
+mod ProgramLaws
+mod NameLaws
+mod RepeatLaws
+mod RunLaws
+mod CutLaws
+mod ListLaws

@@ -1,0 +1,63 @@
+//! Tables of abbreviations that serve more than one unit (DWARF 5, section 7.5.3).
+
+ghost use Rattle.std.specs.Prelude.{IfOk};
+ghost use Rattle.std.specs.Option.{ForSome};
+ghost use Rattle.ix_base.specs.declared.code.TheConstants.{BAD_ABBREVIATION as BAD};
+ghost use Rattle.index_model.specs.Abbreviations.{table};
+ghost use Rattle.index_model.specs.Gives.{Gives};
+ghost use Rattle.index_model.specs.Meaning.{fault, some_or};
+ghost use Rattle.line_files.specs.Places.{IsAtOffset};
+
+use entry_scan::{Abbrevs, BadAbbrev};
+use index_model::Unit;
+use ix_base::code::BAD_ABBREVIATION;
+use ix_base::{Fault, Stop};
+use std::alloc::Global;
+
+/// A table of abbreviations, and where it stands in `.debug_abbrev`.
+#[derive(Drop)]
+pub(crate) struct AbbrevTable {
+    pub offset: u64,
+    pub abbrevs: Abbrevs,
+}
+
+impl AbbrevTable {
+    /// The table of a unit: the one at hand, if it stands at the same offset, else it is read. A damaged one is a fault of the unit.
+    pub fn of(
+        alloc: Global,
+        bytes: &[u8],
+        unit: &Unit,
+        at_hand: Option<AbbrevTable>,
+    ) -> Result<AbbrevTable, Stop>
+        requires { ForSome at_hand (IsAtOffset bytes.now) }
+        ensures value { Gives (λ t. t.abbrevs) result (some_or (table bytes.now unit.now.«abbrev») (fault BAD unit.now.start)) }
+        ensures place { IfOk result (IsAtOffset bytes.now) }
+    {
+        match at_hand {
+            Some(table) => if table.offset == unit.abbrev {
+                Ok(table)
+            } else {
+                AbbrevTable::read(alloc, bytes, unit)
+            },
+            None => AbbrevTable::read(alloc, bytes, unit),
+        }
+    }
+
+    // The table of a unit, which is read.
+    fn read(alloc: Global, bytes: &[u8], unit: &Unit) -> Result<AbbrevTable, Stop>
+        ensures value { Gives (λ t. t.abbrevs) result (some_or (table bytes.now unit.now.«abbrev») (fault BAD unit.now.start)) }
+        ensures place { IfOk result (IsAtOffset bytes.now) }
+    {
+        match Abbrevs::read(alloc, bytes, unit.abbrev) {
+            Ok(abbrevs) => Ok(AbbrevTable {
+                offset: unit.abbrev,
+                abbrevs,
+            }),
+            Err(BadAbbrev::Memory) => Err(Stop::Memory),
+            Err(BadAbbrev::Damaged) => Err(Stop::Fault(Fault {
+                code: BAD_ABBREVIATION,
+                at: unit.start,
+            })),
+        }
+    }
+}
