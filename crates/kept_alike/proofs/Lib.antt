@@ -1,0 +1,7 @@
+mod CutAreas
+mod CutIndex
+mod CutPool
+mod CutTable
+mod KeptBytes
+mod Laws
+mod Prefixes
