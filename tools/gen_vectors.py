@@ -27,7 +27,7 @@ WRITTEN = 'Written by tools/gen_vectors.py; not to be changed by hand.'
 # the crates whose definitions a computation opens, as far as the statements use them
 OPENED = ('ix_base', 'index_model', 'reach_model', 'index_vectors')
 # modules of the crate that are written by hand, and the functions of those in src
-BY_HAND = {'specs': ['LookTexts', 'Says', 'Limits'], 'proofs': []}
+BY_HAND = {'specs': ['LookTexts', 'Comparisons', 'Says', 'Limits'], 'proofs': []}
 FUNCTIONS = {'limits': ['depth_ends', 'names_end', 'units_end']}
 
 
@@ -100,7 +100,7 @@ def statement(group, name):
     """The statement of a row, by the command in its args."""
     folder = os.path.join(ROWS, name)
     args = read(os.path.join(folder, 'args')).split(b'\n')[:-1]
-    command = {b'add': added, b'ask': asked, b'index': indexed, b'look': looked, b'serve': served}[args[0]]
+    command = COMMANDS[args[0]]
     if len(args) > 2 and args[1] == b'--workers':    # how many workers there are changes nothing
         args[1:3] = []
     return command(group, folder, args[1:], int(read(os.path.join(folder, 'status'))), read(os.path.join(folder, 'stdout')))
@@ -146,6 +146,35 @@ def added(group, folder, args, status, stdout):
     kind, source, out = args[1], group.file(read(os.path.join(folder, args[2].decode()))), args[3].decode()
     bytes_ = group.file(read(os.path.join(folder, 'expect', out)))
     return group.says({b'gdb8': 'AddsGdb8', b'gdb9': 'AddsGdb9', b'names': 'AddsNames'}[kind], source, bytes_)
+
+
+def compared(group, folder, args, status, stdout):
+    """aranges FILE: how the address table and the units' own ranges differ, or the first fault of the table."""
+    return group.says('Compares', group.file(read(os.path.join(folder, args[0].decode()))), str(status), text(stdout))
+
+
+def cached(group, folder, args, status, stdout):
+    """cached FILE STORE QUERY: the file's first fault, the index that is kept, the fault of what was kept, or what it answers."""
+    file, line = group.file(read(os.path.join(folder, args[0].decode()))), text(b' '.join(args[2:]))
+    if status:
+        return group.says('Prints', file, line, str(status), text(stdout))
+    said, _, answer = stdout.partition(b'\n')
+    if said == b'unsaved':
+        return group.says('KeepsNothing', file, text(args[1]))
+    if said == b'stored':
+        name, = os.listdir(os.path.join(folder, 'expect'))
+        return group.says('Keeps', file, text(args[1]), text(name.encode()), group.file(read(os.path.join(folder, 'expect', name))))
+    name, = (name for name in os.listdir(folder) if name.endswith('.gdb-index'))
+    kept = group.file(read(os.path.join(folder, name)))
+    if said == b'hit':
+        return group.says('KeptPrints', file, kept, line, text(answer))
+    _, code, place = said.decode().split()
+    return group.says('IsStale', file, kept, code, str(int(place, 16)))
+
+
+def listed_files(group, folder, args, status, stdout):
+    """files FILE NAME: the files with this name, or the first fault of a line table."""
+    return group.says('ListsFiles', group.file(read(os.path.join(folder, args[0].decode()))), text(args[1]), str(status), text(stdout))
 
 
 def looked(group, folder, args, status, stdout):
@@ -399,6 +428,11 @@ def take(folder):
             os.makedirs(to, exist_ok=True)
             for name in names:
                 shutil.copyfile(os.path.join(base, name), os.path.join(to, name))
+
+
+# What says the statement of a row, by its command.
+COMMANDS = {b'add': added, b'aranges': compared, b'ask': asked, b'cached': cached, b'files': listed_files, b'index': indexed,
+            b'look': looked, b'serve': served}
 
 
 def main(args):

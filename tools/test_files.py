@@ -30,12 +30,19 @@ PROGRAMS = [
     ('ADA_NAME', 'ada_decodes_a__b__c__12_by_name', 'A', 'A subprogram of Ada whose name is coded.'),
     ('MAIN_MARK', 'main_mark_before_the_name_main', 'A', 'A function that is marked as the main program.'),
     ('TWO_RANGES', 'address_two_pairs_1007_inside', 'A', 'A unit whose root has two ranges.'),
+    ('ADDRESS_TABLE', 'aranges_too_short', 'A', '`PLAIN` with an address table that has the first half of its unit alone.'),
+    ('WITH_BUILD_ID', 'cached_first_run', 'A', '`PLAIN` with the build-id ab01.'),
+    ('FILES_OF_VERSION_4', 'files_by_name', 'A', 'A unit whose line table names two files, version 4.'),
+    ('FILES_OF_VERSION_5', 'files_path_in_debug_line_str', 'A', 'A unit whose line table names files by `.debug_line_str`, version 5.'),
+    ('FILES_OF_THREE_UNITS', 'files_in_three_units', 'A', 'Three units with files. The first two have one line table.'),
+    ('DAMAGED_LINE_TABLES', 'files_first_damaged_table_counts', 'A', 'Three units with line tables. That of the second begins past its section, that of the third has version 6.'),
     ('PLAIN_WITH_GDB8', 'add_gdb8', 'expect/X', '`PLAIN` with its `.gdb_index`, version 8.'),
 ]
 
 INDEXES = [
     ('GDB8', 'look_gdb8_main', 'X', 'The `.gdb_index` of `PLAIN`, version 8.'),
     ('GDB9', 'look_gdb9_main', 'X', 'The `.gdb_index` of `PLAIN`, version 9.'),
+    ('KEPT', 'cached_first_run', 'expect/c_ab01.gdb-index', 'The `.gdb_index` of `WITH_BUILD_ID`, version 9, kept by its build-id.'),
     ('NAMES', 'look_names_name', 'X', 'The `.debug_names` of `PLAIN`, whose strings begin at the end of a `.debug_str` without bytes.'),
 ]
 

@@ -1,31 +1,31 @@
 -- Written by tools/gen_vectors.py; not to be changed by hand.
 -- Names that the Ada compiler encodes.
 use Rattle.std.specs.Prelude.{ℕ, List, [], ◌∷◌, ◌++◌, codes}
-use Rattle.index_vectors.specs.Parts3.{part_124}
-use Rattle.index_vectors.specs.Parts4.{part_136, part_138, part_140, part_141, part_142, part_146, part_149, part_150, part_155}
-use Rattle.index_vectors.specs.Parts6.{part_239, part_240, part_241, part_242}
+use Rattle.index_vectors.specs.Parts4.{part_166}
+use Rattle.index_vectors.specs.Parts5.{part_178, part_180, part_182, part_183, part_184, part_188, part_191, part_192, part_198}
+use Rattle.index_vectors.specs.Parts7.{part_296, part_297, part_298, part_299}
 use Rattle.index_vectors.specs.Says.{Prints}
 
 unfoldable pub file_0 : List ℕ
 file_0 =
-    part_239 ++
+    part_296 ++
     (0 ∷ 1 ∷ 120 ∷ 0 ∷ 13 ∷ 2 ∷ 95 ∷ 95 ∷ 49 ∷ 50 ∷ 0 ∷ 1 ∷ 0 ∷ 0 ∷ 0 ∷ 0 ∷ 0 ∷ 0 ∷ 0 ∷ 1 ∷ 0 ∷ 0 ∷ 0 ∷ 0 ∷
     []) ++
-    part_140
+    part_182
 
 unfoldable pub file_1 : List ℕ
 file_1 =
-    part_240 ++
+    part_297 ++
     (0 ∷ 1 ∷ 120 ∷ 0 ∷ 13 ∷ 2 ∷ 95 ∷ 97 ∷ 100 ∷ 97 ∷ 95 ∷ 95 ∷ 97 ∷ 100 ∷ 97 ∷ 95 ∷ 113 ∷ 0 ∷ 1 ∷ 0 ∷ 0 ∷ 0 ∷ 0 ∷ 0 ∷
     []) ++
-    part_150
+    part_192
 
 unfoldable pub file_2 : List ℕ
 file_2 =
-    part_241 ++
+    part_298 ++
     (0 ∷ 1 ∷ 120 ∷ 0 ∷ 13 ∷ 2 ∷ 95 ∷ 97 ∷ 100 ∷ 97 ∷ 95 ∷ 0 ∷ 1 ∷ 0 ∷ 0 ∷ 0 ∷ 0 ∷ 0 ∷ 0 ∷ 0 ∷ 1 ∷ 0 ∷ 0 ∷ 0 ∷
     []) ++
-    part_136
+    part_178
 
 unfoldable pub file_3 : List ℕ
 file_3 =
@@ -35,7 +35,7 @@ file_3 =
     0 ∷ 2 ∷ 46 ∷ 0 ∷ 3 ∷ 8 ∷ 17 ∷ 1 ∷ 18 ∷ 6 ∷ 0 ∷ 0 ∷ 0 ∷ 33 ∷ 0 ∷ 0 ∷ 0 ∷ 5 ∷ 0 ∷ 1 ∷ 8 ∷ 0 ∷ 0 ∷ 0 ∷
     0 ∷ 1 ∷ 120 ∷ 0 ∷ 13 ∷ 2 ∷ 95 ∷ 97 ∷ 100 ∷ 97 ∷ 95 ∷ 81 ∷ 0 ∷ 1 ∷ 0 ∷ 0 ∷ 0 ∷ 0 ∷ 0 ∷ 0 ∷ 0 ∷ 1 ∷ 0 ∷ 0 ∷
     []) ++
-    part_142
+    part_184
 
 unfoldable pub file_4 : List ℕ
 file_4 =
@@ -47,7 +47,7 @@ file_4 =
     1 ∷ 0 ∷ 0 ∷ 0 ∷ 0 ∷ 0 ∷ 46 ∷ 100 ∷ 101 ∷ 98 ∷ 117 ∷ 103 ∷ 95 ∷ 97 ∷ 98 ∷ 98 ∷ 114 ∷ 101 ∷ 118 ∷ 0 ∷ 46 ∷ 100 ∷ 101 ∷ 98 ∷
     117 ∷ 103 ∷ 95 ∷ 105 ∷ 110 ∷ 102 ∷ 111 ∷ 0 ∷ 46 ∷ 115 ∷ 104 ∷ 115 ∷ 116 ∷ 114 ∷ 116 ∷ 97 ∷ 98 ∷ 0 ∷ 0 ∷ 0 ∷ 0 ∷ 0 ∷ 0 ∷ 0 ∷
     []) ++
-    part_149 ++
+    part_191 ++
     (0 ∷ 0 ∷ 0 ∷ 0 ∷ 0 ∷ 0 ∷ 0 ∷ 0 ∷ 85 ∷ 0 ∷ 0 ∷ 0 ∷ 0 ∷ 0 ∷ 0 ∷ 0 ∷ 40 ∷ 0 ∷ 0 ∷ 0 ∷ 0 ∷ 0 ∷ 0 ∷ 0 ∷
     0 ∷ 0 ∷ 0 ∷ 0 ∷ 0 ∷ 0 ∷ 0 ∷ 0 ∷ 1 ∷ 0 ∷ 0 ∷ 0 ∷ 0 ∷ 0 ∷ 0 ∷ 0 ∷ 0 ∷ 0 ∷ 0 ∷ 0 ∷ 0 ∷ 0 ∷ 0 ∷ 0 ∷
     27 ∷ 0 ∷ 0 ∷ 0 ∷ 3 ∷ 0 ∷ 0 ∷ 0 ∷ 0 ∷ 0 ∷ 0 ∷ 0 ∷ 0 ∷ 0 ∷ 0 ∷ 0 ∷ 0 ∷ 0 ∷ 0 ∷ 0 ∷ 0 ∷ 0 ∷ 0 ∷ 0 ∷
@@ -57,52 +57,52 @@ file_4 =
 
 unfoldable pub file_5 : List ℕ
 file_5 =
-    part_242 ++
+    part_299 ++
     (0 ∷ 1 ∷ 120 ∷ 0 ∷ 13 ∷ 2 ∷ 97 ∷ 49 ∷ 95 ∷ 95 ∷ 98 ∷ 95 ∷ 99 ∷ 0 ∷ 1 ∷ 0 ∷ 0 ∷ 0 ∷ 0 ∷ 0 ∷ 0 ∷ 0 ∷ 1 ∷ 0 ∷
     []) ++
-    part_138
+    part_180
 
 unfoldable pub file_6 : List ℕ
 file_6 =
-    part_242 ++
+    part_299 ++
     (0 ∷ 1 ∷ 120 ∷ 0 ∷ 13 ∷ 2 ∷ 97 ∷ 95 ∷ 95 ∷ 49 ∷ 95 ∷ 95 ∷ 50 ∷ 0 ∷ 1 ∷ 0 ∷ 0 ∷ 0 ∷ 0 ∷ 0 ∷ 0 ∷ 0 ∷ 1 ∷ 0 ∷
     []) ++
-    part_138
+    part_180
 
 unfoldable pub file_7 : List ℕ
 file_7 =
-    part_239 ++
+    part_296 ++
     (0 ∷ 1 ∷ 120 ∷ 0 ∷ 13 ∷ 2 ∷ 97 ∷ 95 ∷ 95 ∷ 49 ∷ 0 ∷ 1 ∷ 0 ∷ 0 ∷ 0 ∷ 0 ∷ 0 ∷ 0 ∷ 0 ∷ 1 ∷ 0 ∷ 0 ∷ 0 ∷ 0 ∷
     []) ++
-    part_140
+    part_182
 
 unfoldable pub file_8 : List ℕ
 file_8 =
-    part_241 ++
+    part_298 ++
     (0 ∷ 1 ∷ 120 ∷ 0 ∷ 13 ∷ 2 ∷ 97 ∷ 95 ∷ 95 ∷ 95 ∷ 98 ∷ 0 ∷ 1 ∷ 0 ∷ 0 ∷ 0 ∷ 0 ∷ 0 ∷ 0 ∷ 0 ∷ 1 ∷ 0 ∷ 0 ∷ 0 ∷
     []) ++
-    part_136
+    part_178
 
 unfoldable pub file_9 : List ℕ
 file_9 =
-    part_241 ++
+    part_298 ++
     (0 ∷ 1 ∷ 120 ∷ 0 ∷ 13 ∷ 2 ∷ 97 ∷ 95 ∷ 95 ∷ 98 ∷ 50 ∷ 0 ∷ 1 ∷ 0 ∷ 0 ∷ 0 ∷ 0 ∷ 0 ∷ 0 ∷ 0 ∷ 1 ∷ 0 ∷ 0 ∷ 0 ∷
     []) ++
-    part_136
+    part_178
 
 unfoldable pub file_10 : List ℕ
 file_10 =
-    part_240 ++
+    part_297 ++
     (0 ∷ 1 ∷ 120 ∷ 0 ∷ 13 ∷ 2 ∷ 97 ∷ 95 ∷ 95 ∷ 98 ∷ 95 ∷ 95 ∷ 99 ∷ 95 ∷ 95 ∷ 49 ∷ 50 ∷ 0 ∷ 1 ∷ 0 ∷ 0 ∷ 0 ∷ 0 ∷ 0 ∷
     []) ++
-    part_150
+    part_192
 
 unfoldable pub file_11 : List ℕ
 file_11 =
-    part_239 ++
+    part_296 ++
     (0 ∷ 1 ∷ 120 ∷ 0 ∷ 13 ∷ 2 ∷ 65 ∷ 95 ∷ 95 ∷ 98 ∷ 0 ∷ 1 ∷ 0 ∷ 0 ∷ 0 ∷ 0 ∷ 0 ∷ 0 ∷ 0 ∷ 1 ∷ 0 ∷ 0 ∷ 0 ∷ 0 ∷
     []) ++
-    part_140
+    part_182
 
 unfoldable pub file_12 : List ℕ
 file_12 =
@@ -112,7 +112,7 @@ file_12 =
     0 ∷ 2 ∷ 46 ∷ 0 ∷ 3 ∷ 8 ∷ 17 ∷ 1 ∷ 18 ∷ 6 ∷ 0 ∷ 0 ∷ 0 ∷ 29 ∷ 0 ∷ 0 ∷ 0 ∷ 5 ∷ 0 ∷ 1 ∷ 8 ∷ 0 ∷ 0 ∷ 0 ∷
     0 ∷ 1 ∷ 120 ∷ 0 ∷ 13 ∷ 2 ∷ 97 ∷ 95 ∷ 0 ∷ 1 ∷ 0 ∷ 0 ∷ 0 ∷ 0 ∷ 0 ∷ 0 ∷ 0 ∷ 1 ∷ 0 ∷ 0 ∷ 0 ∷ 0 ∷ 0 ∷ 46 ∷
     []) ++
-    part_141
+    part_183
 
 unfoldable pub file_13 : List ℕ
 file_13 =
@@ -122,7 +122,7 @@ file_13 =
     0 ∷ 2 ∷ 46 ∷ 0 ∷ 3 ∷ 8 ∷ 17 ∷ 1 ∷ 18 ∷ 6 ∷ 0 ∷ 0 ∷ 0 ∷ 30 ∷ 0 ∷ 0 ∷ 0 ∷ 5 ∷ 0 ∷ 1 ∷ 8 ∷ 0 ∷ 0 ∷ 0 ∷
     0 ∷ 1 ∷ 120 ∷ 0 ∷ 13 ∷ 2 ∷ 120 ∷ 95 ∷ 95 ∷ 0 ∷ 1 ∷ 0 ∷ 0 ∷ 0 ∷ 0 ∷ 0 ∷ 0 ∷ 0 ∷ 1 ∷ 0 ∷ 0 ∷ 0 ∷ 0 ∷ 0 ∷
     []) ++
-    part_124
+    part_166
 
 unfoldable pub file_14 : List ℕ
 file_14 =
@@ -135,7 +135,7 @@ file_14 =
     99 ∷ 95 ∷ 95 ∷ 50 ∷ 0 ∷ 16 ∷ 16 ∷ 0 ∷ 0 ∷ 0 ∷ 0 ∷ 0 ∷ 0 ∷ 16 ∷ 0 ∷ 0 ∷ 0 ∷ 3 ∷ 112 ∷ 107 ∷ 103 ∷ 95 ∷ 95 ∷ 95 ∷
     88 ∷ 86 ∷ 69 ∷ 0 ∷ 0 ∷ 0 ∷ 46 ∷ 100 ∷ 101 ∷ 98 ∷ 117 ∷ 103 ∷ 95 ∷ 97 ∷ 98 ∷ 98 ∷ 114 ∷ 101 ∷ 118 ∷ 0 ∷ 46 ∷ 100 ∷ 101 ∷ 98 ∷
     []) ++
-    part_146 ++
+    part_188 ++
     (28 ∷ 0 ∷ 0 ∷ 0 ∷ 0 ∷ 0 ∷ 0 ∷ 0 ∷ 0 ∷ 0 ∷ 0 ∷ 0 ∷ 0 ∷ 0 ∷ 0 ∷ 0 ∷ 1 ∷ 0 ∷ 0 ∷ 0 ∷ 0 ∷ 0 ∷ 0 ∷ 0 ∷
     0 ∷ 0 ∷ 0 ∷ 0 ∷ 0 ∷ 0 ∷ 0 ∷ 0 ∷ 15 ∷ 0 ∷ 0 ∷ 0 ∷ 1 ∷ 0 ∷ 0 ∷ 0 ∷ 0 ∷ 0 ∷ 0 ∷ 0 ∷ 0 ∷ 0 ∷ 0 ∷ 0 ∷
     0 ∷ 0 ∷ 0 ∷ 0 ∷ 0 ∷ 0 ∷ 0 ∷ 0 ∷ 92 ∷ 0 ∷ 0 ∷ 0 ∷ 0 ∷ 0 ∷ 0 ∷ 0 ∷ 81 ∷ 0 ∷ 0 ∷ 0 ∷ 0 ∷ 0 ∷ 0 ∷ 0 ∷
@@ -153,7 +153,7 @@ file_15 =
     0 ∷ 2 ∷ 46 ∷ 1 ∷ 3 ∷ 8 ∷ 0 ∷ 0 ∷ 3 ∷ 22 ∷ 0 ∷ 3 ∷ 8 ∷ 0 ∷ 0 ∷ 0 ∷ 20 ∷ 0 ∷ 0 ∷ 0 ∷ 5 ∷ 0 ∷ 1 ∷ 8 ∷
     0 ∷ 0 ∷ 0 ∷ 0 ∷ 1 ∷ 120 ∷ 0 ∷ 13 ∷ 2 ∷ 102 ∷ 0 ∷ 3 ∷ 113 ∷ 0 ∷ 0 ∷ 0 ∷ 0 ∷ 46 ∷ 100 ∷ 101 ∷ 98 ∷ 117 ∷ 103 ∷ 95 ∷
     []) ++
-    part_155
+    part_198
 
 -- what each row says
 abbrev pub AdaNames : Type 0

@@ -1,22 +1,23 @@
 -- Written by tools/gen_vectors.py; not to be changed by hand.
 -- The bytes of `.gdb_index` of small files, versions 8 and 9.
 use Rattle.std.specs.Prelude.{ℕ, List, [], ◌∷◌}
-use Rattle.index_vectors.specs.Parts1.{part_5, part_27, part_36}
-use Rattle.index_vectors.specs.Parts5.{part_209}
-use Rattle.index_vectors.specs.Parts6.{part_245}
+use Rattle.index_vectors.specs.Parts1.{part_30}
+use Rattle.index_vectors.specs.Parts2.{part_52, part_61}
+use Rattle.index_vectors.specs.Parts6.{part_256}
+use Rattle.index_vectors.specs.Parts7.{part_302}
 use Rattle.index_vectors.specs.Says.{WritesGdb8, WritesGdb9}
 
 unfoldable pub file_0 : List ℕ
 file_0 =
-    part_27
+    part_52
 
 unfoldable pub file_1 : List ℕ
 file_1 =
-    part_245
+    part_302
 
 unfoldable pub file_2 : List ℕ
 file_2 =
-    part_36
+    part_61
 
 unfoldable pub file_3 : List ℕ
 file_3 =
@@ -27,7 +28,7 @@ file_3 =
 
 unfoldable pub file_4 : List ℕ
 file_4 =
-    part_5
+    part_30
 
 unfoldable pub file_5 : List ℕ
 file_5 =
@@ -43,7 +44,7 @@ file_5 =
 
 unfoldable pub file_6 : List ℕ
 file_6 =
-    part_209
+    part_256
 
 unfoldable pub file_7 : List ℕ
 file_7 =

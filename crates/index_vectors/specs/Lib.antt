@@ -1,5 +1,6 @@
 -- Written by tools/gen_vectors.py; not to be changed by hand.
 pub mod LookTexts
+pub mod Comparisons
 pub mod Says
 pub mod Limits
 pub mod Parts1
@@ -8,6 +9,7 @@ pub mod Parts3
 pub mod Parts4
 pub mod Parts5
 pub mod Parts6
+pub mod Parts7
 pub mod ElfFaults
 pub mod SectionTableFaults
 pub mod DebugSectionFaults
@@ -41,9 +43,18 @@ pub mod AdaNames
 pub mod Languages
 pub mod GdbIndexes
 pub mod NameIndexes
+pub mod AddressTables
+pub mod AddressTableFaults
 pub mod AddedIndexes
+pub mod KeptIndexes
 pub mod GdbAreaFaults
 pub mod GdbSlotFaults
 pub mod GdbLookUps
 pub mod NameIndexFaults
 pub mod NameLookUps
+pub mod OldFileTables
+pub mod EntryFormats
+pub mod LineTableFaults
+pub mod LineFieldFaults
+pub mod EntryFormatFaults
+pub mod FilesOfUnits

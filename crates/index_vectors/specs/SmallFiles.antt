@@ -1,17 +1,18 @@
 -- Written by tools/gen_vectors.py; not to be changed by hand.
 -- Answers to each query about small files of C, and lines that are no query.
 use Rattle.std.specs.Prelude.{ℕ, List, [], ◌∷◌, ◌++◌, codes}
-use Rattle.index_vectors.specs.Parts1.{part_5, part_27, part_36}
-use Rattle.index_vectors.specs.Parts2.{part_66}
+use Rattle.index_vectors.specs.Parts1.{part_30}
+use Rattle.index_vectors.specs.Parts2.{part_52, part_61}
+use Rattle.index_vectors.specs.Parts3.{part_80}
 use Rattle.index_vectors.specs.Says.{IsBadQuery, Prints, PrintsLength}
 
 unfoldable pub file_0 : List ℕ
 file_0 =
-    part_27
+    part_52
 
 unfoldable pub file_1 : List ℕ
 file_1 =
-    part_36
+    part_61
 
 unfoldable pub file_2 : List ℕ
 file_2 =
@@ -26,7 +27,7 @@ file_2 =
     95 ∷ 115 ∷ 116 ∷ 114 ∷ 95 ∷ 111 ∷ 102 ∷ 102 ∷ 115 ∷ 101 ∷ 116 ∷ 115 ∷ 0 ∷ 46 ∷ 100 ∷ 101 ∷ 98 ∷ 117 ∷ 103 ∷ 95 ∷ 115 ∷ 116 ∷ 114 ∷ 0 ∷
     46 ∷ 115 ∷ 104 ∷ 115 ∷ 116 ∷ 114 ∷ 116 ∷ 97 ∷ 98 ∷ 0 ∷ 0 ∷ 0 ∷ 0 ∷ 0 ∷ 0 ∷ 0 ∷ 0 ∷ 0 ∷ 0 ∷ 0 ∷ 0 ∷ 0 ∷ 0 ∷ 0 ∷
     []) ++
-    part_66 ++
+    part_80 ++
     (93 ∷ 0 ∷ 0 ∷ 0 ∷ 0 ∷ 0 ∷ 0 ∷ 0 ∷ 50 ∷ 0 ∷ 0 ∷ 0 ∷ 0 ∷ 0 ∷ 0 ∷ 0 ∷ 0 ∷ 0 ∷ 0 ∷ 0 ∷ 0 ∷ 0 ∷ 0 ∷ 0 ∷
     1 ∷ 0 ∷ 0 ∷ 0 ∷ 0 ∷ 0 ∷ 0 ∷ 0 ∷ 0 ∷ 0 ∷ 0 ∷ 0 ∷ 0 ∷ 0 ∷ 0 ∷ 0 ∷ 27 ∷ 0 ∷ 0 ∷ 0 ∷ 1 ∷ 0 ∷ 0 ∷ 0 ∷
     0 ∷ 0 ∷ 0 ∷ 0 ∷ 0 ∷ 0 ∷ 0 ∷ 0 ∷ 0 ∷ 0 ∷ 0 ∷ 0 ∷ 0 ∷ 0 ∷ 0 ∷ 0 ∷ 143 ∷ 0 ∷ 0 ∷ 0 ∷ 0 ∷ 0 ∷ 0 ∷ 0 ∷
@@ -75,7 +76,7 @@ file_3 =
 
 unfoldable pub file_4 : List ℕ
 file_4 =
-    part_5
+    part_30
 
 -- what each row says
 abbrev pub SmallFiles : Type 0

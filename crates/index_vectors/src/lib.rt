@@ -12,11 +12,16 @@ ghost use Rattle.index_vectors.specs.AdaNames.{AdaNames};
 ghost use Rattle.index_vectors.specs.AddedIndexes.{AddedIndexes};
 ghost use Rattle.index_vectors.specs.AddressAndBlockForms.{AddressAndBlockForms};
 ghost use Rattle.index_vectors.specs.AddressIndexFaults.{AddressIndexFaults};
+ghost use Rattle.index_vectors.specs.AddressTableFaults.{AddressTableFaults};
+ghost use Rattle.index_vectors.specs.AddressTables.{AddressTables};
 ghost use Rattle.index_vectors.specs.ConstantAndFlagForms.{ConstantAndFlagForms};
 ghost use Rattle.index_vectors.specs.CxxNames.{CxxNames};
 ghost use Rattle.index_vectors.specs.DebugSectionFaults.{DebugSectionFaults};
 ghost use Rattle.index_vectors.specs.ElfFaults.{ElfFaults};
+ghost use Rattle.index_vectors.specs.EntryFormatFaults.{EntryFormatFaults};
+ghost use Rattle.index_vectors.specs.EntryFormats.{EntryFormats};
 ghost use Rattle.index_vectors.specs.EntryKinds.{EntryKinds};
+ghost use Rattle.index_vectors.specs.FilesOfUnits.{FilesOfUnits};
 ghost use Rattle.index_vectors.specs.FormFaults.{FormFaults};
 ghost use Rattle.index_vectors.specs.GdbAreaFaults.{GdbAreaFaults};
 ghost use Rattle.index_vectors.specs.GdbIndexes.{GdbIndexes};
@@ -24,11 +29,15 @@ ghost use Rattle.index_vectors.specs.GdbLookUps.{GdbLookUps};
 ghost use Rattle.index_vectors.specs.GdbSlotFaults.{GdbSlotFaults};
 ghost use Rattle.index_vectors.specs.HeaderFaults.{HeaderFaults};
 ghost use Rattle.index_vectors.specs.HeaderFieldFaults.{HeaderFieldFaults};
+ghost use Rattle.index_vectors.specs.KeptIndexes.{KeptIndexes};
 ghost use Rattle.index_vectors.specs.Languages.{Languages};
+ghost use Rattle.index_vectors.specs.LineFieldFaults.{LineFieldFaults};
+ghost use Rattle.index_vectors.specs.LineTableFaults.{LineTableFaults};
 ghost use Rattle.index_vectors.specs.LowAndHighAddresses.{LowAndHighAddresses};
 ghost use Rattle.index_vectors.specs.NameIndexFaults.{NameIndexFaults};
 ghost use Rattle.index_vectors.specs.NameIndexes.{NameIndexes};
 ghost use Rattle.index_vectors.specs.NameLookUps.{NameLookUps};
+ghost use Rattle.index_vectors.specs.OldFileTables.{OldFileTables};
 ghost use Rattle.index_vectors.specs.OldRangeLists.{OldRangeLists};
 ghost use Rattle.index_vectors.specs.RangeListFaults.{RangeListFaults};
 ghost use Rattle.index_vectors.specs.RangeLists.{RangeLists};
@@ -215,9 +224,24 @@ pub fn name_indexes()
     ensures { NameIndexes }
 {}
 
+/// The first address at which an address table has another unit than the units' own ranges.
+pub fn address_tables()
+    ensures { AddressTables }
+{}
+
+/// The first fault of an address table.
+pub fn address_table_faults()
+    ensures { AddressTableFaults }
+{}
+
 /// The bytes of a small program with its index, of each kind.
 pub fn added_indexes()
     ensures { AddedIndexes }
+{}
+
+/// The index that is kept for a small program by its build-id, and what was kept, opened with it.
+pub fn kept_indexes()
+    ensures { KeptIndexes }
 {}
 
 /// The first fault of a `.gdb_index` up to its symbol table.
@@ -243,4 +267,34 @@ pub fn name_index_faults()
 /// Look-ups in a `.debug_names`.
 pub fn name_look_ups()
     ensures { NameLookUps }
+{}
+
+/// Files of line tables up to version 4, and of units that name no table.
+pub fn old_file_tables()
+    ensures { OldFileTables }
+{}
+
+/// Files of line tables of version 5.
+pub fn entry_formats()
+    ensures { EntryFormats }
+{}
+
+/// Line tables that pass their section, and those of other versions.
+pub fn line_table_faults()
+    ensures { LineTableFaults }
+{}
+
+/// Line tables whose fields or entries pass their end.
+pub fn line_field_faults()
+    ensures { LineFieldFaults }
+{}
+
+/// Forms that entries may not have, and paths that pass their section.
+pub fn entry_format_faults()
+    ensures { EntryFormatFaults }
+{}
+
+/// Files of more than one unit, and the first unit whose table has a fault.
+pub fn files_of_units()
+    ensures { FilesOfUnits }
 {}

@@ -1,0 +1,15 @@
+-- Written by tools/gen_vectors.py; not to be changed by hand.
+use Rattle.index_vectors.proofs.EntryFormatFaultsHold.{files_directory_in_data16 as files_directory_in_data16_holds, files_directory_of_a_string_form as files_directory_of_a_string_form_holds, files_form_of_another_content_outside_the_list as files_form_of_another_content_outside_the_list_holds, files_form_outside_the_list as files_form_outside_the_list_holds, files_path_at_the_end_of_debug_str as files_path_at_the_end_of_debug_str_holds, files_path_of_a_directory_past_debug_str as files_path_of_a_directory_past_debug_str_holds, files_path_of_no_string_form as files_path_of_no_string_form_holds, files_path_past_debug_str as files_path_past_debug_str_holds}
+use Rattle.index_vectors.proofs.entry_format_faults.Goals as goal
+
+pub returns : goal.returns
+returns c = record {
+  files_directory_in_data16 = files_directory_in_data16_holds;
+  files_directory_of_a_string_form = files_directory_of_a_string_form_holds;
+  files_form_of_another_content_outside_the_list = files_form_of_another_content_outside_the_list_holds;
+  files_form_outside_the_list = files_form_outside_the_list_holds;
+  files_path_at_the_end_of_debug_str = files_path_at_the_end_of_debug_str_holds;
+  files_path_of_a_directory_past_debug_str = files_path_of_a_directory_past_debug_str_holds;
+  files_path_of_no_string_form = files_path_of_no_string_form_holds;
+  files_path_past_debug_str = files_path_past_debug_str_holds;
+}

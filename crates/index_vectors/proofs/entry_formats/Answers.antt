@@ -1,0 +1,18 @@
+-- Written by tools/gen_vectors.py; not to be changed by hand.
+use Rattle.index_vectors.proofs.EntryFormatsHold.{files_directory_before_path as files_directory_before_path_holds, files_no_formats_and_no_entries as files_no_formats_and_no_entries_holds, files_of_version_5 as files_of_version_5_holds, files_of_version_5_with_a_directory as files_of_version_5_with_a_directory_holds, files_other_contents_are_skipped as files_other_contents_are_skipped_holds, files_path_in_a_directory_table as files_path_in_a_directory_table_holds, files_path_in_debug_line_str as files_path_in_debug_line_str_holds, files_path_in_debug_str as files_path_in_debug_str_holds, files_path_is_missing as files_path_is_missing_holds, files_second_directory_is_skipped as files_second_directory_is_skipped_holds, files_second_path_is_skipped as files_second_path_is_skipped_holds}
+use Rattle.index_vectors.proofs.entry_formats.Goals as goal
+
+pub returns : goal.returns
+returns c = record {
+  files_directory_before_path = files_directory_before_path_holds;
+  files_no_formats_and_no_entries = files_no_formats_and_no_entries_holds;
+  files_of_version_5 = files_of_version_5_holds;
+  files_of_version_5_with_a_directory = files_of_version_5_with_a_directory_holds;
+  files_other_contents_are_skipped = files_other_contents_are_skipped_holds;
+  files_path_in_a_directory_table = files_path_in_a_directory_table_holds;
+  files_path_in_debug_line_str = files_path_in_debug_line_str_holds;
+  files_path_in_debug_str = files_path_in_debug_str_holds;
+  files_path_is_missing = files_path_is_missing_holds;
+  files_second_directory_is_skipped = files_second_directory_is_skipped_holds;
+  files_second_path_is_skipped = files_second_path_is_skipped_holds;
+}
