@@ -10,11 +10,14 @@ use Rattle.command_words.specs.declared.words.LookNames.{LookNames}
 use Rattle.command_words.specs.declared.session_words.Serve.{Serve}
 use Rattle.command_words.specs.declared.session_words.Race.{Race}
 use Rattle.command_words.specs.declared.drill_words.Drill.{Drill}
+use Rattle.command_words.specs.declared.table_words.Aranges.{Aranges}
+use Rattle.command_words.specs.declared.table_words.Files.{Files}
 use Rattle.command_words.specs.declared.options.Counted.{Counted}
 use Rattle.command_words.specs.declared.options.Named.{Named}
 use Rattle.command_words.specs.declared.options.NamedTwo.{NamedTwo}
 use Rattle.command_words.specs.DrillWords.{Drilled}
 use Rattle.command_words.specs.SessionWords.{Raced, Served, Counted as CountedOf}
+use Rattle.command_words.specs.TableWords.{Compared, Sought}
 use Rattle.command_words.specs.Taken.{Named as NamedOf, NamedTwo as NamedTwoOf}
 use Rattle.command_words.specs.WordParts.{Workers}
 use Rattle.command_words.specs.Words as grammar
@@ -61,6 +64,12 @@ seen_race r = record { workers = r.workers; readers = r.readers; file = r.file.n
 abbrev pub seen_drill : Drill → Drilled
 seen_drill d = record { seed = d.seed; units = d.units; workers = d.workers }
 
+abbrev pub seen_aranges : Aranges → Compared
+seen_aranges a = record { workers = a.workers; file = a.file.now }
+
+abbrev pub seen_files : Files → Sought
+seen_files f = record { workers = f.workers; file = f.file.now; name = f.name.now }
+
 abbrev pub seen_command : Command → grammar.Wanted
 seen_command code.Help = grammar.Help
 seen_command code.Version = grammar.Version
@@ -72,6 +81,8 @@ seen_command (code.LookNames l) = grammar.LookNames (seen_names l)
 seen_command (code.Serve s) = grammar.Serve (seen_serve s)
 seen_command (code.Race r) = grammar.Race (seen_race r)
 seen_command (code.Drill d) = grammar.Drill (seen_drill d)
+seen_command (code.Aranges a) = grammar.Aranges (seen_aranges a)
+seen_command (code.Files f) = grammar.Files (seen_files f)
 
 -- 1 to 64 workers
 pub record IsWorkers (workers : ℕ) : Type 0 where
@@ -111,3 +122,5 @@ HasWorkers (code.LookNames l) = ⊤
 HasWorkers (code.Serve s) = IsServe s
 HasWorkers (code.Race r) = IsRace r
 HasWorkers (code.Drill d) = IsDrill d
+HasWorkers (code.Aranges a) = IsWorkers a.workers
+HasWorkers (code.Files f) = IsWorkers f.workers

@@ -5,8 +5,10 @@ mod drill_words;
 mod number;
 mod options;
 mod session_words;
+mod table_words;
 mod words;
 
 pub use drill_words::Drill;
 pub use session_words::{Race, Serve};
+pub use table_words::{Aranges, Files};
 pub use words::{Ask, Command, Index, LookGdb, LookNames, parse_command};

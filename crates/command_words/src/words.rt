@@ -2,12 +2,13 @@
 
 ghost use Rattle.std.specs.Prelude.{◌≡◌, option_map};
 ghost use Rattle.std.specs.Option.{ForSome};
-ghost use Rattle.command_words.specs.Words.{about, ask_of, command_of, file_and_query, files_of, index_as, index_of, kind_named, look_gdb_of, look_names_of, longer_command, look_of, names_and_query, other_command, session_command};
+ghost use Rattle.command_words.specs.Words.{about, ask_of, command_of, file_and_query, files_of, index_as, index_of, kind_named, look_gdb_of, look_names_of, longer_command, look_of, names_and_query, other_command, session_command, table_command};
 ghost use Rattle.command_words.specs.SeenWords.{seen_ask, seen_index, seen_look, seen_names, seen_command, words_of, HasWorkers, IsWorkers};
 
 use crate::drill_words::{Drill, parse_drill};
 use crate::options::{Named, split_base, split_file, split_two_files, split_workers};
 use crate::session_words::{Race, Serve, parse_race, parse_serve};
+use crate::table_words::{Aranges, Files, parse_aranges, parse_files};
 use index_model::CacheKind;
 
 /// What a command line asks for.
@@ -23,6 +24,8 @@ pub enum Command<'w> {
     Serve(Serve<'w>),
     Race(Race<'w>),
     Drill(Drill),
+    Aranges(Aranges<'w>),
+    Files(Files<'w>),
 }
 
 /// `ask [--workers N] FILE QUERY`.
@@ -106,7 +109,7 @@ fn longer_command<'w>(word: &str, others: &'w [String]) -> Option<Command<'w>>
     }
 }
 
-// One that answers while it builds.
+// One that answers while it builds, or reads a table.
 fn session_command<'w>(word: &str, others: &'w [String]) -> Option<Command<'w>>
     ensures value { option_map seen_command result ≡ session_command word.now (words_of others.now) }
     ensures workers { ForSome result HasWorkers }
@@ -115,6 +118,20 @@ fn session_command<'w>(word: &str, others: &'w [String]) -> Option<Command<'w>>
         Some(Command::Serve(parse_serve(others)?))
     } else if word == "race" {
         Some(Command::Race(parse_race(others)?))
+    } else {
+        table_command(word, others)
+    }
+}
+
+// One that reads a table of a program.
+fn table_command<'w>(word: &str, others: &'w [String]) -> Option<Command<'w>>
+    ensures value { option_map seen_command result ≡ table_command word.now (words_of others.now) }
+    ensures workers { ForSome result HasWorkers }
+{
+    if word == "aranges" {
+        Some(Command::Aranges(parse_aranges(others)?))
+    } else if word == "files" {
+        Some(Command::Files(parse_files(others)?))
     } else {
         None
     }
