@@ -9,7 +9,8 @@ use Rattle.outside.specs.declared.shelf.Failed.{Failed}
 use Rattle.outside.specs.Written.{Appends, AppendsPrefix}
 use Rattle.command_base.specs.Replies.{SaysReply, Wrote, status_after}
 use Rattle.command_base.specs.declared.status.Status.{Status}
-use Rattle.command_base.specs.declared.status.Status.TheVariants.{Answered, Refused, Usage, ReadFault, StoreFault, WriteFault, NoMemory, IndexRefused, IndexTooLarge, FileTooBig, AlreadyIndexed, TooManySections, InputFault, InputTooLong, Stopped}
+use Rattle.command_base.specs.declared.status.Table.{Table}
+use Rattle.command_base.specs.declared.status.Status.TheVariants.{Answered, Refused, Usage, ReadFault, StoreFault, WriteFault, NoMemory, IndexRefused, TableRefused, IndexTooLarge, FileTooBig, AlreadyIndexed, TooManySections, InputFault, InputTooLong, Stopped}
 
 -- ---- what is written
 
@@ -18,6 +19,7 @@ pub wrote_weaker : (Says More : Status → List ℕ → Type 0) → ((status : S
 wrote_weaker Says More f Answered old new w = (w.0, f Answered w.0 w.1, w.2)
 wrote_weaker Says More f Refused old new w = (w.0, f Refused w.0 w.1, w.2)
 wrote_weaker Says More f IndexRefused old new w = (w.0, f IndexRefused w.0 w.1, w.2)
+wrote_weaker Says More f (TableRefused table) old new w = (w.0, f (TableRefused table) w.0 w.1, w.2)
 wrote_weaker Says More f WriteFault old new w = (w.0, w.1, f w.0 w.1 w.2, w.3)
 wrote_weaker Says More f InputFault old new w = (w.0, f InputFault w.0 w.1, w.2)
 wrote_weaker Says More f InputTooLong old new w = (w.0, f InputTooLong w.0 w.1, w.2)
@@ -63,6 +65,8 @@ module _ (reply : Reply) (old new : Option (List ℕ)) where
   sent (Ok x) StoreFault text says (inr is) all part = absurd (cc is)
   sent (Ok x) IndexRefused text says (inl is) all part = absurd (cc is)
   sent (Ok x) IndexRefused text says (inr is) all part = absurd (cc is)
+  sent (Ok x) (TableRefused table) text says (inl is) all part = absurd (cc is)
+  sent (Ok x) (TableRefused table) text says (inr is) all part = absurd (cc is)
   sent (Ok x) IndexTooLarge text says (inl is) all part = absurd (cc is)
   sent (Ok x) IndexTooLarge text says (inr is) all part = absurd (cc is)
 
@@ -85,6 +89,10 @@ module _ (Says : Status → List ℕ → Type 0) (old new : Option (List ℕ)) (
   sent_refusal (Ok x) says all part = (text, says, all)
   sent_refusal (Err e) says all part = (IndexRefused, text, says, part)
 
+  pub sent_table : (table : Table) (r : Result (Unit {0}) Failed) → Says (TableRefused table) text → OnOk r (Appends old new text) → OnErr r (AppendsPrefix old new text) → Wrote Says (status_after r (TableRefused table)) old new
+  sent_table table (Ok x) says all part = (text, says, all)
+  sent_table table (Err e) says all part = (TableRefused table, text, says, part)
+
 -- ---- the first fault of a file
 
 module _ (Says : Status → List ℕ → Type 0) (f : Fault) (says : (text : List ℕ) → text ≡ text_of_fault f → Says Refused text) where
@@ -97,6 +105,7 @@ module _ (Says : Status → List ℕ → Type 0) (f : Fault) (says : (text : Lis
   of_reply WriteFault text h = absurd h
   of_reply NoMemory text h = absurd h
   of_reply IndexRefused text h = absurd h
+  of_reply (TableRefused table) text h = absurd h
   of_reply IndexTooLarge text h = absurd h
   of_reply FileTooBig text h = absurd h
   of_reply AlreadyIndexed text h = absurd h

@@ -12,7 +12,7 @@ use Rattle.outside.specs.Files.{Files}
 use Rattle.outside.specs.Written.{Appends, AppendsPrefix}
 use Rattle.command_base.specs.FilesRead.{Holds}
 use Rattle.command_base.specs.declared.status.Status.{Status}
-use Rattle.command_base.specs.declared.status.Status.TheVariants.{Answered, Refused, Usage, ReadFault, StoreFault, WriteFault, InputFault, NoMemory, IndexRefused, IndexTooLarge, FileTooBig, AlreadyIndexed, TooManySections, InputTooLong, Stopped}
+use Rattle.command_base.specs.declared.status.Status.TheVariants.{Answered, Refused, Usage, ReadFault, StoreFault, WriteFault, InputFault, NoMemory, IndexRefused, TableRefused, IndexTooLarge, FileTooBig, AlreadyIndexed, TooManySections, InputTooLong, Stopped}
 
 -- ---- texts
 
@@ -63,6 +63,7 @@ abbrev pub Wrote : (Status → List ℕ → Type 0) → Status → Option (List 
 Wrote Says Answered old new = Writes old new (Says Answered)
 Wrote Says Refused old new = Writes old new (Says Refused)
 Wrote Says IndexRefused old new = Writes old new (Says IndexRefused)
+Wrote Says (TableRefused table) old new = Writes old new (Says (TableRefused table))
 Wrote Says WriteFault old new = PrefixOf Says old new
 Wrote Says InputFault old new = Writes old new (Says InputFault)
 Wrote Says InputTooLong old new = Writes old new (Says InputTooLong)
@@ -104,6 +105,7 @@ line_of TooManySections = Some (line (codes "too" ∷ codes "many" ∷ codes "se
 line_of Answered = None
 line_of Refused = None
 line_of IndexRefused = None
+line_of (TableRefused table) = None
 line_of WriteFault = None
 line_of InputFault = None
 line_of InputTooLong = None

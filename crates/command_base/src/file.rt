@@ -69,6 +69,7 @@ pub fn read_file<F: Shelf>(
     ensures kept { SameFiles (F.files shelf.old) (F.files shelf.new) }
     ensures reads { F.read_faults shelf.old ≤ F.read_faults shelf.new }
     ensures stores { F.store_faults shelf.new ≡ F.store_faults shelf.old }
+    ensures kept_reads { F.kept_faults shelf.new ≡ F.kept_faults shelf.old }
 {
     let mut bytes = Vec::new(alloc);
     let mut piece = zeros(alloc, PIECE)?;
@@ -106,6 +107,7 @@ fn read_on<F: Shelf>(
     ensures kept { SameFiles (F.files shelf.old) (F.files shelf.new) }
     ensures reads { F.read_faults shelf.old ≤ F.read_faults shelf.new }
     ensures stores { F.store_faults shelf.new ≡ F.store_faults shelf.old }
+    ensures kept_reads { F.kept_faults shelf.new ≡ F.kept_faults shelf.old }
 {
     let count = shelf.read_at(name, bytes.len() as u64, piece)?;
     bytes.extend_from_slice(&piece[..count])?;

@@ -1,10 +1,13 @@
-//! What the commands of `gdbix` share: how each ended, a file that is read whole, and the reply that a command writes.
+//! What the commands of `gdbix` share: how each ended, a file that is read whole, the reply that a command writes, and the answer of a
+//! `.gdb_index`.
 #![tactic(auto)]
 
 mod file;
+mod gdb;
 mod reply;
 mod status;
 
 pub use file::{ReadStop, read_file};
+pub use gdb::{answer_by_gdb, look_gdb};
 pub use reply::{ended, refuse, write};
-pub use status::Status;
+pub use status::{Status, Table};

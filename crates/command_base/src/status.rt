@@ -3,6 +3,15 @@
 ghost use Rattle.std.specs.Prelude.{◌≡◌};
 ghost use Rattle.command_base.specs.Statuses.{status_code};
 
+/// A table of a program that may be refused by itself.
+#[derive(Clone, Copy)]
+pub enum Table {
+    /// `.debug_aranges`.
+    Addresses,
+    /// The line table of a unit.
+    Lines,
+}
+
 /// How a command ended. Its number is the status of the program.
 #[derive(Clone, Copy)]
 pub enum Status {
@@ -24,6 +33,8 @@ pub enum Status {
     NoMemory,
     /// The bytes of an index have a fault.
     IndexRefused,
+    /// A table of the program, which has no fault otherwise, has one.
+    TableRefused(Table),
     /// The format can't hold the index.
     IndexTooLarge,
     /// A file is longer than its limit.
@@ -58,6 +69,8 @@ impl Status {
             Status::InputTooLong => 11,
             Status::AlreadyIndexed => 12,
             Status::TooManySections => 13,
+            Status::TableRefused(Table::Addresses) => 14,
+            Status::TableRefused(Table::Lines) => 15,
             Status::Stopped => 7,
         }
     }

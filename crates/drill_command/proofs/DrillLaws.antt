@@ -29,7 +29,7 @@ use Rattle.drill_command.specs.Drills.{Totals, totals_line, totals_of, main_word
 use Rattle.command_base.specs.Replies.{SaysReply, Wrote}
 use Rattle.drill_command.specs.Summaries.{AreBuiltOf, SaysSummary, SaysTotals}
 use Rattle.command_base.specs.declared.status.Status.{Status}
-use Rattle.command_base.specs.declared.status.Status.TheVariants.{Answered, Refused, Usage, ReadFault, StoreFault, WriteFault, NoMemory, IndexRefused, IndexTooLarge, FileTooBig, AlreadyIndexed, TooManySections, InputFault, InputTooLong, Stopped}
+use Rattle.command_base.specs.declared.status.Status.TheVariants.{Answered, Refused, Usage, ReadFault, StoreFault, WriteFault, NoMemory, IndexRefused, TableRefused, IndexTooLarge, FileTooBig, AlreadyIndexed, TooManySections, InputFault, InputTooLong, Stopped}
 use Rattle.command_base.proofs.ReplyLaws.{wrote_refused, wrote_weaker}
 
 -- ---- an index that isn't of its sort doesn't fit
@@ -176,6 +176,7 @@ module _ (file : List ℕ) where
     says_summary FileTooBig text h = absurd h
     says_summary AlreadyIndexed text h = absurd h
     says_summary TooManySections text h = absurd h
+    says_summary (TableRefused table) text h = absurd h
     says_summary InputFault text h = absurd h
     says_summary InputTooLong text h = absurd h
     says_summary Stopped text h = absurd h

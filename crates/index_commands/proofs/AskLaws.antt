@@ -22,7 +22,7 @@ use Rattle.query_text.specs.Places.{PlacesFit}
 use Rattle.query_text.proofs.PlaceLaws.{answer_fits}
 use Rattle.command_base.specs.Replies.{SaysFile, SaysReply, Wrote}
 use Rattle.command_base.specs.declared.status.Status.{Status}
-use Rattle.command_base.specs.declared.status.Status.TheVariants.{Answered, Refused, Usage, ReadFault, StoreFault, WriteFault, NoMemory, IndexRefused, IndexTooLarge, FileTooBig, AlreadyIndexed, TooManySections, InputFault, InputTooLong, Stopped as Halted}
+use Rattle.command_base.specs.declared.status.Status.TheVariants.{Answered, Refused, Usage, ReadFault, StoreFault, WriteFault, NoMemory, IndexRefused, TableRefused, IndexTooLarge, FileTooBig, AlreadyIndexed, TooManySections, InputFault, InputTooLong, Stopped as Halted}
 use Rattle.command_base.proofs.ReplyLaws.{wrote_weaker}
 
 -- ---- replies
@@ -65,6 +65,7 @@ module _ (file : List ℕ) (q : Query) where
   says r (gives b is) FileTooBig text h = absurd h
   says r (gives b is) AlreadyIndexed text h = absurd h
   says r (gives b is) TooManySections text h = absurd h
+  says r (gives b is) (TableRefused table) text h = absurd h
   says r (gives b is) InputFault text h = absurd h
   says r (gives b is) InputTooLong text h = absurd h
   says r (gives b is) Halted text h = absurd h
@@ -80,6 +81,7 @@ module _ (file : List ℕ) (q : Query) where
   says r (wrong f is) FileTooBig text h = absurd h
   says r (wrong f is) AlreadyIndexed text h = absurd h
   says r (wrong f is) TooManySections text h = absurd h
+  says r (wrong f is) (TableRefused table) text h = absurd h
   says r (wrong f is) InputFault text h = absurd h
   says r (wrong f is) InputTooLong text h = absurd h
   says r (wrong f is) Halted text h = absurd h

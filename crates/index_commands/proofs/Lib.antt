@@ -1,4 +1,3 @@
 mod AskLaws
 mod StoreLaws
-mod GdbLaws
 mod HitCounts

@@ -15,7 +15,7 @@ use Rattle.index_board.specs.Kept.{AreOf}
 use Rattle.index_board.specs.Readers.{Reader}
 use Rattle.command_base.specs.Replies.{CausesOfResult, SaysReply, Wrote}
 use Rattle.command_base.specs.declared.status.Status.{Status}
-use Rattle.command_base.specs.declared.status.Status.TheVariants.{Answered, Refused, Usage, ReadFault, StoreFault, WriteFault, NoMemory, IndexRefused, IndexTooLarge, FileTooBig, AlreadyIndexed, TooManySections, InputFault, InputTooLong, Stopped}
+use Rattle.command_base.specs.declared.status.Status.TheVariants.{Answered, Refused, Usage, ReadFault, StoreFault, WriteFault, NoMemory, IndexRefused, TableRefused, IndexTooLarge, FileTooBig, AlreadyIndexed, TooManySections, InputFault, InputTooLong, Stopped}
 use Rattle.command_base.proofs.ReplyLaws.{wrote_refused}
 use Rattle.index_commands.specs.Indexes.{CausesOfIndex, IsIndexOf, LeavesIndex, SaysIndex}
 use Rattle.index_commands.specs.Stores.{CausesOfStore, Keeps, KeepsPart, StoreLeaves}
@@ -37,6 +37,7 @@ module _ (file : List ℕ) (kind : CacheKind) (cache : Cache) (stores : Type 0) 
   store_wrote written FileTooBig c = absurd c
   store_wrote written AlreadyIndexed c = absurd c
   store_wrote written TooManySections c = absurd c
+  store_wrote written (TableRefused table) c = absurd c
   store_wrote written InputFault c = absurd c
   store_wrote written InputTooLong c = absurd c
   store_wrote written Stopped c = absurd c
@@ -55,6 +56,7 @@ module _ (file : List ℕ) (kind : CacheKind) (cache : Cache) (stores : Type 0) 
     store_causes writes FileTooBig c = absurd c
     store_causes writes AlreadyIndexed c = absurd c
     store_causes writes TooManySections c = absurd c
+    store_causes writes (TableRefused table) c = absurd c
     store_causes writes InputFault c = absurd c
     store_causes writes InputTooLong c = absurd c
     store_causes writes Stopped c = absurd c
@@ -72,6 +74,7 @@ module _ (file : List ℕ) (kind : CacheKind) (cache : Cache) (stores : Type 0) 
     store_leaves old new out FileTooBig c h = absurd c
     store_leaves old new out AlreadyIndexed c h = absurd c
     store_leaves old new out TooManySections c h = absurd c
+    store_leaves old new out (TableRefused table) c h = absurd c
     store_leaves old new out InputFault c h = absurd c
     store_leaves old new out InputTooLong c h = absurd c
     store_leaves old new out Stopped c h = absurd c
@@ -95,6 +98,7 @@ module _ (file : List ℕ) (kind : CacheKind) (f : Fault) (first : first_fault f
   refusal_causes stores writes FileTooBig c = absurd c
   refusal_causes stores writes AlreadyIndexed c = absurd c
   refusal_causes stores writes TooManySections c = absurd c
+  refusal_causes stores writes (TableRefused table) c = absurd c
   refusal_causes stores writes InputFault c = absurd c
   refusal_causes stores writes InputTooLong c = absurd c
   refusal_causes stores writes Stopped c = absurd c
@@ -112,6 +116,7 @@ module _ (file : List ℕ) (kind : CacheKind) (f : Fault) (first : first_fault f
   refusal_leaves FileTooBig old new writes shelf after out w c same = absurd c
   refusal_leaves AlreadyIndexed old new writes shelf after out w c same = absurd c
   refusal_leaves TooManySections old new writes shelf after out w c same = absurd c
+  refusal_leaves (TableRefused table) old new writes shelf after out w c same = absurd c
   refusal_leaves InputFault old new writes shelf after out w c same = absurd c
   refusal_leaves InputTooLong old new writes shelf after out w c same = absurd c
   refusal_leaves Stopped old new writes shelf after out w c same = absurd c

@@ -1,4 +1,3 @@
-pub mod GdbLooks
 pub mod NamesLooks
 pub mod Stores
 pub mod Indexes

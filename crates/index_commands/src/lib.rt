@@ -2,11 +2,9 @@
 #![tactic(auto)]
 
 mod ask;
-mod gdb;
 mod index;
 mod names;
 
 pub use ask::ask_file;
-pub use gdb::look_gdb;
 pub use index::index_file;
 pub use names::look_names;

@@ -13,6 +13,7 @@ loop-bytes-init g c = record {
   kept = same_files-refl (g.F.Shelf.files c.args.shelf.now);
   reads = omega arith;
   stores = refl;
+  kept_reads = refl;
   bounded = omega arith;
   room = c.in_ok-piece.ensures;
 }
@@ -23,6 +24,7 @@ loop-bytes-preserved g c = record {
   kept = same_files-trans _ _ _ c.loop-bytes.invariant.kept c.in_ok-read_on.ensures.kept;
   reads = omega (arith, c.loop-bytes.invariant.reads, c.in_ok-read_on.ensures.reads);
   stores = c.in_ok-read_on.ensures.stores ∙ c.loop-bytes.invariant.stores;
+  kept_reads = c.in_ok-read_on.ensures.kept_reads ∙ c.loop-bytes.invariant.kept_reads;
   bounded = bounded_by (vec_len c.read_on.new.bytes) (vec_len c.loop-bytes.bytes) c.in_ok-read_on.field-0 c.args.limit c.min-room.result c.len-in-loop-bytes.result c.deref_mut.result.now c.in_ok-read_on.ensures.more c.in_ok-read_on.ensures.within c.min-room.ensures c.len-in-loop-bytes.ensures c.loop-bytes.invariant.bounded;
   room = c.loop-bytes.invariant.room;
 }

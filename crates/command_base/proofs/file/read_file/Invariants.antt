@@ -10,6 +10,7 @@ invariant-loop-bytes g l = record {
   kept : SameFiles (g.F.Shelf.files l.fn.shelf) (g.F.Shelf.files l.shelf);
   reads : g.F.Shelf.read_faults l.fn.shelf ≤ g.F.Shelf.read_faults l.shelf;
   stores : g.F.Shelf.store_faults l.shelf ≡ g.F.Shelf.store_faults l.fn.shelf;
+  kept_reads : g.F.Shelf.kept_faults l.shelf ≡ g.F.Shelf.kept_faults l.fn.shelf;
   bounded : vec_len l.bytes ≤ l.limit + 1;
   room : vec_len l.piece ≡ 1048576;
 }

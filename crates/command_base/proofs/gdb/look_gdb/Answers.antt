@@ -1,11 +1,11 @@
 use Rattle.std.proofs.Common.{refl, sym, subst}
 use Rattle.index_model.specs.Seen.{query_seen}
 use Rattle.index_model.specs.LookTexts.{text_of_index_fault}
-use Rattle.index_commands.specs.GdbLooks.{SaysGdb}
+use Rattle.command_base.specs.GdbLooks.{SaysGdb}
 use Rattle.command_base.specs.Replies.{Wrote}
 use Rattle.command_base.specs.declared.status.Status.{Status}
 use Rattle.command_base.proofs.ReplyLaws.{sent_refusal}
-use Rattle.index_commands.proofs.gdb.look_gdb.Goals as goal
+use Rattle.command_base.proofs.gdb.look_gdb.Goals as goal
 
 pub returns-in-Err-clause-wrote : goal.returns-in-Err-clause-wrote
 returns-in-Err-clause-wrote g c =

@@ -1,4 +1,4 @@
-//! `look gdb`: the answer of a `.gdb_index` to a query.
+//! The answer of a `.gdb_index` to a query.
 
 ghost use Rattle.std.specs.Prelude.{◌≡◌, ◌≤◌, Some};
 ghost use Rattle.outside.specs.Counts.{Rose};
@@ -6,9 +6,10 @@ ghost use Rattle.index_model.specs.Answers.{Answered};
 ghost use Rattle.index_model.specs.Seen.{answer_seen, query_seen};
 ghost use Rattle.query_text.specs.Places.{PlacesFitAnswer};
 ghost use Rattle.command_base.specs.Replies.{CausesOfResult, SaysReply, Wrote};
-ghost use Rattle.index_commands.specs.GdbLooks.{offer_gdb, SaysGdb, SaysLook};
+ghost use Rattle.command_base.specs.GdbLooks.{offer_gdb, SaysGdb, SaysLook};
 
-use command_base::{Status, ended, write};
+use crate::reply::{ended, write};
+use crate::status::Status;
 use gdbindex_read::GdbIndex;
 use index_model::{Answer, Query, Reply};
 use outside::Sink;
@@ -22,13 +23,13 @@ pub fn look_gdb<K: Sink>(bytes: &[u8], query: &Query<'_>, out: &mut K) -> Status
     ensures counts { K.write_faults out.old ≤ K.write_faults out.new }
 {
     match GdbIndex::open(bytes) {
-        Ok(index) => answer_by(&index, query, out),
+        Ok(index) => answer_by_gdb(&index, query, out),
         Err(fault) => ended(write_index_fault(out, fault), Status::IndexRefused),
     }
 }
 
-// The answer of an index that was opened.
-fn answer_by<K: Sink>(index: &GdbIndex<'_>, query: &Query<'_>, out: &mut K) -> Status
+/// Writes the answer of an index that was opened to a query that it answers.
+pub fn answer_by_gdb<K: Sink>(index: &GdbIndex<'_>, query: &Query<'_>, out: &mut K) -> Status
     requires { offer_gdb (query_seen query.now) ≡ Some (query_seen query.now) }
     ensures wrote { Wrote (SaysLook index.now (query_seen query.now)) result (K.written out.old) (K.written out.new) }
     ensures causes { CausesOfResult (Rose (K.write_faults out.old) (K.write_faults out.new)) result }

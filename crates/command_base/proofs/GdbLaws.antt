@@ -6,9 +6,9 @@ use Rattle.index_model.specs.Queries.{Query}
 use Rattle.index_model.specs.Texts.{text_of_answer}
 use Rattle.command_base.specs.Replies.{SaysReply, Wrote}
 use Rattle.command_base.specs.declared.status.Status.{Status}
-use Rattle.command_base.specs.declared.status.Status.TheVariants.{Answered, Refused, Usage, ReadFault, StoreFault, WriteFault, NoMemory, IndexRefused, IndexTooLarge, FileTooBig, AlreadyIndexed, TooManySections, InputFault, InputTooLong, Stopped}
+use Rattle.command_base.specs.declared.status.Status.TheVariants.{Answered, Refused, Usage, ReadFault, StoreFault, WriteFault, NoMemory, IndexRefused, TableRefused, IndexTooLarge, FileTooBig, AlreadyIndexed, TooManySections, InputFault, InputTooLong, Stopped}
 use Rattle.command_base.proofs.ReplyLaws.{wrote_weaker}
-use Rattle.index_commands.specs.GdbLooks.{gdb_text, SaysGdb, SaysLook}
+use Rattle.command_base.specs.GdbLooks.{gdb_text, SaysGdb, SaysLook}
 
 module _ (index : GdbIndex) (q : Query) (a : Answer) (is : gdb_text index q ≡ Some (text_of_answer a)) where
   short : (status : Status) (text : List ℕ) → SaysReply (Replied a) status text → SaysLook index q status text
@@ -24,6 +24,7 @@ module _ (index : GdbIndex) (q : Query) (a : Answer) (is : gdb_text index q ≡ 
   short FileTooBig text h = absurd h
   short AlreadyIndexed text h = absurd h
   short TooManySections text h = absurd h
+  short (TableRefused table) text h = absurd h
   short InputFault text h = absurd h
   short InputTooLong text h = absurd h
   short Stopped text h = absurd h
@@ -46,6 +47,7 @@ module _ (bytes : List ℕ) (index : GdbIndex) (opened : gdb_index bytes ≡ Ok 
   by_bytes FileTooBig text h = h
   by_bytes AlreadyIndexed text h = h
   by_bytes TooManySections text h = h
+  by_bytes (TableRefused table) text h = h
   by_bytes InputFault text h = h
   by_bytes InputTooLong text h = h
   by_bytes Stopped text h = h

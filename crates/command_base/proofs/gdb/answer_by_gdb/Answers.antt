@@ -4,12 +4,12 @@ use Rattle.index_model.specs.GdbIndexRead.{gdb_index_hits}
 use Rattle.index_model.specs.Seen.{query_seen}
 use Rattle.outside.specs.Written.{Appends, AppendsPrefix}
 use Rattle.index_model.specs.LookTexts.{text_of_elements}
-use Rattle.index_commands.specs.GdbLooks.{gdb_text}
-use Rattle.index_commands.specs.GdbLooks.{SaysLook}
+use Rattle.command_base.specs.GdbLooks.{gdb_text}
+use Rattle.command_base.specs.GdbLooks.{SaysLook}
 use Rattle.command_base.specs.Replies.{Wrote}
 use Rattle.command_base.specs.declared.status.Status.{Status}
 use Rattle.command_base.proofs.ReplyLaws.{sent_answer}
-use Rattle.index_commands.proofs.gdb.answer_by.Goals as goal
+use Rattle.command_base.proofs.gdb.answer_by_gdb.Goals as goal
 
 pub returns-in-Name-clause-wrote : goal.returns-in-Name-clause-wrote
 returns-in-Name-clause-wrote g c =
