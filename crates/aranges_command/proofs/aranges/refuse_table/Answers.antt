@@ -1,0 +1,16 @@
+use Rattle.std.proofs.Common.{◌≡◌, sym, subst, ◌∙◌}
+use Rattle.reach_model.specs.AddressTexts.{text_of_aranges_fault}
+use Rattle.command_base.specs.Replies.{Wrote}
+use Rattle.command_base.specs.declared.status.Status.{Status}
+use Rattle.command_base.specs.declared.status.Table.TheVariants.{Addresses}
+use Rattle.command_base.proofs.ReplyLaws.{sent_table}
+use Rattle.aranges_command.specs.Compared.{SaysFault}
+use Rattle.aranges_command.proofs.aranges.refuse_table.Goals as goal
+
+pub returns-in-Ok-clause-wrote : goal.returns-in-Ok-clause-wrote
+returns-in-Ok-clause-wrote g c =
+    let old = g.K.Sink.written c.args.out.now in
+    let new = g.K.Sink.written c.write_all.new.out in
+    let says = SaysFault c.args.fault in
+    let is : c.as_bytes.result.now ≡ text_of_aranges_fault c.args.fault = c.as_bytes.ensures.value ∙ c.in-Ok.ensures in
+    subst (λ (s : Status). Wrote says s old new) (sym c.ended.ensures) (sent_table says old new c.as_bytes.result.now Addresses c.write_all.result is c.write_all.ensures.ok c.write_all.ensures.left)

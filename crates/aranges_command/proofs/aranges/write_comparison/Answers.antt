@@ -1,0 +1,15 @@
+use Rattle.std.proofs.Common.{◌≡◌, sym, subst, ◌∙◌}
+use Rattle.reach_model.specs.AddressTexts.{text_of_comparison}
+use Rattle.command_base.specs.Replies.{Wrote}
+use Rattle.command_base.specs.declared.status.Status.{Status}
+use Rattle.command_base.proofs.ReplyLaws.{sent_answer}
+use Rattle.aranges_command.specs.Compared.{SaysComparison}
+use Rattle.aranges_command.proofs.aranges.write_comparison.Goals as goal
+
+pub returns-in-Ok-clause-wrote : goal.returns-in-Ok-clause-wrote
+returns-in-Ok-clause-wrote g c =
+    let old = g.K.Sink.written c.args.out.now in
+    let new = g.K.Sink.written c.write_all.new.out in
+    let says = SaysComparison c.args.difference in
+    let is : c.as_bytes.result.now ≡ text_of_comparison c.args.difference = c.as_bytes.ensures.value ∙ c.in-Ok.ensures in
+    subst (λ (s : Status). Wrote says s old new) (sym c.ended.ensures) (sent_answer says old new c.as_bytes.result.now c.write_all.result is c.write_all.ensures.ok c.write_all.ensures.left)
