@@ -8,7 +8,7 @@ use Rattle.command_base.specs.Stops.{stop_status}
 use Rattle.command_base.specs.declared.file.ReadStop.{ReadStop}
 use Rattle.command_base.specs.declared.file.ReadStop.TheVariants as stops
 use Rattle.command_base.specs.declared.status.Status.{Status}
-use Rattle.command_base.specs.declared.status.Status.TheVariants.{Answered, Refused, Usage, ReadFault, StoreFault, WriteFault, NoMemory, IndexRefused, IndexTooLarge, FileTooBig, AlreadyIndexed, TooManySections, InputFault, InputTooLong, Stopped}
+use Rattle.command_base.specs.declared.status.Status.TheVariants.{Answered, Refused, Usage, ReadFault, StoreFault, WriteFault, NoMemory, IndexRefused, TableRefused, IndexTooLarge, FileTooBig, AlreadyIndexed, TooManySections, InputFault, InputTooLong, Stopped}
 use Rattle.command_base.proofs.ReplyLaws.{wrote_weaker}
 use Rattle.session_commands.specs.RaceEnds.{CausesOfRace}
 use Rattle.index_cmd.specs.Doings.{CausesBeside, SaysBeside}
@@ -38,6 +38,7 @@ module _ (told : Option Files) (file : List ℕ) (most : ℕ) (reads writes : Ty
   causes_looked WriteFault c = c
   causes_looked NoMemory c = tt
   causes_looked IndexRefused c = tt
+  causes_looked (TableRefused table) c = absurd c
   causes_looked IndexTooLarge c = absurd c
   causes_looked FileTooBig c = absurd c
   causes_looked AlreadyIndexed c = absurd c
@@ -55,6 +56,7 @@ module _ (told : Option Files) (file : List ℕ) (most : ℕ) (reads writes : Ty
   causes_raced WriteFault c = c
   causes_raced NoMemory c = absurd c
   causes_raced IndexRefused c = absurd c
+  causes_raced (TableRefused table) c = absurd c
   causes_raced IndexTooLarge c = absurd c
   causes_raced FileTooBig c = absurd c
   causes_raced AlreadyIndexed c = absurd c

@@ -15,50 +15,57 @@ use Rattle.index_model.proofs.Meanings.{same_ok}
 use Rattle.index_model.specs.Sections.{Section}
 use Rattle.outside.specs.Files.{Files, Stored}
 use Rattle.session_commands.specs.declared.script.TheConstants.{MAX_SCRIPT_BYTES}
-use Rattle.index_cmd.specs.Requests.{Request, TheHelp, TheVersion, OfFile, OfIndex, OfAdd, OfGdb, OfNames, OfServe, OfRace, OfDrill, AsksFile, AsksProgram, AsksIndex}
+use Rattle.index_cmd.specs.Requests.{Request, TheHelp, TheVersion, OfFile, OfIndex, OfAdd, OfGdb, OfNames, OfServe, OfRace, OfDrill, OfAranges, OfFiles, OfCached, AsksFile, AsksProgram, AsksIndex}
 use Rattle.drill_command.specs.Drills.{HasTooLarge, IsSummaryOf}
 use Rattle.command_base.specs.FilesRead.{HoldsMore}
 use Rattle.session_commands.specs.Heard.{Heard}
 use Rattle.index_cmd.specs.Results.{Says, Completes}
 use Rattle.session_commands.specs.SessionResults.{IsServeMeant}
 use Rattle.drill_command.specs.DrillResults.{IsDrillMeant}
-use Rattle.index_cmd.specs.Replies.{Causes, HasTooManySections, IsAlreadyIndexed, IsIndexRefusal, MakesTooLarge}
+use Rattle.aranges_command.specs.Comparisons.{sets_of}
+use Rattle.files_command.specs.Listings.{found_by}
+use Rattle.index_cmd.specs.Replies.{Causes, HasTooManySections, IsAlreadyIndexed, IsIndexRefusal, IsTableRefusal, MakesTooLarge}
 use Rattle.command_base.specs.Replies.{IsMeant, line_of}
 use Rattle.add_command.specs.Adds.{ForNamedProgram, ForProgram, IsAddMeant, OfAdded}
 use Rattle.index_commands.specs.Indexes.{IsIndexMeant}
-use Rattle.index_commands.specs.GdbLooks.{IsLookMeant}
+use Rattle.command_base.specs.GdbLooks.{IsLookMeant}
 use Rattle.index_commands.specs.NamesLooks.{IsNamesMeant}
 use Rattle.command_base.specs.Statuses.{status_code}
 use Rattle.index_commands.specs.Stores.{Keeps}
 use Rattle.index_cmd.specs.Stores.{LeavesAtEnd}
+use Rattle.command_base.specs.declared.status.Table.{Table}
 use Rattle.command_base.specs.declared.status.Status.{Status}
-use Rattle.command_base.specs.declared.status.Status.TheVariants.{Answered, Refused, Usage, ReadFault, StoreFault, WriteFault, NoMemory, IndexRefused, IndexTooLarge, FileTooBig, AlreadyIndexed, TooManySections, InputFault, InputTooLong, Stopped}
+use Rattle.command_base.specs.declared.status.Status.TheVariants.{Answered, Refused, Usage, ReadFault, StoreFault, WriteFault, NoMemory, IndexRefused, TableRefused, IndexTooLarge, FileTooBig, AlreadyIndexed, TooManySections, InputFault, InputTooLong, Stopped}
 use Rattle.index_cmd.proofs.Adding.{short_of_memory, when_crowded, when_indexed, when_refused, when_stored, when_too_large}
-use Rattle.index_cmd.proofs.Outcomes.{Outcome, tells, stops, lines, fails, Plain, answers, refuses, index_refuses, plain_lines, plain_fails, plain, no_request, same_bytes, accepted_built, none_some}
+use Rattle.index_cmd.proofs.KeptMeant.{cached_meant}
+use Rattle.index_cmd.proofs.Tables.{by_aranges, by_lines, table_meant}
+use Rattle.index_cmd.proofs.Outcomes.{Outcome, tells, stops, lines, fails, Plain, answers, refuses, index_refuses, table_refuses, plain_lines, plain_fails, plain, no_request, same_bytes, accepted_built, none_some}
 
 -- ---- the program's own texts
 
 module _ (told : Option Files) (reads stores writes : Type 0) (old new : Option (List ℕ)) where
-  own_text : (request : Request) → ((P : List ℕ → ℕ → Type 0) → AsksFile (Some request) P → ⊥) → ((P : List ℕ → Type 0) → AsksProgram (Some request) P → ⊥) → ((P : CacheKind → List ℕ → List ℕ → Type 0) → AsksIndex (Some request) P → ⊥) → (MakesTooLarge (Some request) told → ⊥) → ((text : List ℕ) → IsIndexRefusal (Some request) told text → ⊥) → (IsAlreadyIndexed (Some request) told → ⊥) → (HasTooManySections (Some request) told → ⊥) → (writes → ⊥) → (status : Status) → Plain (Some request) told reads stores writes old new status → (status_code status ≡ 0) ⊎ (status_code status ≡ 7)
-  own_text request file program index large look indexed crowded none status (answers w) = inl refl
-  own_text request file program index large look indexed crowded none status (refuses w) = absurd (program _ w.1)
-  own_text request file program index large look indexed crowded none status (index_refuses w) = absurd (look _ w.1)
-  own_text request file program index large look indexed crowded none status (plain_fails f) = absurd (none f)
-  own_text request file program index large look indexed crowded none Usage (plain_lines text is c) = absurd (cc c)
-  own_text request file program index large look indexed crowded none ReadFault (plain_lines text is c) = absurd (file _ c)
-  own_text request file program index large look indexed crowded none StoreFault (plain_lines text is c) = absurd (index _ c)
-  own_text request file program index large look indexed crowded none NoMemory (plain_lines text is c) = inr refl
-  own_text request file program index large look indexed crowded none IndexTooLarge (plain_lines text is c) = absurd (large c)
-  own_text request file program index large look indexed crowded none FileTooBig (plain_lines text is c) = absurd (file _ c)
-  own_text request file program index large look indexed crowded none AlreadyIndexed (plain_lines text is c) = absurd (indexed c)
-  own_text request file program index large look indexed crowded none TooManySections (plain_lines text is c) = absurd (crowded c)
-  own_text request file program index large look indexed crowded none Answered (plain_lines text is c) = absurd (cc is)
-  own_text request file program index large look indexed crowded none Refused (plain_lines text is c) = absurd (cc is)
-  own_text request file program index large look indexed crowded none IndexRefused (plain_lines text is c) = absurd (cc is)
-  own_text request file program index large look indexed crowded none WriteFault (plain_lines text is c) = absurd (cc is)
-  own_text request file program index large look indexed crowded none InputFault (plain_lines text is c) = absurd (cc is)
-  own_text request file program index large look indexed crowded none InputTooLong (plain_lines text is c) = absurd (cc is)
-  own_text request file program index large look indexed crowded none Stopped (plain_lines text is c) = absurd (cc is)
+  own_text : (request : Request) → ((P : List ℕ → ℕ → Type 0) → AsksFile (Some request) P → ⊥) → ((P : List ℕ → Type 0) → AsksProgram (Some request) P → ⊥) → ((P : CacheKind → List ℕ → List ℕ → Type 0) → AsksIndex (Some request) P → ⊥) → (MakesTooLarge (Some request) told → ⊥) → ((text : List ℕ) → IsIndexRefusal (Some request) told text → ⊥) → ((text : List ℕ) → (kind : Table) → IsTableRefusal (Some request) kind told text → ⊥) → (IsAlreadyIndexed (Some request) told → ⊥) → (HasTooManySections (Some request) told → ⊥) → (writes → ⊥) → (status : Status) → Plain (Some request) told reads stores writes old new status → (status_code status ≡ 0) ⊎ (status_code status ≡ 7)
+  own_text request file program index large look table indexed crowded none status (answers w) = inl refl
+  own_text request file program index large look table indexed crowded none status (refuses w) = absurd (program _ w.1)
+  own_text request file program index large look table indexed crowded none status (index_refuses w) = absurd (look _ w.1)
+  own_text request file program index large look table indexed crowded none status (table_refuses kind w) = absurd (table _ kind w.1)
+  own_text request file program index large look table indexed crowded none status (plain_fails f) = absurd (none f)
+  own_text request file program index large look table indexed crowded none Usage (plain_lines text is c) = absurd (cc c)
+  own_text request file program index large look table indexed crowded none ReadFault (plain_lines text is c) = absurd (file _ c)
+  own_text request file program index large look table indexed crowded none StoreFault (plain_lines text is c) = absurd (index _ c)
+  own_text request file program index large look table indexed crowded none NoMemory (plain_lines text is c) = inr refl
+  own_text request file program index large look table indexed crowded none IndexTooLarge (plain_lines text is c) = absurd (large c)
+  own_text request file program index large look table indexed crowded none FileTooBig (plain_lines text is c) = absurd (file _ c)
+  own_text request file program index large look table indexed crowded none AlreadyIndexed (plain_lines text is c) = absurd (indexed c)
+  own_text request file program index large look table indexed crowded none TooManySections (plain_lines text is c) = absurd (crowded c)
+  own_text request file program index large look table indexed crowded none Answered (plain_lines text is c) = absurd (cc is)
+  own_text request file program index large look table indexed crowded none Refused (plain_lines text is c) = absurd (cc is)
+  own_text request file program index large look table indexed crowded none IndexRefused (plain_lines text is c) = absurd (cc is)
+  own_text request file program index large look table indexed crowded none (TableRefused kept) (plain_lines text is c) = absurd (cc is)
+  own_text request file program index large look table indexed crowded none WriteFault (plain_lines text is c) = absurd (cc is)
+  own_text request file program index large look table indexed crowded none InputFault (plain_lines text is c) = absurd (cc is)
+  own_text request file program index large look table indexed crowded none InputTooLong (plain_lines text is c) = absurd (cc is)
+  own_text request file program index large look table indexed crowded none Stopped (plain_lines text is c) = absurd (cc is)
 
   nothing_asked : (status : Status) → Plain None told reads stores writes old new status → (writes → ⊥) → (status_code status ≡ 2) ⊎ (status_code status ≡ 7)
   nothing_asked status o none = by (no_request told reads stores writes old new status o)
@@ -94,6 +101,7 @@ module _ (files : Files) (reads stores writes : Type 0) (old new : Option (List 
     only_memory Answered text is c = absurd (cc is)
     only_memory Refused text is c = absurd (cc is)
     only_memory IndexRefused text is c = absurd (cc is)
+    only_memory (TableRefused table) text is c = absurd (cc is)
     only_memory WriteFault text is c = absurd (cc is)
     only_memory InputFault text is c = absurd (cc is)
     only_memory InputTooLong text is c = absurd (cc is)
@@ -108,6 +116,7 @@ module _ (files : Files) (reads stores writes : Type 0) (old new : Option (List 
       answered = λ accepted. let same = same_bytes (files file) w.1.0 bytes w.1.1 holds in absurd (none_some w.1.2.fault (sym accepted ∙ ap first_fault (sym same) ∙ w.1.2.first));
       refused = λ f first. inl refl;
     }
+    meant status (table_refuses table w) = absurd w.1
     meant status (index_refuses w) = absurd w.1
     meant status (plain_lines text is c) = record { answered = λ _. inr (only_memory status text is c); refused = λ f first. inr (only_memory status text is c) }
     meant status (plain_fails f) = absurd (no_write f)
@@ -130,6 +139,7 @@ module _ (files : Files) (reads stores writes : Type 0) (old new : Option (List 
     only_memory_looks Answered text is c = absurd (cc is)
     only_memory_looks Refused text is c = absurd (cc is)
     only_memory_looks IndexRefused text is c = absurd (cc is)
+    only_memory_looks (TableRefused table) text is c = absurd (cc is)
     only_memory_looks WriteFault text is c = absurd (cc is)
     only_memory_looks InputFault text is c = absurd (cc is)
     only_memory_looks InputTooLong text is c = absurd (cc is)
@@ -148,6 +158,7 @@ module _ (files : Files) (reads stores writes : Type 0) (old new : Option (List 
       refused = λ f is. inl refl;
     }
     look_meant status (refuses w) = absurd w.1
+    look_meant status (table_refuses table w) = absurd w.1
     look_meant status (plain_lines text is c) = record { answered = λ index e. inr (only_memory_looks status text is c); refused = λ f e. inr (only_memory_looks status text is c) }
     look_meant status (plain_fails f) = absurd (no_write f)
 
@@ -185,6 +196,7 @@ module _ (files : Files) (reads stores writes : Type 0) (old new : Option (List 
     by_line Answered text is c = absurd (cc is)
     by_line Refused text is c = absurd (cc is)
     by_line IndexRefused text is c = absurd (cc is)
+    by_line (TableRefused table) text is c = absurd (cc is)
     by_line WriteFault text is c = absurd (cc is)
     by_line InputFault text is c = absurd (cc is)
     by_line InputTooLong text is c = absurd (cc is)
@@ -199,6 +211,7 @@ module _ (files : Files) (reads stores writes : Type 0) (old new : Option (List 
     index_meant status (refuses w) left =
         let none : (b : Built) → built_of bytes ≡ Ok b → ⊥ = λ b e. no_fault b bytes w.1.2.fault holds e (ap first_fault (sym (same_bytes (files file) w.1.0 bytes w.1.1 holds)) ∙ w.1.2.first) in
         record { stored = λ b e fit. absurd (none b e); too_large = λ b e large. absurd (none b e); refused = λ f first. inl refl }
+    index_meant status (table_refuses table w) left = absurd w.1
     index_meant status (index_refuses w) left = absurd w.1
     index_meant status (plain_lines text is c) left = by_line status text is c
     index_meant status (plain_fails f) left = absurd (no_write f)
@@ -225,6 +238,7 @@ module _ (files : Files) (reads stores writes : Type 0) (old new : Option (List 
     add_line Answered text is c = absurd (cc is)
     add_line Refused text is c = absurd (cc is)
     add_line IndexRefused text is c = absurd (cc is)
+    add_line (TableRefused table) text is c = absurd (cc is)
     add_line WriteFault text is c = absurd (cc is)
     add_line InputFault text is c = absurd (cc is)
     add_line InputTooLong text is c = absurd (cc is)
@@ -233,6 +247,7 @@ module _ (files : Files) (reads stores writes : Type 0) (old new : Option (List 
     add_meant : (status : Status) → Plain with_index (Some files) reads stores writes old new status → LeavesAtEnd with_index (Some files) shelf status → IsAddMeant bytes kind (status_code status)
     add_meant status (answers w) left = when_stored bytes kind (Stored (Some files) shelf out) (of_these (OfAdded kind (Stored (Some files) shelf out)) left)
     add_meant status (refuses w) left = when_refused bytes kind w.1.2.fault (ap first_fault (sym (same_bytes (files file) w.1.0 bytes w.1.1 holds)) ∙ w.1.2.first)
+    add_meant status (table_refuses table w) left = absurd w.1
     add_meant status (index_refuses w) left = absurd w.1
     add_meant status (plain_lines text is c) left = add_line status text is c
     add_meant status (plain_fails f) left = absurd (no_write f)
@@ -263,6 +278,7 @@ module _ (files : Files) (reads stores writes : Type 0) (old new : Option (List 
   only_memory_names Answered text is c = absurd (cc is)
   only_memory_names Refused text is c = absurd (cc is)
   only_memory_names IndexRefused text is c = absurd (cc is)
+  only_memory_names (TableRefused table) text is c = absurd (cc is)
   only_memory_names WriteFault text is c = absurd (cc is)
   only_memory_names InputFault text is c = absurd (cc is)
   only_memory_names InputTooLong text is c = absurd (cc is)
@@ -280,6 +296,7 @@ module _ (files : Files) (reads stores writes : Type 0) (old new : Option (List 
     answered = λ read is. inl refl;
     refused = λ f is. absurd (not_both w.1.2.2.index f (own_bytes w.1.0 w.1.2.0 w.1.1 w.1.2.1 ∙ w.1.2.2.accepted) is);
   }
+  names_meant status (table_refuses table w) = absurd w.1
   names_meant status (index_refuses w) = record {
     answered = λ read is. absurd (not_both read w.1.2.2.fault is (own_bytes w.1.0 w.1.2.0 w.1.1 w.1.2.1 ∙ w.1.2.2.first));
     refused = λ f is. inl refl;
@@ -313,6 +330,7 @@ module _ (request : Option Request) (files : Files) (heard : Heard) (reads store
   session_line Answered text is c = absurd (cc is)
   session_line Refused text is c = absurd (cc is)
   session_line IndexRefused text is c = absurd (cc is)
+  session_line (TableRefused table) text is c = absurd (cc is)
   session_line WriteFault text is c = absurd (cc is)
   session_line InputFault text is c = absurd (cc is)
   session_line InputTooLong text is c = absurd (cc is)
@@ -320,32 +338,33 @@ module _ (request : Option Request) (files : Files) (heard : Heard) (reads store
 
   -- what is said with each status, of some bytes that the file holds
   pub session_meant : ((text : List ℕ) → Says request (Some files) heard Answered text → (own : List ℕ) × (files file ≡ Some own) × IsAccepted own) → ((text : List ℕ) → Says request (Some files) heard Refused text → (own : List ℕ) × (files file ≡ Some own) × IsSome (first_fault own)) →
-      ((text : List ℕ) → Says request (Some files) heard IndexRefused text → ⊥) → ((text : List ℕ) → Says request (Some files) heard InputFault text → ⊥) →
+      ((text : List ℕ) → Says request (Some files) heard IndexRefused text → ⊥) → ((kind : Table) (text : List ℕ) → Says request (Some files) heard (TableRefused kind) text → ⊥) → ((text : List ℕ) → Says request (Some files) heard InputFault text → ⊥) →
       (status : Status) → Outcome request (Some files) heard reads stores writes old new status → IsServeMeant bytes (status_code status)
-  session_meant says_yes says_no never input Answered (tells t w) = let a = says_yes w.0 w.1 in record {
+  session_meant says_yes says_no never table input Answered (tells t w) = let a = says_yes w.0 w.1 in record {
     answered = λ _. inl refl;
     refused_ = λ f some. absurd (not_both_kinds a.0 bytes f (same_bytes (files file) a.0 bytes a.1 holds) a.2 some);
   }
-  session_meant says_yes says_no never input Refused (tells t w) = let a = says_no w.0 w.1 in record {
+  session_meant says_yes says_no never table input Refused (tells t w) = let a = says_no w.0 w.1 in record {
     answered = λ none. absurd (not_refused a.0 bytes (same_bytes (files file) a.0 bytes a.1 holds) a.2 none);
     refused_ = λ f some. inl refl;
   }
-  session_meant says_yes says_no never input IndexRefused (tells t w) = absurd (never w.0 w.1)
-  session_meant says_yes says_no never input InputFault (tells t w) = absurd (input w.0 w.1)
-  session_meant says_yes says_no never input InputTooLong (tells t w) = record { answered = λ _. inr (inr refl); refused_ = λ f some. inr (inr refl) }
-  session_meant says_yes says_no never input Usage (tells t w) = absurd t
-  session_meant says_yes says_no never input ReadFault (tells t w) = absurd t
-  session_meant says_yes says_no never input StoreFault (tells t w) = absurd t
-  session_meant says_yes says_no never input WriteFault (tells t w) = absurd t
-  session_meant says_yes says_no never input NoMemory (tells t w) = absurd t
-  session_meant says_yes says_no never input IndexTooLarge (tells t w) = absurd t
-  session_meant says_yes says_no never input FileTooBig (tells t w) = absurd t
-  session_meant says_yes says_no never input AlreadyIndexed (tells t w) = absurd t
-  session_meant says_yes says_no never input TooManySections (tells t w) = absurd t
-  session_meant says_yes says_no never input Stopped (tells t w) = absurd t
-  session_meant says_yes says_no never input status (stops text says part) = record { answered = λ _. inr (inl refl); refused_ = λ f some. inr (inl refl) }
-  session_meant says_yes says_no never input status (lines text is c a) = let e = session_line status text is c in record { answered = λ _. inr (inl e); refused_ = λ f some. inr (inl e) }
-  session_meant says_yes says_no never input status (fails f p) = absurd (no_write f)
+  session_meant says_yes says_no never table input IndexRefused (tells t w) = absurd (never w.0 w.1)
+  session_meant says_yes says_no never table input (TableRefused kind) (tells t w) = absurd (table kind w.0 w.1)
+  session_meant says_yes says_no never table input InputFault (tells t w) = absurd (input w.0 w.1)
+  session_meant says_yes says_no never table input InputTooLong (tells t w) = record { answered = λ _. inr (inr refl); refused_ = λ f some. inr (inr refl) }
+  session_meant says_yes says_no never table input Usage (tells t w) = absurd t
+  session_meant says_yes says_no never table input ReadFault (tells t w) = absurd t
+  session_meant says_yes says_no never table input StoreFault (tells t w) = absurd t
+  session_meant says_yes says_no never table input WriteFault (tells t w) = absurd t
+  session_meant says_yes says_no never table input NoMemory (tells t w) = absurd t
+  session_meant says_yes says_no never table input IndexTooLarge (tells t w) = absurd t
+  session_meant says_yes says_no never table input FileTooBig (tells t w) = absurd t
+  session_meant says_yes says_no never table input AlreadyIndexed (tells t w) = absurd t
+  session_meant says_yes says_no never table input TooManySections (tells t w) = absurd t
+  session_meant says_yes says_no never table input Stopped (tells t w) = absurd t
+  session_meant says_yes says_no never table input status (stops text says part) = record { answered = λ _. inr (inl refl); refused_ = λ f some. inr (inl refl) }
+  session_meant says_yes says_no never table input status (lines text is c a) = let e = session_line status text is c in record { answered = λ _. inr (inl e); refused_ = λ f some. inr (inl e) }
+  session_meant says_yes says_no never table input status (fails f p) = absurd (no_write f)
 
 -- ---- drill
 
@@ -394,6 +413,7 @@ module _ (seed units : ℕ) (told : Option Files) (heard : Heard) (reads stores 
   drill_line Answered text is c = absurd (cc is)
   drill_line Refused text is c = absurd (cc is)
   drill_line IndexRefused text is c = absurd (cc is)
+  drill_line (TableRefused table) text is c = absurd (cc is)
   drill_line WriteFault text is c = absurd (cc is)
   drill_line InputFault text is c = absurd (cc is)
   drill_line InputTooLong text is c = absurd (cc is)
@@ -411,6 +431,7 @@ module _ (seed units : ℕ) (told : Option Files) (heard : Heard) (reads stores 
     refused_ = λ f first. inl refl;
   }
   drill_meant IndexRefused (tells t w) = absurd w.1
+  drill_meant (TableRefused table) (tells t w) = absurd w.1
   drill_meant InputFault (tells t w) = absurd w.1
   drill_meant InputTooLong (tells t w) = absurd w.1
   drill_meant Usage (tells t w) = absurd t
@@ -430,8 +451,8 @@ module _ (seed units : ℕ) (told : Option Files) (heard : Heard) (reads stores 
 pub complete : (request : Option Request) (told shelf : Option Files) (heard : Heard) (reads stores writes : Type 0) (old new : Option (List ℕ)) (status : Status) → Outcome request told heard reads stores writes old new status → LeavesAtEnd request told shelf status →
     Completes request told heard reads stores writes (status_code status)
 complete None told shelf heard reads stores writes old new status o left = nothing_asked told reads stores writes old new status (plain None told reads stores writes old new heard (λ _ _ h. h) status o)
-complete (Some TheHelp) told shelf heard reads stores writes old new status o left = λ none. own_text told reads stores writes old new TheHelp (λ P h. h) (λ P h. h) (λ P h. h) (λ h. h) (λ text h. h) (λ h. h) (λ h. h) none status (plain (Some TheHelp) told reads stores writes old new heard (λ _ _ h. h) status o)
-complete (Some TheVersion) told shelf heard reads stores writes old new status o left = λ none. own_text told reads stores writes old new TheVersion (λ P h. h) (λ P h. h) (λ P h. h) (λ h. h) (λ text h. h) (λ h. h) (λ h. h) none status (plain (Some TheVersion) told reads stores writes old new heard (λ _ _ h. h) status o)
+complete (Some TheHelp) told shelf heard reads stores writes old new status o left = λ none. own_text told reads stores writes old new TheHelp (λ P h. h) (λ P h. h) (λ P h. h) (λ h. h) (λ text h. h) (λ text kind h. h) (λ h. h) (λ h. h) none status (plain (Some TheHelp) told reads stores writes old new heard (λ _ _ h. h) status o)
+complete (Some TheVersion) told shelf heard reads stores writes old new status o left = λ none. own_text told reads stores writes old new TheVersion (λ P h. h) (λ P h. h) (λ P h. h) (λ h. h) (λ text h. h) (λ text kind h. h) (λ h. h) (λ h. h) none status (plain (Some TheVersion) told reads stores writes old new heard (λ _ _ h. h) status o)
 complete (Some (OfFile file q)) None shelf heard reads stores writes old new status o left = tt
 complete (Some (OfFile file q)) (Some files) shelf heard reads stores writes old new status o left = λ bytes holds small no_read no_write. meant files reads stores writes old new file bytes holds small no_read no_write q status (plain (Some (OfFile file q)) (Some files) reads stores writes old new heard (λ _ _ h. h) status o)
 complete (Some (OfIndex kind file out)) None shelf heard reads stores writes old new status o left = tt
@@ -442,12 +463,22 @@ complete (Some (OfGdb index q)) None shelf heard reads stores writes old new sta
 complete (Some (OfGdb index q)) (Some files) shelf heard reads stores writes old new status o left = λ bytes holds small no_read no_write. look_meant files reads stores writes old new index bytes holds small no_read no_write q status (plain (Some (OfGdb index q)) (Some files) reads stores writes old new heard (λ _ _ h. h) status o)
 complete (Some (OfNames base index strings name)) None shelf heard reads stores writes old new status o left = tt
 complete (Some (OfNames base index strings name)) (Some files) shelf heard reads stores writes old new status o left = λ bytes has_index small_index no_read no_write held has_strings small_strings again_no_read again_no_write. names_meant files reads stores writes old new index strings bytes held has_index small_index has_strings small_strings no_read no_write base name status (plain (Some (OfNames base index strings name)) (Some files) reads stores writes old new heard (λ _ _ h. h) status o)
+complete (Some (OfAranges file)) None shelf heard reads stores writes old new status o left = tt
+complete (Some (OfAranges file)) (Some files) shelf heard reads stores writes old new status o left = λ bytes holds small no_read no_write.
+    let line = session_line (Some (OfAranges file)) files heard reads stores writes old new file bytes holds no_read (λ h. h) (fits MAX_FILE_BYTES (files file) bytes holds small) (λ h. h) (λ h. h) (λ h. h) (λ e. cc e) no_write in
+    table_meant files reads stores writes old new file bytes holds no_write sets_of (Some (OfAranges file)) line 14 (λ text h. (h.0, h.1, (h.2.built, h.2.accepted, (h.2.holds.0, h.2.holds.1)))) (λ text h. h) (by_aranges files file) (λ text h. h) status (plain (Some (OfAranges file)) (Some files) reads stores writes old new heard (λ _ _ h. h) status o)
+complete (Some (OfFiles file name)) None shelf heard reads stores writes old new status o left = tt
+complete (Some (OfFiles file name)) (Some files) shelf heard reads stores writes old new status o left = λ bytes holds small no_read no_write.
+    let line = session_line (Some (OfFiles file name)) files heard reads stores writes old new file bytes holds no_read (λ h. h) (fits MAX_FILE_BYTES (files file) bytes holds small) (λ h. h) (λ h. h) (λ h. h) (λ e. cc e) no_write in
+    table_meant files reads stores writes old new file bytes holds no_write (found_by name) (Some (OfFiles file name)) line 15 (λ text h. (h.0, h.1, (h.2.built, h.2.accepted, (h.2.holds.0, h.2.holds.1)))) (λ text h. h) (by_lines files file name) (λ text h. h) status (plain (Some (OfFiles file name)) (Some files) reads stores writes old new heard (λ _ _ h. h) status o)
+complete (Some (OfCached file store q)) None shelf heard reads stores writes old new status o left = tt
+complete (Some (OfCached file store q)) (Some files) shelf heard reads stores writes old new status o left = λ bytes holds small no_read no_write. cached_meant files reads stores writes old new file bytes store q holds (fits MAX_FILE_BYTES (files file) bytes holds small) no_read no_write status (plain (Some (OfCached file store q)) (Some files) reads stores writes old new heard (λ _ _ h. h) status o)
 complete (Some (OfServe wait file)) None shelf heard reads stores writes old new status o left = tt
 complete (Some (OfServe wait file)) (Some files) shelf heard reads stores writes old new status o left = λ bytes holds small no_read no_write no_input.
     session_meant (Some (OfServe wait file)) files heard reads stores writes old new file bytes holds no_read (λ h. h) (fits MAX_FILE_BYTES (files file) bytes holds small) (λ h. h) (λ h. h) (λ h. h) (λ e. cc e) no_write
-    (λ text h. (h.0, h.1, h.2.0)) (λ text h. (h.0, h.1, h.2.0)) (λ text h. h.2) (λ text h. no_input h.2.0) status o
+    (λ text h. (h.0, h.1, h.2.0)) (λ text h. (h.0, h.1, h.2.0)) (λ text h. h.2) (λ kind text h. h.2) (λ text h. no_input h.2.0) status o
 complete (Some (OfRace readers file script)) None shelf heard reads stores writes old new status o left = tt
 complete (Some (OfRace readers file script)) (Some files) shelf heard reads stores writes old new status o left = λ bytes holds small no_read no_write held has_script small_script again_no_read again_no_write.
     session_meant (Some (OfRace readers file script)) files heard reads stores writes old new file bytes holds (⊎_elim no_read no_read) (λ h. h) (⊎_elim (fits MAX_FILE_BYTES (files file) bytes holds small) (fits MAX_SCRIPT_BYTES (files script) held has_script small_script)) (λ h. h) (λ h. h) (λ h. h) (λ e. cc e) no_write
-    (λ text h. (h.0, h.1, h.2.2.0)) (λ text h. (h.0, h.1, h.2.2.0)) (λ text h. h.2.2) (λ text h. h.2.2) status o
+    (λ text h. (h.0, h.1, h.2.2.0)) (λ text h. (h.0, h.1, h.2.2.0)) (λ text h. h.2.2) (λ kind text h. h.2.2) (λ text h. h.2.2) status o
 complete (Some (OfDrill seed units)) told shelf heard reads stores writes old new status o left = λ no_write. drill_meant seed units told heard reads stores writes old new no_write status o

@@ -1,4 +1,5 @@
 -- What a command did, by what its call says.
+use Rattle.std.specs.Prelude.{⊤}
 use Rattle.std.proofs.Common.{◌≡◌, ◌⊎◌, inl, inr, ℕ, List, Option, Some, refl, sym, subst}
 use Rattle.ix_base.specs.declared.limits.TheConstants.{MAX_FILE_BYTES}
 use Rattle.index_model.specs.declared.job.CacheKind.{CacheKind}
@@ -15,8 +16,9 @@ use Rattle.command_base.specs.Replies.{CausesOfResult, SaysFile, Wrote}
 use Rattle.command_base.specs.Stops.{stop_status}
 use Rattle.command_base.specs.declared.file.ReadStop.{ReadStop}
 use Rattle.command_base.specs.declared.file.ReadStop.TheVariants as stops
+use Rattle.command_base.specs.declared.status.Table.TheVariants.{Addresses, Lines}
 use Rattle.command_base.specs.declared.status.Status.{Status}
-use Rattle.command_base.specs.declared.status.Status.TheVariants.{Answered, Refused, Usage, ReadFault, StoreFault, WriteFault, NoMemory, IndexRefused, IndexTooLarge, FileTooBig, AlreadyIndexed, TooManySections, InputFault, InputTooLong, Stopped}
+use Rattle.command_base.specs.declared.status.Status.TheVariants.{Answered, Refused, Usage, ReadFault, StoreFault, WriteFault, NoMemory, IndexRefused, TableRefused, IndexTooLarge, FileTooBig, AlreadyIndexed, TooManySections, InputFault, InputTooLong, Stopped}
 use Rattle.command_base.proofs.FileReads.{same_more, same_whole}
 use Rattle.command_base.proofs.ReplyLaws.{wrote_weaker}
 use Rattle.session_commands.specs.declared.script.TheConstants.{MAX_SCRIPT_BYTES}
@@ -24,14 +26,19 @@ use Rattle.session_commands.specs.Heard.{Heard}
 use Rattle.session_commands.specs.Listens.{CausesOfSession}
 use Rattle.session_commands.specs.Races.{SaysRace}
 use Rattle.session_commands.specs.SessionResults.{SaysServe}
-use Rattle.index_commands.specs.GdbLooks.{SaysGdb}
+use Rattle.command_base.specs.GdbLooks.{SaysGdb}
 use Rattle.index_commands.specs.Indexes.{CausesOfIndex, LeavesIndex, SaysIndex}
 use Rattle.index_commands.specs.NamesLooks.{SaysNames}
 use Rattle.add_command.specs.Adds.{CausesOfAdd, LeavesAdd, SaysAdd}
 use Rattle.drill_command.specs.DrillResults.{CausesOfDrill, SaysDrill}
+use Rattle.command_base.specs.Tables.{CausesOfTable}
+use Rattle.aranges_command.specs.Comparisons.{SaysAranges}
+use Rattle.files_command.specs.Listings.{SaysFiles}
+use Rattle.cached_command.specs.Cached.{CausesOfCached, LeavesCached, SaysCached}
+use Rattle.index_cmd.proofs.Keeping.{cached_from, may_from}
 use Rattle.index_cmd.specs.Doings.{CausesBeside, Does, SaysBeside, WasRead}
 use Rattle.index_cmd.specs.Replies.{Causes, IsAnswer}
-use Rattle.index_cmd.specs.Requests.{Request, OfFile, OfIndex, OfAdd, OfGdb, OfNames, OfServe, OfRace, OfDrill, AsksFile, StoresNothing}
+use Rattle.index_cmd.specs.Requests.{Request, OfFile, OfIndex, OfAdd, OfGdb, OfNames, OfServe, OfRace, OfDrill, OfAranges, OfFiles, OfCached, AsksFile, StoresNothing}
 use Rattle.index_cmd.specs.Results.{Says}
 use Rattle.index_cmd.specs.Stores.{Leaves}
 use Rattle.index_cmd.specs.Tasks.{request_on}
@@ -51,6 +58,9 @@ asks_first file (actions.LookGdb q) P p = p
 asks_first file (actions.LookNames base strings name) P p = inl p
 asks_first file (actions.Serve wait) P p = p
 asks_first file (actions.Race readers script) P p = inl p
+asks_first file actions.Aranges P p = p
+asks_first file (actions.Files name) P p = p
+asks_first file (actions.Cached store q) P p = p
 
 module _ (file : List ℕ) (action : Action) (told shelf : Option Files) (heard : Heard) (reads stores writes : Type 0) (out : Option (List ℕ)) (same : SameFiles told shelf) where
   abbrev on_file : Option Request
@@ -74,7 +84,7 @@ module _ (request : Request) (told : Option Files) (heard : Heard) (reads stores
   own_text plain nothing is result said (inr e) fault left = subst (Does (Some request) told told heard reads stores writes old new) (sym e) (record {
     wrote = (Answered, text, says_plain (Some request) plain told heard Answered text is, left e);
     causes = fault e;
-    leaves = same_files-refl told;
+    leaves = leaves_same (Some request) told told nothing told reads stores writes WriteFault (fault e) (same_files-refl told);
   })
 
 -- ---- `drill`
@@ -89,6 +99,7 @@ module _ (seed units : ℕ) (told : Option Files) (heard : Heard) (reads stores 
   causes_drilled WriteFault c = c
   causes_drilled NoMemory c = tt
   causes_drilled IndexRefused c = absurd c
+  causes_drilled (TableRefused table) c = absurd c
   causes_drilled IndexTooLarge c = c
   causes_drilled FileTooBig c = absurd c
   causes_drilled AlreadyIndexed c = absurd c
@@ -113,6 +124,7 @@ causes_of_result request told reads stores writes StoreFault c = absurd c
 causes_of_result request told reads stores writes WriteFault c = c
 causes_of_result request told reads stores writes NoMemory c = tt
 causes_of_result request told reads stores writes IndexRefused c = tt
+causes_of_result request told reads stores writes (TableRefused table) c = absurd c
 causes_of_result request told reads stores writes IndexTooLarge c = absurd c
 causes_of_result request told reads stores writes FileTooBig c = absurd c
 causes_of_result request told reads stores writes AlreadyIndexed c = absurd c
@@ -155,6 +167,7 @@ module _ (told shelf : Option Files) (file bytes : List ℕ) (heard : Heard) (ol
   causes_beside request second most asks WriteFault c = c
   causes_beside request second most asks NoMemory c = tt
   causes_beside request second most asks IndexRefused c = tt
+  causes_beside request second most asks (TableRefused table) c = absurd c
   causes_beside request second most asks IndexTooLarge c = absurd c
   causes_beside request second most asks FileTooBig c = asks (HoldsMore told) (same_more second most told shelf was.same c)
   causes_beside request second most asks AlreadyIndexed c = absurd c
@@ -175,6 +188,7 @@ module _ (told shelf : Option Files) (file bytes : List ℕ) (heard : Heard) (ol
     says_asked WriteFault text h = absurd h
     says_asked NoMemory text h = absurd h
     says_asked IndexRefused text h = absurd h
+    says_asked (TableRefused table) text h = absurd h
     says_asked IndexTooLarge text h = absurd h
     says_asked FileTooBig text h = absurd h
     says_asked AlreadyIndexed text h = absurd h
@@ -197,6 +211,7 @@ module _ (told shelf : Option Files) (file bytes : List ℕ) (heard : Heard) (ol
     says_looked WriteFault text h = absurd h
     says_looked NoMemory text h = absurd h
     says_looked IndexRefused text h = (bytes, was.holds, h)
+    says_looked (TableRefused table) text h = absurd h
     says_looked IndexTooLarge text h = absurd h
     says_looked FileTooBig text h = absurd h
     says_looked AlreadyIndexed text h = absurd h
@@ -207,6 +222,131 @@ module _ (told shelf : Option Files) (file bytes : List ℕ) (heard : Heard) (ol
 
     pub looked : (status : Status) → Wrote (SaysGdb bytes q) status old new → CausesOfResult writes status → Does (Some (OfGdb file q)) told shelf heard reads stores writes old new status
     looked status w c = does (OfGdb file q) tt shelf (same_files-refl shelf) status (wrote_weaker (SaysGdb bytes q) (Says (Some (OfGdb file q)) told heard) says_looked status old new w) (causes_of_result (Some (OfGdb file q)) told reads stores writes status c)
+
+  -- ---- `aranges` and `files`
+
+  causes_of_table : (request : Option Request) (status : Status) → CausesOfTable writes status → Causes request told reads stores writes status
+  causes_of_table request (TableRefused table) c = tt
+  causes_of_table request Answered c = tt
+  causes_of_table request Refused c = tt
+  causes_of_table request Usage c = absurd c
+  causes_of_table request ReadFault c = absurd c
+  causes_of_table request StoreFault c = absurd c
+  causes_of_table request WriteFault c = c
+  causes_of_table request NoMemory c = tt
+  causes_of_table request IndexRefused c = tt
+  causes_of_table request IndexTooLarge c = absurd c
+  causes_of_table request FileTooBig c = absurd c
+  causes_of_table request AlreadyIndexed c = absurd c
+  causes_of_table request TooManySections c = absurd c
+  causes_of_table request InputFault c = absurd c
+  causes_of_table request InputTooLong c = absurd c
+  causes_of_table request Stopped c = absurd c
+
+  says_compared : (status : Status) (text : List ℕ) → SaysAranges bytes status text → Says (Some (OfAranges file)) told heard status text
+  says_compared Answered text h = (bytes, was.holds, h)
+  says_compared Refused text h = (bytes, was.holds, h)
+  says_compared (TableRefused Addresses) text h = (bytes, was.holds, h)
+  says_compared (TableRefused Lines) text h = absurd h
+  says_compared Usage text h = absurd h
+  says_compared ReadFault text h = absurd h
+  says_compared StoreFault text h = absurd h
+  says_compared WriteFault text h = absurd h
+  says_compared NoMemory text h = absurd h
+  says_compared IndexRefused text h = absurd h
+  says_compared IndexTooLarge text h = absurd h
+  says_compared FileTooBig text h = absurd h
+  says_compared AlreadyIndexed text h = absurd h
+  says_compared TooManySections text h = absurd h
+  says_compared InputFault text h = absurd h
+  says_compared InputTooLong text h = absurd h
+  says_compared Stopped text h = absurd h
+
+  pub compared : (status : Status) → Wrote (SaysAranges bytes) status old new → CausesOfTable writes status → Does (Some (OfAranges file)) told shelf heard reads stores writes old new status
+  compared status w c = does (OfAranges file) tt shelf (same_files-refl shelf) status (wrote_weaker (SaysAranges bytes) (Says (Some (OfAranges file)) told heard) says_compared status old new w) (causes_of_table (Some (OfAranges file)) status c)
+
+  module _ (name : List ℕ) where
+    says_listed : (status : Status) (text : List ℕ) → SaysFiles bytes name status text → Says (Some (OfFiles file name)) told heard status text
+    says_listed Answered text h = (bytes, was.holds, h)
+    says_listed Refused text h = (bytes, was.holds, h)
+    says_listed (TableRefused Lines) text h = (bytes, was.holds, h)
+    says_listed (TableRefused Addresses) text h = absurd h
+    says_listed Usage text h = absurd h
+    says_listed ReadFault text h = absurd h
+    says_listed StoreFault text h = absurd h
+    says_listed WriteFault text h = absurd h
+    says_listed NoMemory text h = absurd h
+    says_listed IndexRefused text h = absurd h
+    says_listed IndexTooLarge text h = absurd h
+    says_listed FileTooBig text h = absurd h
+    says_listed AlreadyIndexed text h = absurd h
+    says_listed TooManySections text h = absurd h
+    says_listed InputFault text h = absurd h
+    says_listed InputTooLong text h = absurd h
+    says_listed Stopped text h = absurd h
+
+    pub listed : (status : Status) → Wrote (SaysFiles bytes name) status old new → CausesOfTable writes status → Does (Some (OfFiles file name)) told shelf heard reads stores writes old new status
+    listed status w c = does (OfFiles file name) tt shelf (same_files-refl shelf) status (wrote_weaker (SaysFiles bytes name) (Says (Some (OfFiles file name)) told heard) says_listed status old new w) (causes_of_table (Some (OfFiles file name)) status c)
+
+  -- ---- `cached`
+
+  module _ (store : List ℕ) (q : Query) where
+    says_cached : (status : Status) (text : List ℕ) → SaysCached shelf bytes store q status text → Says (Some (OfCached file store q)) told heard status text
+    says_cached Answered text h = (bytes, was.holds, (h.0, cached_from told shelf was.same h.0 bytes store q ⊤ ⊤ ⊤ ⊤ (λ k. k) (λ s. s) text h.1))
+    says_cached Refused text h = (bytes, was.holds, h)
+    says_cached Usage text h = absurd h
+    says_cached ReadFault text h = absurd h
+    says_cached StoreFault text h = absurd h
+    says_cached WriteFault text h = absurd h
+    says_cached NoMemory text h = absurd h
+    says_cached IndexRefused text h = absurd h
+    says_cached (TableRefused table) text h = absurd h
+    says_cached IndexTooLarge text h = absurd h
+    says_cached FileTooBig text h = absurd h
+    says_cached AlreadyIndexed text h = absurd h
+    says_cached TooManySections text h = absurd h
+    says_cached InputFault text h = absurd h
+    says_cached InputTooLong text h = absurd h
+    says_cached Stopped text h = absurd h
+
+    causes_cached : (status : Status) → CausesOfCached bytes writes status → Causes (Some (OfCached file store q)) told reads stores writes status
+    causes_cached Answered c = tt
+    causes_cached Refused c = tt
+    causes_cached Usage c = absurd c
+    causes_cached ReadFault c = absurd c
+    causes_cached StoreFault c = absurd c
+    causes_cached WriteFault c = c
+    causes_cached NoMemory c = tt
+    causes_cached IndexRefused c = absurd c
+    causes_cached (TableRefused table) c = absurd c
+    causes_cached IndexTooLarge c = (bytes, was.holds, c)
+    causes_cached FileTooBig c = absurd c
+    causes_cached AlreadyIndexed c = absurd c
+    causes_cached TooManySections c = absurd c
+    causes_cached InputFault c = absurd c
+    causes_cached InputTooLong c = absurd c
+    causes_cached Stopped c = absurd c
+
+    cached_leaves : (after : Option Files) (status : Status) → CausesOfCached bytes writes status → LeavesCached bytes store shelf after status → Leaves (Some (OfCached file store q)) told after status
+    cached_leaves after Answered c h = (bytes, was.holds, may_from told shelf was.same after bytes store h)
+    cached_leaves after WriteFault c h = (bytes, was.holds, may_from told shelf was.same after bytes store h)
+    cached_leaves after StoreFault c h = absurd c
+    cached_leaves after Refused c h = same_files-trans told shelf after was.same h
+    cached_leaves after Usage c h = same_files-trans told shelf after was.same h
+    cached_leaves after ReadFault c h = same_files-trans told shelf after was.same h
+    cached_leaves after NoMemory c h = same_files-trans told shelf after was.same h
+    cached_leaves after IndexRefused c h = same_files-trans told shelf after was.same h
+    cached_leaves after (TableRefused table) c h = same_files-trans told shelf after was.same h
+    cached_leaves after IndexTooLarge c h = same_files-trans told shelf after was.same h
+    cached_leaves after FileTooBig c h = same_files-trans told shelf after was.same h
+    cached_leaves after AlreadyIndexed c h = same_files-trans told shelf after was.same h
+    cached_leaves after TooManySections c h = same_files-trans told shelf after was.same h
+    cached_leaves after InputFault c h = same_files-trans told shelf after was.same h
+    cached_leaves after InputTooLong c h = same_files-trans told shelf after was.same h
+    cached_leaves after Stopped c h = same_files-trans told shelf after was.same h
+
+    pub cached_does : (after : Option Files) (status : Status) → Wrote (SaysCached shelf bytes store q) status old new → CausesOfCached bytes writes status → LeavesCached bytes store shelf after status → Does (Some (OfCached file store q)) told after heard reads stores writes old new status
+    cached_does after status w c l = record { wrote = wrote_weaker (SaysCached shelf bytes store q) (Says (Some (OfCached file store q)) told heard) says_cached status old new w; causes = causes_cached status c; leaves = cached_leaves after status c l }
 
   -- ---- `look names`
 
@@ -220,6 +360,7 @@ module _ (told shelf : Option Files) (file bytes : List ℕ) (heard : Heard) (ol
     says_names WriteFault text h = absurd h.2
     says_names NoMemory text h = absurd h.2
     says_names IndexRefused text h = (bytes, was.holds, (h.0, same_whole strings h.0 told shelf was.same h.1, h.2))
+    says_names (TableRefused table) text h = absurd h.2
     says_names IndexTooLarge text h = absurd h.2
     says_names FileTooBig text h = absurd h.2
     says_names AlreadyIndexed text h = absurd h.2
@@ -244,6 +385,7 @@ module _ (told shelf : Option Files) (file bytes : List ℕ) (heard : Heard) (ol
   causes_served wait WriteFault c = c
   causes_served wait NoMemory c = absurd c
   causes_served wait IndexRefused c = absurd c
+  causes_served wait (TableRefused table) c = absurd c
   causes_served wait IndexTooLarge c = absurd c
   causes_served wait FileTooBig c = absurd c
   causes_served wait AlreadyIndexed c = absurd c
@@ -277,6 +419,7 @@ module _ (told shelf : Option Files) (file bytes : List ℕ) (heard : Heard) (ol
     says_index WriteFault text h = absurd h
     says_index NoMemory text h = absurd h
     says_index IndexRefused text h = absurd h
+    says_index (TableRefused table) text h = absurd h
     says_index IndexTooLarge text h = absurd h
     says_index FileTooBig text h = absurd h
     says_index AlreadyIndexed text h = absurd h
@@ -294,6 +437,7 @@ module _ (told shelf : Option Files) (file bytes : List ℕ) (heard : Heard) (ol
     index_causes WriteFault c = c
     index_causes NoMemory c = tt
     index_causes IndexRefused c = tt
+    index_causes (TableRefused table) c = absurd c
     index_causes IndexTooLarge c = (bytes, was.holds, c)
     index_causes FileTooBig c = absurd c
     index_causes AlreadyIndexed c = absurd c
@@ -311,6 +455,7 @@ module _ (told shelf : Option Files) (file bytes : List ℕ) (heard : Heard) (ol
     index_leaves after WriteFault c h = same_files-trans told shelf after was.same h
     index_leaves after NoMemory c h = same_files-trans told shelf after was.same h
     index_leaves after IndexRefused c h = same_files-trans told shelf after was.same h
+    index_leaves after (TableRefused table) c h = same_files-trans told shelf after was.same h
     index_leaves after IndexTooLarge c h = same_files-trans told shelf after was.same h
     index_leaves after FileTooBig c h = absurd c
     index_leaves after AlreadyIndexed c h = absurd c
@@ -341,6 +486,7 @@ module _ (told shelf : Option Files) (file bytes : List ℕ) (heard : Heard) (ol
     says_add WriteFault text h = absurd h
     says_add NoMemory text h = absurd h
     says_add IndexRefused text h = absurd h
+    says_add (TableRefused table) text h = absurd h
     says_add IndexTooLarge text h = absurd h
     says_add FileTooBig text h = absurd h
     says_add AlreadyIndexed text h = absurd h
@@ -358,6 +504,7 @@ module _ (told shelf : Option Files) (file bytes : List ℕ) (heard : Heard) (ol
     add_causes WriteFault c = c
     add_causes NoMemory c = tt
     add_causes IndexRefused c = tt
+    add_causes (TableRefused table) c = absurd c
     add_causes IndexTooLarge c = (bytes, was.holds, c)
     add_causes FileTooBig c = absurd c
     add_causes AlreadyIndexed c = (bytes, was.holds, c)
@@ -375,6 +522,7 @@ module _ (told shelf : Option Files) (file bytes : List ℕ) (heard : Heard) (ol
     add_leaves after WriteFault c h = same_files-trans told shelf after was.same h
     add_leaves after NoMemory c h = same_files-trans told shelf after was.same h
     add_leaves after IndexRefused c h = same_files-trans told shelf after was.same h
+    add_leaves after (TableRefused table) c h = same_files-trans told shelf after was.same h
     add_leaves after IndexTooLarge c h = same_files-trans told shelf after was.same h
     add_leaves after FileTooBig c h = absurd c
     add_leaves after AlreadyIndexed c h = same_files-trans told shelf after was.same h

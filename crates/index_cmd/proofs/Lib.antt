@@ -5,4 +5,8 @@ mod Storings
 mod Beside
 mod Doings
 mod Adding
+mod Tables
+mod Keeping
+mod KeptMeant
+mod KeptUses
 mod Completeness

@@ -9,18 +9,20 @@ use Rattle.outside.specs.Written.{Appends, AppendsPrefix}
 use Rattle.outside.proofs.WrittenLaws.{appends_more, appends_more_prefix}
 use Rattle.command_words.specs.Words.{Wanted, command_of}
 use Rattle.session_commands.specs.Heard.{Heard}
-use Rattle.index_cmd.specs.Requests.{Request, TheHelp, TheVersion, OfFile, OfIndex, OfAdd, OfGdb, OfNames, OfServe, OfRace, OfDrill, AsksFile, AsksIndex, requested, request_of}
-use Rattle.index_cmd.specs.Replies.{Causes, Ends, without_line, with_line, cut, IsAnswer, IsRefusal, IsIndexRefusal, IsStatus, SaysRequest}
+use Rattle.index_cmd.specs.Requests.{Request, TheHelp, TheVersion, OfFile, OfIndex, OfAdd, OfGdb, OfNames, OfServe, OfRace, OfDrill, OfAranges, OfFiles, OfCached, AsksFile, AsksIndex, requested, request_of}
+use Rattle.index_cmd.specs.Replies.{Causes, Ends, without_line, with_line, cut, IsAnswer, IsRefusal, IsIndexRefusal, IsStatus, IsTableRefusal, SaysRequest}
 use Rattle.command_base.specs.Replies.{Wrote, Writes, line_of}
 use Rattle.index_cmd.specs.Results.{Says, SaysNoMemory, WritesPrefix}
 use Rattle.command_base.specs.Statuses.{status_code}
+use Rattle.command_base.specs.declared.status.Table.{Table}
+use Rattle.command_base.specs.declared.status.Table.TheVariants.{Addresses, Lines}
 use Rattle.command_base.specs.declared.status.Status.{Status}
-use Rattle.command_base.specs.declared.status.Status.TheVariants.{Answered, Refused, Usage, ReadFault, StoreFault, WriteFault, NoMemory, IndexRefused, IndexTooLarge, FileTooBig, AlreadyIndexed, TooManySections, InputFault, InputTooLong, Stopped}
+use Rattle.command_base.specs.declared.status.Status.TheVariants.{Answered, Refused, Usage, ReadFault, StoreFault, WriteFault, NoMemory, IndexRefused, TableRefused, IndexTooLarge, FileTooBig, AlreadyIndexed, TooManySections, InputFault, InputTooLong, Stopped}
 
 -- ---- numbers of statuses
 
 from_code : ℕ → Status
-from_code n = if n == 0 then Answered else if n == 1 then Refused else if n == 2 then Usage else if n == 3 then ReadFault else if n == 4 then StoreFault else if n == 5 then WriteFault else if n == 6 then InputFault else if n == 8 then IndexRefused else if n == 9 then IndexTooLarge else if n == 10 then FileTooBig else if n == 12 then AlreadyIndexed else if n == 13 then TooManySections else InputTooLong
+from_code n = if n == 0 then Answered else if n == 1 then Refused else if n == 2 then Usage else if n == 3 then ReadFault else if n == 4 then StoreFault else if n == 5 then WriteFault else if n == 6 then InputFault else if n == 8 then IndexRefused else if n == 9 then IndexTooLarge else if n == 10 then FileTooBig else if n == 12 then AlreadyIndexed else if n == 13 then TooManySections else if n == 14 then TableRefused Addresses else if n == 15 then TableRefused Lines else InputTooLong
 
 -- 7 alone is the number of two
 code_back : (status : Status) → (status_code status ≡ 7 → ⊥) → from_code (status_code status) ≡ status
@@ -33,6 +35,8 @@ code_back StoreFault n = refl
 code_back WriteFault n = refl
 code_back InputFault n = refl
 code_back IndexRefused n = refl
+code_back (TableRefused Addresses) n = refl
+code_back (TableRefused Lines) n = refl
 code_back IndexTooLarge n = refl
 code_back FileTooBig n = refl
 code_back AlreadyIndexed n = refl
@@ -52,6 +56,7 @@ abbrev pub IsTold : Status → Type 0
 IsTold Answered = ⊤
 IsTold Refused = ⊤
 IsTold IndexRefused = ⊤
+IsTold (TableRefused table) = ⊤
 IsTold InputFault = ⊤
 IsTold InputTooLong = ⊤
 IsTold other = ⊥
@@ -60,6 +65,7 @@ told_no_line : (status : Status) → IsTold status → line_of status ≡ None
 told_no_line Answered t = refl
 told_no_line Refused t = refl
 told_no_line IndexRefused t = refl
+told_no_line (TableRefused table) t = refl
 told_no_line InputFault t = refl
 told_no_line InputTooLong t = refl
 told_no_line Usage t = absurd t
@@ -77,6 +83,8 @@ told_not_7 : (status : Status) → IsTold status → status_code status ≡ 7 �
 told_not_7 Answered t e = omega (arith, e)
 told_not_7 Refused t e = omega (arith, e)
 told_not_7 IndexRefused t e = omega (arith, e)
+told_not_7 (TableRefused Addresses) t e = omega (arith, e)
+told_not_7 (TableRefused Lines) t e = omega (arith, e)
 told_not_7 InputFault t e = omega (arith, e)
 told_not_7 InputTooLong t e = omega (arith, e)
 told_not_7 Usage t e = t
@@ -139,6 +147,8 @@ module _ (request : Option Request) (told : Option Files) (heard : Heard) (reads
   no_memory_line WriteFault text e is = absurd (omega (arith, e))
   no_memory_line InputFault text e is = absurd (omega (arith, e))
   no_memory_line IndexRefused text e is = absurd (omega (arith, e))
+  no_memory_line (TableRefused Addresses) text e is = absurd (omega (arith, e))
+  no_memory_line (TableRefused Lines) text e is = absurd (omega (arith, e))
   no_memory_line IndexTooLarge text e is = absurd (omega (arith, e))
   no_memory_line FileTooBig text e is = absurd (omega (arith, e))
   no_memory_line AlreadyIndexed text e is = absurd (omega (arith, e))
@@ -169,6 +179,9 @@ says_plain (Some (OfIndex kind file out)) p told heard status text h = h
 says_plain (Some (OfAdd kind file out)) p told heard status text h = h
 says_plain (Some (OfGdb index q)) p told heard status text h = h
 says_plain (Some (OfNames base index strings name)) p told heard status text h = h
+says_plain (Some (OfAranges file)) p told heard status text h = h
+says_plain (Some (OfFiles file name)) p told heard status text h = h
+says_plain (Some (OfCached file store q)) p told heard status text h = h
 says_plain (Some (OfServe wait file)) p told heard status text h = absurd p
 says_plain (Some (OfRace readers file script)) p told heard status text h = absurd p
 says_plain (Some (OfDrill seed units)) p told heard status text h = absurd p
@@ -179,6 +192,7 @@ module _ (request : Option Request) (told : Option Files) (reads stores writes :
     answers : Writes old new (IsAnswer request told) → Plain Answered
     refuses : Writes old new (IsRefusal request told) → Plain Refused
     index_refuses : Writes old new (IsIndexRefusal request told) → Plain IndexRefused
+    table_refuses : (table : Table) → Writes old new (IsTableRefusal request table told) → Plain (TableRefused table)
     plain_lines : {status : Status} (text : List ℕ) → line_of status ≡ Some text → Causes request told reads stores writes status → Plain status
     plain_fails : writes → Plain WriteFault
 
@@ -187,6 +201,7 @@ module _ (request : Option Request) (told : Option Files) (reads stores writes :
     plain Answered (tells t w) = answers (w.0, f Answered w.0 w.1, w.2)
     plain Refused (tells t w) = refuses (w.0, f Refused w.0 w.1, w.2)
     plain IndexRefused (tells t w) = index_refuses (w.0, f IndexRefused w.0 w.1, w.2)
+    plain (TableRefused table) (tells t w) = table_refuses table (w.0, f (TableRefused table) w.0 w.1, w.2)
     plain InputFault (tells t w) = absurd (f InputFault w.0 w.1)
     plain InputTooLong (tells t w) = absurd (f InputTooLong w.0 w.1)
     plain Usage (tells t w) = absurd t
@@ -214,6 +229,9 @@ asks (Some (OfNames base index strings name)) P (inr h) = h
 asks (Some (OfServe wait file)) P h = h
 asks (Some (OfRace readers file script)) P (inl h) = h
 asks (Some (OfRace readers file script)) P (inr h) = h
+asks (Some (OfAranges file)) P h = h
+asks (Some (OfFiles file name)) P h = h
+asks (Some (OfCached file store q)) P h = h
 asks (Some (OfDrill seed units)) P h = absurd h
 asks (Some TheHelp) P h = absurd h
 asks (Some TheVersion) P h = absurd h
@@ -228,6 +246,9 @@ asks_index (Some (OfNames base index strings name)) P h = absurd h
 asks_index (Some (OfServe wait file)) P h = absurd h
 asks_index (Some (OfRace readers file script)) P h = absurd h
 asks_index (Some (OfDrill seed units)) P h = absurd h
+asks_index (Some (OfAranges file)) P h = absurd h
+asks_index (Some (OfFiles file name)) P h = absurd h
+asks_index (Some (OfCached file store q)) P h = absurd h
 asks_index (Some TheHelp) P h = absurd h
 asks_index (Some TheVersion) P h = absurd h
 asks_index None P h = absurd h
@@ -250,6 +271,7 @@ module _ (request : Option Request) (told : Option Files) (heard : Heard) (reads
   cause_up Stopped c = tt
   cause_up StoreFault c = c
   cause_up IndexRefused c = tt
+  cause_up (TableRefused table) c = tt
   cause_up IndexTooLarge c = c
 
   -- a status with a line wrote nothing before it
@@ -266,6 +288,7 @@ module _ (request : Option Request) (told : Option Files) (heard : Heard) (reads
   nothing StoreFault line old mid has w = w
   nothing IndexTooLarge line old mid has w = w
   nothing IndexRefused line old mid has w = absurd (cc has)
+  nothing (TableRefused table) line old mid has w = absurd (cc has)
   nothing InputFault line old mid has w = absurd (cc has)
   nothing InputTooLong line old mid has w = absurd (cc has)
   nothing Stopped line old mid has w = absurd (cc has)
@@ -283,6 +306,7 @@ module _ (request : Option Request) (told : Option Files) (heard : Heard) (reads
   without StoreFault old new none w c = absurd (cc none)
   without IndexTooLarge old new none w c = absurd (cc none)
   without IndexRefused old new none w c = tells tt w
+  without (TableRefused table) old new none w c = tells tt w
   without InputFault old new none w c = tells tt w
   without InputTooLong old new none w c = tells tt w
   without Stopped old new none w c = stops w.0 w.1 w.2
@@ -311,6 +335,8 @@ is_status FileTooBig = (10, omega arith, refl)
 is_status InputTooLong = (11, omega arith, refl)
 is_status AlreadyIndexed = (12, omega arith, refl)
 is_status TooManySections = (13, omega arith, refl)
+is_status (TableRefused Addresses) = (14, omega arith, refl)
+is_status (TableRefused Lines) = (15, omega arith, refl)
 
 module _ (told : Option Files) (reads stores writes : Type 0) (old new : Option (List ℕ)) where
   -- where nothing is asked, that is said, or memory was refused, or a write failed
@@ -318,6 +344,7 @@ module _ (told : Option Files) (reads stores writes : Type 0) (old new : Option 
   no_request status (answers w) = absurd w.1
   no_request status (refuses w) = absurd w.1
   no_request status (index_refuses w) = absurd w.1
+  no_request status (table_refuses table w) = absurd w.1
   no_request status (plain_fails f) = inr (inl (refl, f))
   no_request Usage (plain_lines text is c) = inl refl
   no_request NoMemory (plain_lines text is c) = inr (inr refl)
@@ -331,6 +358,7 @@ module _ (told : Option Files) (reads stores writes : Type 0) (old new : Option 
   no_request StoreFault (plain_lines text is c) = absurd c
   no_request IndexTooLarge (plain_lines text is c) = absurd c
   no_request IndexRefused (plain_lines text is c) = absurd (cc is)
+  no_request (TableRefused table) (plain_lines text is c) = absurd (cc is)
   no_request InputFault (plain_lines text is c) = absurd (cc is)
   no_request InputTooLong (plain_lines text is c) = absurd (cc is)
   no_request Stopped (plain_lines text is c) = absurd (cc is)

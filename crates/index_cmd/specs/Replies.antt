@@ -7,14 +7,21 @@ use Rattle.outside.specs.Written.{Appends, AppendsPrefix}
 use Rattle.command_base.specs.FilesRead.{HoldsMore}
 use Rattle.command_base.specs.Replies.{IsAnswerOf, IsRefusalOf, OfFileBytes, IsTooLarge, IsMeant, OfWholeFile, line_of}
 use Rattle.command_base.specs.declared.status.Status.{Status}
-use Rattle.command_base.specs.declared.status.Status.TheVariants.{Answered, Refused, Usage, ReadFault, StoreFault, WriteFault, InputFault, NoMemory, IndexRefused, IndexTooLarge, FileTooBig, AlreadyIndexed, TooManySections, InputTooLong, Stopped}
+use Rattle.command_base.specs.declared.status.Status.TheVariants.{Answered, Refused, Usage, ReadFault, StoreFault, WriteFault, InputFault, NoMemory, IndexRefused, TableRefused, IndexTooLarge, FileTooBig, AlreadyIndexed, TooManySections, InputTooLong, Stopped}
+use Rattle.command_base.specs.Tables.{IsTableMeant}
+use Rattle.command_base.specs.declared.status.Table.{Table}
+use Rattle.command_base.specs.declared.status.Table.TheVariants.{Addresses, Lines}
+use Rattle.aranges_command.specs.Comparisons.{IsArangesRefusalOf, IsComparisonOf, sets_of}
+use Rattle.cached_command.specs.Cached.{IsCachedMeant, SaysCached}
+use Rattle.cached_command.specs.Caches.{IsTooLarge as KeepsTooLarge}
+use Rattle.files_command.specs.Listings.{IsListingOf, IsFilesRefusalOf, found_by}
 use Rattle.drill_command.specs.Drills.{HasTooLarge}
-use Rattle.index_commands.specs.GdbLooks.{IsGdbAnswerOf, IsGdbRefusalOf, IsLookMeant}
+use Rattle.command_base.specs.GdbLooks.{IsGdbAnswerOf, IsGdbRefusalOf, IsLookMeant}
 use Rattle.index_commands.specs.Indexes.{IsIndexMeant}
 use Rattle.index_commands.specs.NamesLooks.{IsNamesAnswerOf, IsNamesMeant, IsNamesRefusalOf}
 use Rattle.index_commands.specs.Stores.{ForIndex}
 use Rattle.add_command.specs.Adds.{ForNamedProgram, HasIndex, HasNoRoom, HasTooLarge as AddsTooLarge, IsAddMeant}
-use Rattle.index_cmd.specs.Requests.{Request, TheHelp, TheVersion, OfFile, OfIndex, OfAdd, OfGdb, OfNames, OfServe, OfRace, OfDrill, AsksFile, AsksProgram, AsksIndex}
+use Rattle.index_cmd.specs.Requests.{Request, TheHelp, TheVersion, OfFile, OfIndex, OfAdd, OfGdb, OfNames, OfServe, OfRace, OfDrill, OfAranges, OfFiles, OfCached, AsksFile, AsksProgram, AsksIndex}
 use Rattle.index_cmd.specs.declared.about.TheConstants as about
 
 -- ---- texts
@@ -32,6 +39,9 @@ IsAnswer (Some (OfNames base index strings name)) told text = OfFileBytes told i
 IsAnswer (Some (OfServe wait file)) told text = ⊥
 IsAnswer (Some (OfRace readers file script)) told text = ⊥
 IsAnswer (Some (OfDrill seed units)) told text = ⊥
+IsAnswer (Some (OfAranges file)) told text = OfFileBytes told file (λ bytes. IsComparisonOf bytes text)
+IsAnswer (Some (OfFiles file name)) told text = OfFileBytes told file (λ bytes. IsListingOf bytes name text)
+IsAnswer (Some (OfCached file store q)) told text = OfFileBytes told file (λ bytes. SaysCached told bytes store q Answered text)
 
 -- the text is that of the first fault of the file that was asked
 abbrev pub IsRefusal : Option Request → Option Files → List ℕ → Type 0
@@ -43,6 +53,12 @@ IsIndexRefusal (Some (OfGdb index q)) told text = OfFileBytes told index (λ byt
 IsIndexRefusal (Some (OfNames base index strings name)) told text = OfFileBytes told index (λ bytes. OfFileBytes told strings (λ held. IsNamesRefusalOf bytes held base text))
 IsIndexRefusal other told text = ⊥
 
+-- the text is that of the first fault of the table that was asked
+abbrev pub IsTableRefusal : Option Request → Table → Option Files → List ℕ → Type 0
+IsTableRefusal (Some (OfAranges file)) Addresses told text = OfFileBytes told file (λ bytes. IsArangesRefusalOf bytes text)
+IsTableRefusal (Some (OfFiles file name)) Lines told text = OfFileBytes told file (λ bytes. IsFilesRefusalOf bytes name text)
+IsTableRefusal other table told text = ⊥
+
 -- ---- results
 
 -- what the text of a result says, by its status, of what was asked
@@ -50,6 +66,7 @@ abbrev pub SaysRequest : Option Request → Option Files → Status → List ℕ
 SaysRequest request told Answered text = IsAnswer request told text
 SaysRequest request told Refused text = IsRefusal request told text
 SaysRequest request told IndexRefused text = IsIndexRefusal request told text
+SaysRequest request told (TableRefused table) text = IsTableRefusal request table told text
 SaysRequest request told other text = ⊥
 
 -- ---- statuses
@@ -58,6 +75,7 @@ SaysRequest request told other text = ⊥
 abbrev pub MakesTooLarge : Option Request → Option Files → Type 0
 MakesTooLarge (Some (OfIndex kind file out)) told = ForIndex told file kind IsTooLarge
 MakesTooLarge (Some (OfAdd kind file out)) told = ForNamedProgram told file kind (AddsTooLarge kind)
+MakesTooLarge (Some (OfCached file store q)) told = OfFileBytes told file KeepsTooLarge
 MakesTooLarge (Some (OfDrill seed units)) told = HasTooLarge (generated_file seed units)
 MakesTooLarge other told = ⊥
 
@@ -76,6 +94,7 @@ abbrev pub Causes : Option Request → Option Files → Type 0 → Type 0 → Ty
 Causes request told reads stores writes Answered = ⊤
 Causes request told reads stores writes Refused = ⊤
 Causes request told reads stores writes IndexRefused = ⊤
+Causes request told reads stores writes (TableRefused table) = ⊤
 Causes request told reads stores writes NoMemory = ⊤
 Causes request told reads stores writes InputFault = ⊤
 Causes request told reads stores writes InputTooLong = ⊤
@@ -97,7 +116,7 @@ pub data Ends (status : Status) (old new : Option (List ℕ)) (failed : Type 0) 
 
 -- the numbers of the statuses that come
 abbrev pub IsStatus : ℕ → Type 0
-IsStatus n = Contains (0 ∷ 1 ∷ 2 ∷ 3 ∷ 4 ∷ 5 ∷ 6 ∷ 7 ∷ 8 ∷ 9 ∷ 10 ∷ 11 ∷ 12 ∷ 13 ∷ []) n
+IsStatus n = Contains (0 ∷ 1 ∷ 2 ∷ 3 ∷ 4 ∷ 5 ∷ 6 ∷ 7 ∷ 8 ∷ 9 ∷ 10 ∷ 11 ∷ 12 ∷ 13 ∷ 14 ∷ 15 ∷ []) n
 
 -- Where nothing failed, the status is that of what was asked, or want of memory: of a file within the limit, that of its meaning.
 -- Of sessions and of generated programs nothing is said here.
@@ -110,6 +129,9 @@ IsComplete (Some (OfIndex kind file out)) told reads stores writes status = OfWh
 IsComplete (Some (OfAdd kind file out)) told reads stores writes status = OfWholeFile MAX_FILE_BYTES told file reads writes (λ bytes. (stores → ⊥) → IsAddMeant bytes kind status)
 IsComplete (Some (OfGdb index q)) told reads stores writes status = OfWholeFile MAX_FILE_BYTES told index reads writes (λ bytes. IsLookMeant bytes status)
 IsComplete (Some (OfNames base index strings name)) told reads stores writes status = OfWholeFile MAX_FILE_BYTES told index reads writes (λ bytes. OfWholeFile MAX_FILE_BYTES told strings reads writes (λ held. IsNamesMeant bytes held base status))
+IsComplete (Some (OfAranges file)) told reads stores writes status = OfWholeFile MAX_FILE_BYTES told file reads writes (λ bytes. IsTableMeant bytes sets_of 14 status)
+IsComplete (Some (OfFiles file name)) told reads stores writes status = OfWholeFile MAX_FILE_BYTES told file reads writes (λ bytes. IsTableMeant bytes (found_by name) 15 status)
+IsComplete (Some (OfCached file store q)) told reads stores writes status = OfWholeFile MAX_FILE_BYTES told file reads writes (λ bytes. IsCachedMeant bytes status)
 IsComplete (Some (OfServe wait file)) told reads stores writes status = ⊤
 IsComplete (Some (OfRace readers file script)) told reads stores writes status = ⊤
 IsComplete (Some (OfDrill seed units)) told reads stores writes status = ⊤

@@ -4,7 +4,7 @@ ghost use Rattle.std.specs.Prelude.{◌≡◌, IfOk, Some, option_map};
 ghost use Rattle.std.specs.Option.{ForSome};
 ghost use Rattle.index_model.specs.Seen.{query_seen};
 ghost use Rattle.command_words.specs.Words.{query_text};
-ghost use Rattle.index_commands.specs.GdbLooks.{offer_gdb};
+ghost use Rattle.command_base.specs.GdbLooks.{offer_gdb};
 ghost use Rattle.index_cmd.specs.Requests.{offered_gdb, offered_name};
 ghost use Rattle.command_words.specs.SeenWords.{words_of};
 

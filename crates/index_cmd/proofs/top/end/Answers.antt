@@ -17,6 +17,9 @@ returns-in-Answered-clause-ends g c = no_line c.args.status (g.K.Sink.written c.
     by s (inr (inr (inr (inr (inr (inl e)))))) = ap line_of e
     by s (inr (inr (inr (inr (inr (inr e)))))) = ap line_of e
 
+pub returns-in-TableRefused-clause-ends : goal.returns-in-TableRefused-clause-ends
+returns-in-TableRefused-clause-ends g c = no_line c.args.status (g.K.Sink.written c.args.out.now) _ (ap line_of c.in-TableRefused.is)
+
 pub returns-in-Usage-clause-ends : goal.returns-in-Usage-clause-ends
 returns-in-Usage-clause-ends g c = line_said c.args.status c.say.result (g.K.Sink.written c.args.out.now) (g.K.Sink.written c.say.new.out) _ _ (ap line_of c.in-Usage.is) c.say.ensures.said c.say.ensures.either c.say.ensures.fault c.say.ensures.left
 
