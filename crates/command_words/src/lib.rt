@@ -2,7 +2,6 @@
 #![tactic(auto)]
 
 mod drill_words;
-mod kept_words;
 mod number;
 mod options;
 mod session_words;
@@ -10,7 +9,6 @@ mod table_words;
 mod words;
 
 pub use drill_words::Drill;
-pub use kept_words::Cached;
 pub use session_words::{Race, Serve};
 pub use table_words::{Aranges, Files};
 pub use words::{Ask, Command, Index, LookGdb, LookNames, parse_command};

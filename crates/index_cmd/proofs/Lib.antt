@@ -6,7 +6,4 @@ mod Beside
 mod Doings
 mod Adding
 mod Tables
-mod Keeping
-mod KeptMeant
-mod KeptUses
 mod Completeness

@@ -1,7 +1,6 @@
 pub mod Requests
 pub mod Replies
 pub mod Stores
-pub mod Caching
 pub mod Results
 pub mod Tasks
 pub mod Doings

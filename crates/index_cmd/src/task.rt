@@ -2,13 +2,13 @@
 
 ghost use Rattle.std.specs.Prelude.{◌≡◌, ◌<◌, ◌≤◌, option_map};
 ghost use Rattle.std.specs.Option.{ForSome};
-ghost use Rattle.command_words.specs.SeenWords.{seen_ask, seen_cached, seen_command, seen_look, seen_names, words_of, HasWorkers};
+ghost use Rattle.command_words.specs.SeenWords.{seen_ask, seen_command, seen_look, seen_names, words_of, HasWorkers};
 ghost use Rattle.command_words.specs.Words.{query_text};
-ghost use Rattle.index_cmd.specs.Requests.{asked, kept, looked, looked_names, requested};
+ghost use Rattle.index_cmd.specs.Requests.{asked, looked, looked_names, requested};
 ghost use Rattle.index_cmd.specs.Tasks.{query_words, request_seen, IsInBounds};
 
 use crate::line::{offered_gdb, offered_name};
-use command_words::{Ask, Cached, Command, LookGdb, LookNames};
+use command_words::{Ask, Command, LookGdb, LookNames};
 use index_model::{CacheKind, Query};
 use query_text::parse;
 
@@ -60,11 +60,6 @@ pub(crate) enum Action<'w> {
     Aranges,
     /// The source files with this name.
     Files(&'w str),
-    Cached {
-        /// What stands before the names of kept indexes.
-        store: &'w str,
-        query: Query<'w>,
-    },
 }
 
 /// The words of the query of a command. There are none where it has no query.
@@ -75,7 +70,6 @@ pub(crate) fn query_words<'w>(command: &Command<'w>) -> &'w [String]
         Command::Ask(words) => words.query,
         Command::LookGdb(words) => words.query,
         Command::LookNames(words) => words.query,
-        Command::Cached(words) => words.query,
         Command::Help
         | Command::Version
         | Command::Index(_)
@@ -103,7 +97,6 @@ pub(crate) fn workers(command: &Command<'_>) -> u32
         Command::Drill(words) => words.workers,
         Command::Aranges(words) => words.workers,
         Command::Files(words) => words.workers,
-        Command::Cached(words) => words.workers,
         Command::Help | Command::Version | Command::LookGdb(_) | Command::LookNames(_) => 1,
     }
 }
@@ -154,7 +147,6 @@ pub(crate) fn task_for<'w>(command: &Command<'w>, line: &'w [u8]) -> Option<Task
             file: words.file,
             action: Action::Files(words.name),
         })),
-        Command::Cached(words) => cached(words, line),
         Command::Drill(words) => Some(Task::Drill {
             seed: words.seed,
             units: words.units,
@@ -185,22 +177,6 @@ fn looked<'w>(words: &LookGdb<'w>, line: &'w [u8]) -> Option<Task<'w>>
     Some(Task::OnFile(OnFile {
         file: words.index,
         action: Action::LookGdb(query),
-    }))
-}
-
-// A query of an index that may be kept.
-fn cached<'w>(words: &Cached<'w>, line: &'w [u8]) -> Option<Task<'w>>
-    requires { line.now ≡ query_text (seen_cached words.now).query }
-    ensures request { option_map request_seen result ≡ kept (seen_cached words.now) }
-    ensures bounds { ForSome result IsInBounds }
-{
-    let query = offered_gdb(line)?;
-    Some(Task::OnFile(OnFile {
-        file: words.file,
-        action: Action::Cached {
-            store: words.store,
-            query,
-        },
     }))
 }
 
