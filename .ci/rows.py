@@ -16,8 +16,10 @@ FOLDERS = (os.path.join(os.path.dirname(HERE), "tools", "rows"), os.path.join(HE
 # What lies in a row's folder beside the files that the program reads.
 TOLD = {"args", "stdin", "stdout", "status", "expect", "dirs"}
 # How many words stand before the option of the number of workers.
-BEFORE_WORKERS = {"add": 3, "ask": 1, "index": 3, "race": 1, "serve": 1}
+BEFORE_WORKERS = {"add": 3, "aranges": 1, "ask": 1, "cached": 1, "files": 1, "index": 3, "race": 1, "serve": 1}
 WORKERS = (1, 2, 8, 64)
+# Commands that the program doesn't have yet: their rows are vectors alone.
+LATER = {"cached"}
 
 
 def read(path, otherwise=b""):
@@ -28,8 +30,9 @@ def read(path, otherwise=b""):
 
 
 def files_in(folder):
-    names = os.listdir(folder) if os.path.isdir(folder) else ()
-    return {name: read(os.path.join(folder, name)) for name in names if os.path.isfile(os.path.join(folder, name))}
+    """The files in a folder and in those inside it, by their names from there."""
+    paths = (os.path.join(base, name) for base, _, names in os.walk(folder) for name in names)
+    return {os.path.relpath(path, folder): read(path) for path in paths}
 
 
 def words_of(row):
@@ -75,6 +78,8 @@ def main():
     passed, failed = 0, 0
     for row in sorted(os.path.join(folder, name) for folder in FOLDERS for name in os.listdir(folder)):
         words = words_of(row)
+        if LATER.intersection(words[:1]):
+            continue
         for run in runs_of(words):
             wrong = differs(program, row, run)
             if wrong is None:
