@@ -3,8 +3,8 @@
 
 Has PROGRAM compare the address tables of compiled programs in C, C++, Ada and Rust, of a library's debug file where one is installed, or
 of these files, with the ranges of their units. It has to write the first address with two answers that follows from the pairs that
-readelf shows of the table and from the ranges that llvm-dwarfdump shows of the roots, with any number of workers. Each table is then
-damaged: a pair gets a byte more or a byte less, and the answer has to follow. A compiler that is missing is said and passed over.
+readelf and llvm-dwarfdump alike show of the table and from the ranges that llvm-dwarfdump shows of the roots, with any number of workers.
+Each table is then damaged: a pair gets a byte more or a byte less, and the answer has to follow. A compiler that is missing is said and passed over.
 The last line is 'aranges: N passed, M failed'."""
 import heapq
 import os
@@ -86,6 +86,24 @@ def pairs(file):
             yield offset, int(pair.group(1), 16), int(pair.group(2), 16)
 
 
+def other_pairs(file):
+    """The same pairs as llvm-dwarfdump shows them, which leaves out how a set ends."""
+    offset = None
+    for line in lines_of("llvm-dwarfdump", "--debug-aranges", file):
+        header = re.search(r"cu_offset = 0x([0-9a-f]+)", line)
+        offset = int(header.group(1), 16) if header else offset
+        pair = RANGE.match(line)
+        if pair:
+            low, end = (int(word, 16) for word in pair.groups())
+            yield offset, low, end - low
+
+
+def wrong_pairs(file):
+    """What readelf and llvm-dwarfdump tell differently of the table: then neither is a witness."""
+    one, other = ({pair for pair in shown(file) if pair[2]} for shown in (pairs, other_pairs))
+    yield None if one == other else "readelf and llvm-dwarfdump differ in %s" % sorted(one ^ other)[:3]
+
+
 def steps(ranges):
     """Each address at which the least unit changes, with the unit from there on, or None. A range is (unit, low, end)."""
     edges = sorted({edge for _, low, end in ranges for edge in (low, end)})
@@ -161,6 +179,7 @@ def wrong_program(program, file, folder):
     units = roots(file)
     numbers = {offset: number for number, (offset, _, _) in enumerate(units)}
     own = [(number, low, end) for number, root in enumerate(units) for low, end in own_ranges(root) if counts(low, end)]
+    yield from wrong_pairs(file)
     yield from wrong_answer(program, file, wanted_of(file, own, numbers)) if own else ("llvm-dwarfdump shows no range",)
     for copy in damaged(file, folder):
         yield from wrong_answer(program, copy, wanted_of(copy, own, numbers), WORKERS[:1])
