@@ -3,6 +3,7 @@ pub mod WordParts
 pub mod Taken
 pub mod SessionWords
 pub mod TableWords
+pub mod KeptWords
 pub mod DrillWords
 pub mod Words
 pub mod SeenWords

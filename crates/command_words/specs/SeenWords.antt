@@ -10,6 +10,7 @@ use Rattle.command_words.specs.declared.words.LookNames.{LookNames}
 use Rattle.command_words.specs.declared.session_words.Serve.{Serve}
 use Rattle.command_words.specs.declared.session_words.Race.{Race}
 use Rattle.command_words.specs.declared.drill_words.Drill.{Drill}
+use Rattle.command_words.specs.declared.kept_words.Cached.{Cached}
 use Rattle.command_words.specs.declared.table_words.Aranges.{Aranges}
 use Rattle.command_words.specs.declared.table_words.Files.{Files}
 use Rattle.command_words.specs.declared.options.Counted.{Counted}
@@ -17,6 +18,7 @@ use Rattle.command_words.specs.declared.options.Named.{Named}
 use Rattle.command_words.specs.declared.options.NamedTwo.{NamedTwo}
 use Rattle.command_words.specs.DrillWords.{Drilled}
 use Rattle.command_words.specs.SessionWords.{Raced, Served, Counted as CountedOf}
+use Rattle.command_words.specs.KeptWords.{Kept}
 use Rattle.command_words.specs.TableWords.{Compared, Sought}
 use Rattle.command_words.specs.Taken.{Named as NamedOf, NamedTwo as NamedTwoOf}
 use Rattle.command_words.specs.WordParts.{Workers}
@@ -70,6 +72,9 @@ seen_aranges a = record { workers = a.workers; file = a.file.now }
 abbrev pub seen_files : Files → Sought
 seen_files f = record { workers = f.workers; file = f.file.now; name = f.name.now }
 
+abbrev pub seen_cached : Cached → Kept
+seen_cached c = record { workers = c.workers; file = c.file.now; store = c.store.now; query = words_of c.query.now }
+
 abbrev pub seen_command : Command → grammar.Wanted
 seen_command code.Help = grammar.Help
 seen_command code.Version = grammar.Version
@@ -83,6 +88,7 @@ seen_command (code.Race r) = grammar.Race (seen_race r)
 seen_command (code.Drill d) = grammar.Drill (seen_drill d)
 seen_command (code.Aranges a) = grammar.Aranges (seen_aranges a)
 seen_command (code.Files f) = grammar.Files (seen_files f)
+seen_command (code.Cached c) = grammar.Cached (seen_cached c)
 
 -- 1 to 64 workers
 pub record IsWorkers (workers : ℕ) : Type 0 where
@@ -124,3 +130,4 @@ HasWorkers (code.Race r) = IsRace r
 HasWorkers (code.Drill d) = IsDrill d
 HasWorkers (code.Aranges a) = IsWorkers a.workers
 HasWorkers (code.Files f) = IsWorkers f.workers
+HasWorkers (code.Cached c) = IsWorkers c.workers

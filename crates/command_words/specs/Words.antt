@@ -1,5 +1,5 @@
 -- The words of a command line, each as its bytes: `ask [--workers N] FILE QUERY`, `index --as KIND [--workers N] FILE OUT`,
--- `look gdb INDEX QUERY`, `look names [--base B] INDEX STRINGS QUERY`, `aranges`, `files`, `serve`, `race`, `drill`, `--help`, `--version`.
+-- `look gdb INDEX QUERY`, `look names [--base B] INDEX STRINGS QUERY`, `aranges`, `files`, `cached`, `serve`, `race`, `drill`, `--help`, `--version`.
 use Rattle.std.specs.Prelude.{ℕ, ◌&&◌, nat_lt, ◌==◌, if◌then◌else◌, List, [], ◌∷◌, length, bytes_eq, codes, Option, Some, None, option_map, option_and_then}
 use Rattle.std.specs.List.{join_with_byte}
 use Rattle.index_model.specs.declared.job.CacheKind.{CacheKind}
@@ -7,6 +7,7 @@ use Rattle.index_model.specs.declared.job.CacheKind.TheVariants.{Gdb8, Gdb9, Nam
 use Rattle.command_words.specs.Numbers.{number_between}
 use Rattle.command_words.specs.DrillWords.{Drilled, drill_of}
 use Rattle.command_words.specs.SessionWords.{Raced, Served, race_of, serve_of}
+use Rattle.command_words.specs.KeptWords.{Kept, kept_of}
 use Rattle.command_words.specs.TableWords.{Compared, Sought, aranges_of, sought_of}
 use Rattle.command_words.specs.WordParts.{is_file_name, workers_and_others}
 
@@ -48,6 +49,7 @@ pub data Wanted : Type 0 where
   Drill : Drilled → Wanted
   Aranges : Compared → Wanted
   Files : Sought → Wanted
+  Cached : Kept → Wanted
 
 -- the base of the strings, and the words behind it
 pub record Based : Type 0 where
@@ -117,9 +119,9 @@ look_of (word ∷ others) = if bytes_eq word (codes "gdb") then option_map LookG
 abbrev pub about : List ℕ → Option Wanted
 about word = if bytes_eq word (codes "--help") then Some Help else if bytes_eq word (codes "--version") then Some Version else None
 
--- a command that reads a table of a program
+-- a command that reads a table of a program, or answers from a kept index
 abbrev pub table_command : List ℕ → List (List ℕ) → Option Wanted
-table_command word others = if bytes_eq word (codes "aranges") then option_map Aranges (aranges_of others) else if bytes_eq word (codes "files") then option_map Files (sought_of others) else None
+table_command word others = if bytes_eq word (codes "aranges") then option_map Aranges (aranges_of others) else if bytes_eq word (codes "files") then option_map Files (sought_of others) else if bytes_eq word (codes "cached") then option_map Cached (kept_of others) else None
 
 -- a command that answers while it builds, or reads a table
 abbrev pub session_command : List ℕ → List (List ℕ) → Option Wanted

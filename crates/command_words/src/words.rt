@@ -6,6 +6,7 @@ ghost use Rattle.command_words.specs.Words.{about, ask_of, command_of, file_and_
 ghost use Rattle.command_words.specs.SeenWords.{seen_ask, seen_index, seen_look, seen_names, seen_command, words_of, HasWorkers, IsWorkers};
 
 use crate::drill_words::{Drill, parse_drill};
+use crate::kept_words::{Cached, parse_cached};
 use crate::options::{Named, split_base, split_file, split_two_files, split_workers};
 use crate::session_words::{Race, Serve, parse_race, parse_serve};
 use crate::table_words::{Aranges, Files, parse_aranges, parse_files};
@@ -26,6 +27,7 @@ pub enum Command<'w> {
     Drill(Drill),
     Aranges(Aranges<'w>),
     Files(Files<'w>),
+    Cached(Cached<'w>),
 }
 
 /// `ask [--workers N] FILE QUERY`.
@@ -123,7 +125,7 @@ fn session_command<'w>(word: &str, others: &'w [String]) -> Option<Command<'w>>
     }
 }
 
-// One that reads a table of a program.
+// One that reads a table of a program, or answers from a kept index.
 fn table_command<'w>(word: &str, others: &'w [String]) -> Option<Command<'w>>
     ensures value { option_map seen_command result ≡ table_command word.now (words_of others.now) }
     ensures workers { ForSome result HasWorkers }
@@ -132,6 +134,8 @@ fn table_command<'w>(word: &str, others: &'w [String]) -> Option<Command<'w>>
         Some(Command::Aranges(parse_aranges(others)?))
     } else if word == "files" {
         Some(Command::Files(parse_files(others)?))
+    } else if word == "cached" {
+        Some(Command::Cached(parse_cached(others)?))
     } else {
         None
     }

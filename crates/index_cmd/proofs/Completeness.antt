@@ -15,7 +15,7 @@ use Rattle.index_model.proofs.Meanings.{same_ok}
 use Rattle.index_model.specs.Sections.{Section}
 use Rattle.outside.specs.Files.{Files, Stored}
 use Rattle.session_commands.specs.declared.script.TheConstants.{MAX_SCRIPT_BYTES}
-use Rattle.index_cmd.specs.Requests.{Request, TheHelp, TheVersion, OfFile, OfIndex, OfAdd, OfGdb, OfNames, OfServe, OfRace, OfDrill, OfAranges, OfFiles, AsksFile, AsksProgram, AsksIndex}
+use Rattle.index_cmd.specs.Requests.{Request, TheHelp, TheVersion, OfFile, OfIndex, OfAdd, OfGdb, OfNames, OfServe, OfRace, OfDrill, OfAranges, OfFiles, OfCached, AsksFile, AsksProgram, AsksIndex}
 use Rattle.drill_command.specs.Drills.{HasTooLarge, IsSummaryOf}
 use Rattle.command_base.specs.FilesRead.{HoldsMore}
 use Rattle.session_commands.specs.Heard.{Heard}
@@ -37,6 +37,7 @@ use Rattle.command_base.specs.declared.status.Table.{Table}
 use Rattle.command_base.specs.declared.status.Status.{Status}
 use Rattle.command_base.specs.declared.status.Status.TheVariants.{Answered, Refused, Usage, ReadFault, StoreFault, WriteFault, NoMemory, IndexRefused, TableRefused, IndexTooLarge, FileTooBig, AlreadyIndexed, TooManySections, InputFault, InputTooLong, Stopped}
 use Rattle.index_cmd.proofs.Adding.{short_of_memory, when_crowded, when_indexed, when_refused, when_stored, when_too_large}
+use Rattle.index_cmd.proofs.KeptMeant.{cached_meant}
 use Rattle.index_cmd.proofs.Tables.{by_aranges, by_lines, table_meant}
 use Rattle.index_cmd.proofs.Outcomes.{Outcome, tells, stops, lines, fails, Plain, answers, refuses, index_refuses, table_refuses, plain_lines, plain_fails, plain, no_request, same_bytes, accepted_built, none_some}
 
@@ -470,6 +471,8 @@ complete (Some (OfFiles file name)) None shelf heard reads stores writes old new
 complete (Some (OfFiles file name)) (Some files) shelf heard reads stores writes old new status o left = λ bytes holds small no_read no_write.
     let line = session_line (Some (OfFiles file name)) files heard reads stores writes old new file bytes holds no_read (λ h. h) (fits MAX_FILE_BYTES (files file) bytes holds small) (λ h. h) (λ h. h) (λ h. h) (λ e. cc e) no_write in
     table_meant files reads stores writes old new file bytes holds no_write (found_by name) (Some (OfFiles file name)) line 15 (λ text h. (h.0, h.1, (h.2.built, h.2.accepted, (h.2.holds.0, h.2.holds.1)))) (λ text h. h) (by_lines files file name) (λ text h. h) status (plain (Some (OfFiles file name)) (Some files) reads stores writes old new heard (λ _ _ h. h) status o)
+complete (Some (OfCached file store q)) None shelf heard reads stores writes old new status o left = tt
+complete (Some (OfCached file store q)) (Some files) shelf heard reads stores writes old new status o left = λ bytes holds small no_read no_write. cached_meant files reads stores writes old new file bytes store q holds (fits MAX_FILE_BYTES (files file) bytes holds small) no_read no_write status (plain (Some (OfCached file store q)) (Some files) reads stores writes old new heard (λ _ _ h. h) status o)
 complete (Some (OfServe wait file)) None shelf heard reads stores writes old new status o left = tt
 complete (Some (OfServe wait file)) (Some files) shelf heard reads stores writes old new status o left = λ bytes holds small no_read no_write no_input.
     session_meant (Some (OfServe wait file)) files heard reads stores writes old new file bytes holds no_read (λ h. h) (fits MAX_FILE_BYTES (files file) bytes holds small) (λ h. h) (λ h. h) (λ h. h) (λ e. cc e) no_write

@@ -1,4 +1,5 @@
 -- What a command did, by what its call says.
+use Rattle.std.specs.Prelude.{⊤}
 use Rattle.std.proofs.Common.{◌≡◌, ◌⊎◌, inl, inr, ℕ, List, Option, Some, refl, sym, subst}
 use Rattle.ix_base.specs.declared.limits.TheConstants.{MAX_FILE_BYTES}
 use Rattle.index_model.specs.declared.job.CacheKind.{CacheKind}
@@ -33,9 +34,11 @@ use Rattle.drill_command.specs.DrillResults.{CausesOfDrill, SaysDrill}
 use Rattle.command_base.specs.Tables.{CausesOfTable}
 use Rattle.aranges_command.specs.Comparisons.{SaysAranges}
 use Rattle.files_command.specs.Listings.{SaysFiles}
+use Rattle.cached_command.specs.Cached.{CausesOfCached, LeavesCached, SaysCached}
+use Rattle.index_cmd.proofs.Keeping.{cached_from, may_from}
 use Rattle.index_cmd.specs.Doings.{CausesBeside, Does, SaysBeside, WasRead}
 use Rattle.index_cmd.specs.Replies.{Causes, IsAnswer}
-use Rattle.index_cmd.specs.Requests.{Request, OfFile, OfIndex, OfAdd, OfGdb, OfNames, OfServe, OfRace, OfDrill, OfAranges, OfFiles, AsksFile, StoresNothing}
+use Rattle.index_cmd.specs.Requests.{Request, OfFile, OfIndex, OfAdd, OfGdb, OfNames, OfServe, OfRace, OfDrill, OfAranges, OfFiles, OfCached, AsksFile, StoresNothing}
 use Rattle.index_cmd.specs.Results.{Says}
 use Rattle.index_cmd.specs.Stores.{Leaves}
 use Rattle.index_cmd.specs.Tasks.{request_on}
@@ -57,6 +60,7 @@ asks_first file (actions.Serve wait) P p = p
 asks_first file (actions.Race readers script) P p = inl p
 asks_first file actions.Aranges P p = p
 asks_first file (actions.Files name) P p = p
+asks_first file (actions.Cached store q) P p = p
 
 module _ (file : List ℕ) (action : Action) (told shelf : Option Files) (heard : Heard) (reads stores writes : Type 0) (out : Option (List ℕ)) (same : SameFiles told shelf) where
   abbrev on_file : Option Request
@@ -80,7 +84,7 @@ module _ (request : Request) (told : Option Files) (heard : Heard) (reads stores
   own_text plain nothing is result said (inr e) fault left = subst (Does (Some request) told told heard reads stores writes old new) (sym e) (record {
     wrote = (Answered, text, says_plain (Some request) plain told heard Answered text is, left e);
     causes = fault e;
-    leaves = same_files-refl told;
+    leaves = leaves_same (Some request) told told nothing told reads stores writes WriteFault (fault e) (same_files-refl told);
   })
 
 -- ---- `drill`
@@ -283,6 +287,66 @@ module _ (told shelf : Option Files) (file bytes : List ℕ) (heard : Heard) (ol
 
     pub listed : (status : Status) → Wrote (SaysFiles bytes name) status old new → CausesOfTable writes status → Does (Some (OfFiles file name)) told shelf heard reads stores writes old new status
     listed status w c = does (OfFiles file name) tt shelf (same_files-refl shelf) status (wrote_weaker (SaysFiles bytes name) (Says (Some (OfFiles file name)) told heard) says_listed status old new w) (causes_of_table (Some (OfFiles file name)) status c)
+
+  -- ---- `cached`
+
+  module _ (store : List ℕ) (q : Query) where
+    says_cached : (status : Status) (text : List ℕ) → SaysCached shelf bytes store q status text → Says (Some (OfCached file store q)) told heard status text
+    says_cached Answered text h = (bytes, was.holds, (h.0, cached_from told shelf was.same h.0 bytes store q ⊤ ⊤ ⊤ ⊤ (λ k. k) (λ s. s) text h.1))
+    says_cached Refused text h = (bytes, was.holds, h)
+    says_cached Usage text h = absurd h
+    says_cached ReadFault text h = absurd h
+    says_cached StoreFault text h = absurd h
+    says_cached WriteFault text h = absurd h
+    says_cached NoMemory text h = absurd h
+    says_cached IndexRefused text h = absurd h
+    says_cached (TableRefused table) text h = absurd h
+    says_cached IndexTooLarge text h = absurd h
+    says_cached FileTooBig text h = absurd h
+    says_cached AlreadyIndexed text h = absurd h
+    says_cached TooManySections text h = absurd h
+    says_cached InputFault text h = absurd h
+    says_cached InputTooLong text h = absurd h
+    says_cached Stopped text h = absurd h
+
+    causes_cached : (status : Status) → CausesOfCached bytes writes status → Causes (Some (OfCached file store q)) told reads stores writes status
+    causes_cached Answered c = tt
+    causes_cached Refused c = tt
+    causes_cached Usage c = absurd c
+    causes_cached ReadFault c = absurd c
+    causes_cached StoreFault c = absurd c
+    causes_cached WriteFault c = c
+    causes_cached NoMemory c = tt
+    causes_cached IndexRefused c = absurd c
+    causes_cached (TableRefused table) c = absurd c
+    causes_cached IndexTooLarge c = (bytes, was.holds, c)
+    causes_cached FileTooBig c = absurd c
+    causes_cached AlreadyIndexed c = absurd c
+    causes_cached TooManySections c = absurd c
+    causes_cached InputFault c = absurd c
+    causes_cached InputTooLong c = absurd c
+    causes_cached Stopped c = absurd c
+
+    cached_leaves : (after : Option Files) (status : Status) → CausesOfCached bytes writes status → LeavesCached bytes store shelf after status → Leaves (Some (OfCached file store q)) told after status
+    cached_leaves after Answered c h = (bytes, was.holds, may_from told shelf was.same after bytes store h)
+    cached_leaves after WriteFault c h = (bytes, was.holds, may_from told shelf was.same after bytes store h)
+    cached_leaves after StoreFault c h = absurd c
+    cached_leaves after Refused c h = same_files-trans told shelf after was.same h
+    cached_leaves after Usage c h = same_files-trans told shelf after was.same h
+    cached_leaves after ReadFault c h = same_files-trans told shelf after was.same h
+    cached_leaves after NoMemory c h = same_files-trans told shelf after was.same h
+    cached_leaves after IndexRefused c h = same_files-trans told shelf after was.same h
+    cached_leaves after (TableRefused table) c h = same_files-trans told shelf after was.same h
+    cached_leaves after IndexTooLarge c h = same_files-trans told shelf after was.same h
+    cached_leaves after FileTooBig c h = same_files-trans told shelf after was.same h
+    cached_leaves after AlreadyIndexed c h = same_files-trans told shelf after was.same h
+    cached_leaves after TooManySections c h = same_files-trans told shelf after was.same h
+    cached_leaves after InputFault c h = same_files-trans told shelf after was.same h
+    cached_leaves after InputTooLong c h = same_files-trans told shelf after was.same h
+    cached_leaves after Stopped c h = same_files-trans told shelf after was.same h
+
+    pub cached_does : (after : Option Files) (status : Status) → Wrote (SaysCached shelf bytes store q) status old new → CausesOfCached bytes writes status → LeavesCached bytes store shelf after status → Does (Some (OfCached file store q)) told after heard reads stores writes old new status
+    cached_does after status w c l = record { wrote = wrote_weaker (SaysCached shelf bytes store q) (Says (Some (OfCached file store q)) told heard) says_cached status old new w; causes = causes_cached status c; leaves = cached_leaves after status c l }
 
   -- ---- `look names`
 

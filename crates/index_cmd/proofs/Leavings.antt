@@ -1,11 +1,11 @@
 -- What the shelf holds, once a status's line is written.
 use Rattle.std.proofs.Common.{◌≡◌, ◌⊎◌, inl, inr, ℕ, List, Option, Some, None, refl, subst}
 use Rattle.outside.specs.Files.{Files, SameFiles}
-use Rattle.index_cmd.specs.Requests.{Request, TheHelp, TheVersion, OfFile, OfIndex, OfAdd, OfGdb, OfNames, OfServe, OfRace, OfDrill, OfAranges, OfFiles, AsksIndex, StoresNothing}
+use Rattle.index_cmd.specs.Requests.{Request, TheHelp, TheVersion, OfFile, OfIndex, OfAdd, OfGdb, OfNames, OfServe, OfRace, OfDrill, OfAranges, OfFiles, OfCached, AsksIndex, StoresNothing}
 use Rattle.index_cmd.specs.Replies.{Causes, Ends, without_line, with_line, cut}
 use Rattle.command_base.specs.Replies.{line_of}
 use Rattle.command_base.specs.Statuses.{status_code}
-use Rattle.index_cmd.specs.Stores.{IsStored, IsPartStored, Leaves, LeavesAtEnd}
+use Rattle.index_cmd.specs.Stores.{IsCut, IsStored, IsPartStored, Leaves, LeavesAtEnd}
 use Rattle.command_base.specs.declared.status.Status.{Status}
 use Rattle.command_base.specs.declared.status.Status.TheVariants.{Answered, Refused, Usage, ReadFault, StoreFault, WriteFault, NoMemory, IndexRefused, TableRefused, IndexTooLarge, FileTooBig, AlreadyIndexed, TooManySections, InputFault, InputTooLong, Stopped}
 use Rattle.index_cmd.proofs.Outcomes.{one_status}
@@ -26,6 +26,7 @@ stored_same (Some (OfAranges file)) old new n h = h
 stored_same (Some (OfFiles file name)) old new n h = h
 stored_same (Some (OfIndex kind file out)) old new n h = absurd n
 stored_same (Some (OfAdd kind file out)) old new n h = absurd n
+stored_same (Some (OfCached file store q)) old new n h = absurd n
 
 same_stored : (request : Option Request) (old new : Option Files) → StoresNothing request → SameFiles old new → IsStored request old new
 same_stored None old new n h = h
@@ -41,6 +42,7 @@ same_stored (Some (OfAranges file)) old new n h = h
 same_stored (Some (OfFiles file name)) old new n h = h
 same_stored (Some (OfIndex kind file out)) old new n h = absurd n
 same_stored (Some (OfAdd kind file out)) old new n h = absurd n
+same_stored (Some (OfCached file store q)) old new n h = absurd n
 
 no_part : (request : Option Request) (old new : Option Files) → StoresNothing request → IsPartStored request old new → ⊥
 no_part None old new n h = h
@@ -56,6 +58,7 @@ no_part (Some (OfAranges file)) old new n h = h
 no_part (Some (OfFiles file name)) old new n h = h
 no_part (Some (OfIndex kind file out)) old new n h = n
 no_part (Some (OfAdd kind file out)) old new n h = n
+no_part (Some (OfCached file store q)) old new n h = n
 
 no_index : (request : Option Request) (P : Type 0) → StoresNothing request → AsksIndex request (λ _ _ _. P) → ⊥
 no_index None P n h = h
@@ -71,6 +74,41 @@ no_index (Some (OfAranges file)) P n h = h
 no_index (Some (OfFiles file name)) P n h = h
 no_index (Some (OfIndex kind file out)) P n h = n
 no_index (Some (OfAdd kind file out)) P n h = n
+no_index (Some (OfCached file store q)) P n h = h
+
+-- a write that failed leaves what was there
+same_cut : (request : Option Request) (old new : Option Files) → StoresNothing request → SameFiles old new → IsCut request old new
+same_cut None old new n h = h
+same_cut (Some TheHelp) old new n h = h
+same_cut (Some TheVersion) old new n h = h
+same_cut (Some (OfFile file q)) old new n h = h
+same_cut (Some (OfGdb index q)) old new n h = h
+same_cut (Some (OfNames base index strings name)) old new n h = h
+same_cut (Some (OfServe wait file)) old new n h = h
+same_cut (Some (OfRace readers file script)) old new n h = h
+same_cut (Some (OfDrill seed units)) old new n h = h
+same_cut (Some (OfAranges file)) old new n h = h
+same_cut (Some (OfFiles file name)) old new n h = h
+same_cut (Some (OfIndex kind file out)) old new n h = h
+same_cut (Some (OfAdd kind file out)) old new n h = h
+same_cut (Some (OfCached file store q)) old new n h = absurd n
+
+-- or, where an index may be kept, a part of it
+cut_or_part : (request : Option Request) (old new : Option Files) → IsCut request old new → SameFiles old new ⊎ IsPartStored request old new
+cut_or_part None old new h = inl h
+cut_or_part (Some TheHelp) old new h = inl h
+cut_or_part (Some TheVersion) old new h = inl h
+cut_or_part (Some (OfFile file q)) old new h = inl h
+cut_or_part (Some (OfGdb index q)) old new h = inl h
+cut_or_part (Some (OfNames base index strings name)) old new h = inl h
+cut_or_part (Some (OfServe wait file)) old new h = inl h
+cut_or_part (Some (OfRace readers file script)) old new h = inl h
+cut_or_part (Some (OfDrill seed units)) old new h = inl h
+cut_or_part (Some (OfAranges file)) old new h = inl h
+cut_or_part (Some (OfFiles file name)) old new h = inl h
+cut_or_part (Some (OfIndex kind file out)) old new h = inl h
+cut_or_part (Some (OfAdd kind file out)) old new h = inl h
+cut_or_part (Some (OfCached file store q)) old new h = inr h
 
 module _ (request : Option Request) (old new : Option Files) (n : StoresNothing request) where
   -- it leaves what was there
@@ -80,7 +118,7 @@ module _ (request : Option Request) (old new : Option Files) (n : StoresNothing 
   leaves_same told reads stores writes Refused c same = same
   leaves_same told reads stores writes Usage c same = same
   leaves_same told reads stores writes ReadFault c same = same
-  leaves_same told reads stores writes WriteFault c same = same
+  leaves_same told reads stores writes WriteFault c same = same_cut request old new n same
   leaves_same told reads stores writes NoMemory c same = same
   leaves_same told reads stores writes IndexRefused c same = same
   leaves_same told reads stores writes (TableRefused table) c same = same
@@ -115,7 +153,7 @@ module _ (request : Option Request) (old new : Option Files) (n : StoresNothing 
 
 module _ (request : Option Request) (old new : Option Files) where
   as_left : (status : Status) → Leaves request old new status → LeavesAtEnd request old new status
-  as_left WriteFault h = inl h
+  as_left WriteFault h = cut_or_part request old new h
   as_left Answered h = h
   as_left StoreFault h = h
   as_left Refused h = h

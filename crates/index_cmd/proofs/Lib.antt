@@ -6,4 +6,7 @@ mod Beside
 mod Doings
 mod Adding
 mod Tables
+mod Keeping
+mod KeptMeant
+mod KeptUses
 mod Completeness

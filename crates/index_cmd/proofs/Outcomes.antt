@@ -9,7 +9,7 @@ use Rattle.outside.specs.Written.{Appends, AppendsPrefix}
 use Rattle.outside.proofs.WrittenLaws.{appends_more, appends_more_prefix}
 use Rattle.command_words.specs.Words.{Wanted, command_of}
 use Rattle.session_commands.specs.Heard.{Heard}
-use Rattle.index_cmd.specs.Requests.{Request, TheHelp, TheVersion, OfFile, OfIndex, OfAdd, OfGdb, OfNames, OfServe, OfRace, OfDrill, OfAranges, OfFiles, AsksFile, AsksIndex, requested, request_of}
+use Rattle.index_cmd.specs.Requests.{Request, TheHelp, TheVersion, OfFile, OfIndex, OfAdd, OfGdb, OfNames, OfServe, OfRace, OfDrill, OfAranges, OfFiles, OfCached, AsksFile, AsksIndex, requested, request_of}
 use Rattle.index_cmd.specs.Replies.{Causes, Ends, without_line, with_line, cut, IsAnswer, IsRefusal, IsIndexRefusal, IsStatus, IsTableRefusal, SaysRequest}
 use Rattle.command_base.specs.Replies.{Wrote, Writes, line_of}
 use Rattle.index_cmd.specs.Results.{Says, SaysNoMemory, WritesPrefix}
@@ -181,6 +181,7 @@ says_plain (Some (OfGdb index q)) p told heard status text h = h
 says_plain (Some (OfNames base index strings name)) p told heard status text h = h
 says_plain (Some (OfAranges file)) p told heard status text h = h
 says_plain (Some (OfFiles file name)) p told heard status text h = h
+says_plain (Some (OfCached file store q)) p told heard status text h = h
 says_plain (Some (OfServe wait file)) p told heard status text h = absurd p
 says_plain (Some (OfRace readers file script)) p told heard status text h = absurd p
 says_plain (Some (OfDrill seed units)) p told heard status text h = absurd p
@@ -230,6 +231,7 @@ asks (Some (OfRace readers file script)) P (inl h) = h
 asks (Some (OfRace readers file script)) P (inr h) = h
 asks (Some (OfAranges file)) P h = h
 asks (Some (OfFiles file name)) P h = h
+asks (Some (OfCached file store q)) P h = h
 asks (Some (OfDrill seed units)) P h = absurd h
 asks (Some TheHelp) P h = absurd h
 asks (Some TheVersion) P h = absurd h
@@ -246,6 +248,7 @@ asks_index (Some (OfRace readers file script)) P h = absurd h
 asks_index (Some (OfDrill seed units)) P h = absurd h
 asks_index (Some (OfAranges file)) P h = absurd h
 asks_index (Some (OfFiles file name)) P h = absurd h
+asks_index (Some (OfCached file store q)) P h = absurd h
 asks_index (Some TheHelp) P h = absurd h
 asks_index (Some TheVersion) P h = absurd h
 asks_index None P h = absurd h

@@ -1,6 +1,7 @@
 pub mod Requests
 pub mod Replies
 pub mod Stores
+pub mod Caching
 pub mod Results
 pub mod Tasks
 pub mod Doings

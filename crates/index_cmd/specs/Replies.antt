@@ -12,6 +12,8 @@ use Rattle.command_base.specs.Tables.{IsTableMeant}
 use Rattle.command_base.specs.declared.status.Table.{Table}
 use Rattle.command_base.specs.declared.status.Table.TheVariants.{Addresses, Lines}
 use Rattle.aranges_command.specs.Comparisons.{IsArangesRefusalOf, IsComparisonOf, sets_of}
+use Rattle.cached_command.specs.Cached.{IsCachedMeant, SaysCached}
+use Rattle.cached_command.specs.Caches.{IsTooLarge as KeepsTooLarge}
 use Rattle.files_command.specs.Listings.{IsListingOf, IsFilesRefusalOf, found_by}
 use Rattle.drill_command.specs.Drills.{HasTooLarge}
 use Rattle.command_base.specs.GdbLooks.{IsGdbAnswerOf, IsGdbRefusalOf, IsLookMeant}
@@ -19,7 +21,7 @@ use Rattle.index_commands.specs.Indexes.{IsIndexMeant}
 use Rattle.index_commands.specs.NamesLooks.{IsNamesAnswerOf, IsNamesMeant, IsNamesRefusalOf}
 use Rattle.index_commands.specs.Stores.{ForIndex}
 use Rattle.add_command.specs.Adds.{ForNamedProgram, HasIndex, HasNoRoom, HasTooLarge as AddsTooLarge, IsAddMeant}
-use Rattle.index_cmd.specs.Requests.{Request, TheHelp, TheVersion, OfFile, OfIndex, OfAdd, OfGdb, OfNames, OfServe, OfRace, OfDrill, OfAranges, OfFiles, AsksFile, AsksProgram, AsksIndex}
+use Rattle.index_cmd.specs.Requests.{Request, TheHelp, TheVersion, OfFile, OfIndex, OfAdd, OfGdb, OfNames, OfServe, OfRace, OfDrill, OfAranges, OfFiles, OfCached, AsksFile, AsksProgram, AsksIndex}
 use Rattle.index_cmd.specs.declared.about.TheConstants as about
 
 -- ---- texts
@@ -39,6 +41,7 @@ IsAnswer (Some (OfRace readers file script)) told text = ⊥
 IsAnswer (Some (OfDrill seed units)) told text = ⊥
 IsAnswer (Some (OfAranges file)) told text = OfFileBytes told file (λ bytes. IsComparisonOf bytes text)
 IsAnswer (Some (OfFiles file name)) told text = OfFileBytes told file (λ bytes. IsListingOf bytes name text)
+IsAnswer (Some (OfCached file store q)) told text = OfFileBytes told file (λ bytes. SaysCached told bytes store q Answered text)
 
 -- the text is that of the first fault of the file that was asked
 abbrev pub IsRefusal : Option Request → Option Files → List ℕ → Type 0
@@ -72,6 +75,7 @@ SaysRequest request told other text = ⊥
 abbrev pub MakesTooLarge : Option Request → Option Files → Type 0
 MakesTooLarge (Some (OfIndex kind file out)) told = ForIndex told file kind IsTooLarge
 MakesTooLarge (Some (OfAdd kind file out)) told = ForNamedProgram told file kind (AddsTooLarge kind)
+MakesTooLarge (Some (OfCached file store q)) told = OfFileBytes told file KeepsTooLarge
 MakesTooLarge (Some (OfDrill seed units)) told = HasTooLarge (generated_file seed units)
 MakesTooLarge other told = ⊥
 
@@ -127,6 +131,7 @@ IsComplete (Some (OfGdb index q)) told reads stores writes status = OfWholeFile 
 IsComplete (Some (OfNames base index strings name)) told reads stores writes status = OfWholeFile MAX_FILE_BYTES told index reads writes (λ bytes. OfWholeFile MAX_FILE_BYTES told strings reads writes (λ held. IsNamesMeant bytes held base status))
 IsComplete (Some (OfAranges file)) told reads stores writes status = OfWholeFile MAX_FILE_BYTES told file reads writes (λ bytes. IsTableMeant bytes sets_of 14 status)
 IsComplete (Some (OfFiles file name)) told reads stores writes status = OfWholeFile MAX_FILE_BYTES told file reads writes (λ bytes. IsTableMeant bytes (found_by name) 15 status)
+IsComplete (Some (OfCached file store q)) told reads stores writes status = OfWholeFile MAX_FILE_BYTES told file reads writes (λ bytes. IsCachedMeant bytes status)
 IsComplete (Some (OfServe wait file)) told reads stores writes status = ⊤
 IsComplete (Some (OfRace readers file script)) told reads stores writes status = ⊤
 IsComplete (Some (OfDrill seed units)) told reads stores writes status = ⊤

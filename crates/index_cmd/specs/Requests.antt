@@ -7,15 +7,16 @@ use Rattle.session_commands.specs.declared.script.TheConstants.{MAX_SCRIPT_BYTES
 use Rattle.command_base.specs.GdbLooks.{offer_gdb}
 use Rattle.command_words.specs.DrillWords.{Drilled}
 use Rattle.command_words.specs.SessionWords.{Raced, Served}
+use Rattle.command_words.specs.KeptWords.{Kept}
 use Rattle.command_words.specs.TableWords.{Compared, Sought}
-use Rattle.command_words.specs.Words.{Asked, Indexed, Looked, NamesLooked, Wanted, Help, Version, Ask, Index, Add, LookGdb, LookNames, Serve, Race, Drill, Aranges, Files, command_of, query_text}
+use Rattle.command_words.specs.Words.{Asked, Indexed, Looked, NamesLooked, Wanted, Help, Version, Ask, Index, Add, LookGdb, LookNames, Serve, Race, Drill, Aranges, Files, Cached, command_of, query_text}
 
 -- The program's own texts; the answer of a file, by its name, to a query; the index of a kind of a file, to be stored under a
 -- name, or the file with that index as a section, to be stored so; the answer of a `.gdb_index`, by its name, to a query; or the
 -- entries of a name in a `.debug_names`, by the base of its strings, its own name and that of the strings. Or a session over a
 -- file from a stage on; sessions of so many readers over a file and a script; or the sizes of the program that a seed makes of so
 -- many units, and of its indexes. Or how the address table of a file compares with its units; or the source files with a name that
--- its line tables name.
+-- its line tables name. Or the answer of a file's `.gdb_index` that is kept in a store, or else built.
 pub data Request : Type 0 where
   TheHelp TheVersion : Request
   OfFile : List ℕ → Query → Request
@@ -27,6 +28,7 @@ pub data Request : Type 0 where
   OfDrill : ℕ → ℕ → Request
   OfAranges : List ℕ → Request
   OfFiles : List ℕ → List ℕ → Request
+  OfCached : List ℕ → List ℕ → Query → Request
 
 -- a query of a file
 abbrev pub asked : Asked → Option Request
@@ -81,6 +83,10 @@ compared c = Some (OfAranges c.file)
 abbrev pub sought : Sought → Option Request
 sought s = Some (OfFiles s.file s.name)
 
+-- a query of the index of a file that is kept in a store, if a `.gdb_index` answers it
+abbrev pub kept : Kept → Option Request
+kept k = option_map (OfCached k.file k.store) (offered_gdb (query_text k.query))
+
 -- a command whose query is answered
 abbrev pub requested : Wanted → Option Request
 requested Help = Some TheHelp
@@ -95,6 +101,7 @@ requested (Race r) = raced r
 requested (Drill d) = drilled d
 requested (Aranges c) = compared c
 requested (Files s) = sought s
+requested (Cached k) = kept k
 
 -- what the words ask for; none where they aren't in the grammar. The number of workers changes nothing.
 abbrev pub request_of : List (List ℕ) → Option Request
@@ -111,18 +118,20 @@ AsksFile (Some (OfServe wait file)) P = P file MAX_FILE_BYTES
 AsksFile (Some (OfRace readers file script)) P = P file MAX_FILE_BYTES ⊎ P script MAX_SCRIPT_BYTES
 AsksFile (Some (OfAranges file)) P = P file MAX_FILE_BYTES
 AsksFile (Some (OfFiles file name)) P = P file MAX_FILE_BYTES
+AsksFile (Some (OfCached file store q)) P = P file MAX_FILE_BYTES
 AsksFile (Some (OfDrill seed units)) P = ⊥
 AsksFile (Some TheHelp) P = ⊥
 AsksFile (Some TheVersion) P = ⊥
 AsksFile None P = ⊥
 
--- the program file that is asked or indexed, gets its index, or has a table that is asked
+-- the program file that is asked or indexed, gets its index, has a table that is asked, or an index that is kept
 abbrev pub AsksProgram : Option Request → (List ℕ → Type 0) → Type 0
 AsksProgram (Some (OfFile file q)) P = P file
 AsksProgram (Some (OfIndex kind file out)) P = P file
 AsksProgram (Some (OfAdd kind file out)) P = P file
 AsksProgram (Some (OfAranges file)) P = P file
 AsksProgram (Some (OfFiles file name)) P = P file
+AsksProgram (Some (OfCached file store q)) P = P file
 AsksProgram other P = ⊥
 
 -- the index of a kind of a file, to be stored under a name, alone or in the file
@@ -135,6 +144,7 @@ AsksIndex other P = ⊥
 abbrev pub StoresNothing : Option Request → Type 0
 StoresNothing (Some (OfIndex kind file out)) = ⊥
 StoresNothing (Some (OfAdd kind file out)) = ⊥
+StoresNothing (Some (OfCached file store q)) = ⊥
 StoresNothing other = ⊤
 
 -- the input isn't read

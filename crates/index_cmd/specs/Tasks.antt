@@ -2,9 +2,9 @@
 use Rattle.std.specs.Prelude.{◌≡◌, ◌<◌, ◌≤◌, ℕ, List, [], Some, ⊤}
 use Rattle.index_model.specs.Seen.{query_seen}
 use Rattle.command_words.specs.SeenWords.{IsReaders}
-use Rattle.command_words.specs.Words.{Wanted, Ask, LookGdb, LookNames}
+use Rattle.command_words.specs.Words.{Wanted, Ask, Cached, LookGdb, LookNames}
 use Rattle.command_base.specs.GdbLooks.{offer_gdb}
-use Rattle.index_cmd.specs.Requests.{Request, TheHelp, TheVersion, OfFile, OfIndex, OfAdd, OfGdb, OfNames, OfServe, OfRace, OfDrill, OfAranges, OfFiles}
+use Rattle.index_cmd.specs.Requests.{Request, TheHelp, TheVersion, OfFile, OfIndex, OfAdd, OfGdb, OfNames, OfServe, OfRace, OfDrill, OfAranges, OfFiles, OfCached}
 use Rattle.index_cmd.specs.declared.task.Action.{Action}
 use Rattle.index_cmd.specs.declared.task.Action.TheVariants as actions
 use Rattle.index_cmd.specs.declared.task.Task.{Task}
@@ -15,6 +15,7 @@ abbrev pub query_words : Wanted → List (List ℕ)
 query_words (Ask a) = a.query
 query_words (LookGdb l) = l.query
 query_words (LookNames l) = l.query
+query_words (Cached k) = k.query
 query_words other = []
 
 -- what is asked of the bytes of the file with this name
@@ -28,6 +29,7 @@ request_on file (actions.Serve wait) = OfServe wait file
 request_on file (actions.Race readers script) = OfRace readers file script.now
 request_on file actions.Aranges = OfAranges file
 request_on file (actions.Files name) = OfFiles file name.now
+request_on file (actions.Cached store q) = OfCached file store.now (query_seen q)
 
 -- what is asked
 abbrev pub request_seen : Task → Request
@@ -39,6 +41,7 @@ request_seen (tasks.Drill seed units) = OfDrill seed units
 -- the numbers are in the bounds of the grammar, and the query is one that the index answers
 abbrev pub IsActionInBounds : Action → Type 0
 IsActionInBounds (actions.LookGdb q) = offer_gdb (query_seen q) ≡ Some (query_seen q)
+IsActionInBounds (actions.Cached store q) = offer_gdb (query_seen q) ≡ Some (query_seen q)
 IsActionInBounds (actions.Serve wait) = wait ≤ 3
 IsActionInBounds (actions.Race readers script) = IsReaders readers
 IsActionInBounds other = ⊤

@@ -9,6 +9,8 @@ ghost use Rattle.session_commands.specs.Heard.{heard};
 ghost use Rattle.session_commands.specs.Races.{SaysRace};
 ghost use Rattle.session_commands.specs.declared.script.TheConstants.{MAX_SCRIPT_BYTES};
 ghost use Rattle.command_base.specs.Replies.{Wrote};
+ghost use Rattle.command_base.specs.FilesRead.{Holds};
+ghost use Rattle.index_cmd.specs.Caching.{UsesKept};
 ghost use Rattle.index_cmd.specs.Doings.{CausesBeside, Does, SaysBeside, WasRead};
 ghost use Rattle.index_cmd.specs.Requests.{ReadsNoInput};
 ghost use Rattle.index_cmd.specs.Tasks.{request_on, request_seen, IsActionInBounds, IsInBounds};
@@ -18,6 +20,7 @@ use crate::say::say;
 use crate::task::{Action, OnFile, Task};
 use add_command::add_file;
 use aranges_command::aranges_file;
+use cached_command::cached_file;
 use command_base::{Status, look_gdb, read_file};
 use drill_command::run_drill;
 use files_command::list_files;
@@ -42,6 +45,7 @@ pub(crate) fn perform<
     requires few { crew.now.workers ≤ 64 }
     requires bounds { IsInBounds task.now }
     ensures did { Does (Some (request_seen task.now)) (F.files shelf.old) (F.files shelf.new) (heard S.left S.read_faults input.old input.new) (Rose (F.read_faults shelf.old) (F.read_faults shelf.new)) (Rose (F.store_faults shelf.old) (F.store_faults shelf.new)) (Rose (K.write_faults out.old) (K.write_faults out.new)) (K.written out.old) (K.written out.new) result }
+    ensures uses { UsesKept (Some (request_seen task.now)) (F.files shelf.old) (F.files shelf.new) (Rose (F.kept_faults shelf.old) (F.kept_faults shelf.new)) (Rose (F.store_faults shelf.old) (F.store_faults shelf.new)) (K.written out.old) (K.written out.new) result }
     ensures input { ReadsNoInput (Some (request_seen task.now)) → input.new ≡ input.old }
     ensures counts { K.write_faults out.old ≤ K.write_faults out.new }
 {
@@ -65,6 +69,7 @@ fn read_and_act<
     requires few { crew.now.workers ≤ 64 }
     requires bounds { IsActionInBounds on.now.action }
     ensures did { Does (Some (request_on on.now.file.now on.now.action)) (F.files shelf.old) (F.files shelf.new) (heard S.left S.read_faults input.old input.new) (Rose (F.read_faults shelf.old) (F.read_faults shelf.new)) (Rose (F.store_faults shelf.old) (F.store_faults shelf.new)) (Rose (K.write_faults out.old) (K.write_faults out.new)) (K.written out.old) (K.written out.new) result }
+    ensures uses { UsesKept (Some (request_on on.now.file.now on.now.action)) (F.files shelf.old) (F.files shelf.new) (Rose (F.kept_faults shelf.old) (F.kept_faults shelf.new)) (Rose (F.store_faults shelf.old) (F.store_faults shelf.new)) (K.written out.old) (K.written out.new) result }
     ensures input { ReadsNoInput (Some (request_on on.now.file.now on.now.action)) → input.new ≡ input.old }
     ensures counts { K.write_faults out.old ≤ K.write_faults out.new }
 {
@@ -88,6 +93,7 @@ fn act<R: Threads + Wait + Sync, F: Shelf, S: Source + Send, K: Sink + Send, G: 
     requires few { crew.now.workers ≤ 64 }
     requires bounds { IsActionInBounds action.now }
     ensures did { (told : Option Files) (file : List ℕ) (old_reads old_stores : ℕ) → WasRead told (F.files shelf.old) file bytes.now old_reads (F.read_faults shelf.old) old_stores (F.store_faults shelf.old) → Does (Some (request_on file action.now)) told (F.files shelf.new) (heard S.left S.read_faults input.old input.new) (Rose old_reads (F.read_faults shelf.new)) (Rose old_stores (F.store_faults shelf.new)) (Rose (K.write_faults out.old) (K.write_faults out.new)) (K.written out.old) (K.written out.new) result }
+    ensures uses { (told : Option Files) (file : List ℕ) → SameFiles told (F.files shelf.old) → Holds told file bytes.now → UsesKept (Some (request_on file action.now)) told (F.files shelf.new) (Rose (F.kept_faults shelf.old) (F.kept_faults shelf.new)) (Rose (F.store_faults shelf.old) (F.store_faults shelf.new)) (K.written out.old) (K.written out.new) result }
     ensures input { (file : List ℕ) → ReadsNoInput (Some (request_on file action.now)) → input.new ≡ input.old }
     ensures counts { K.write_faults out.old ≤ K.write_faults out.new }
 {
@@ -105,6 +111,7 @@ fn act<R: Threads + Wait + Sync, F: Shelf, S: Source + Send, K: Sink + Send, G: 
         Action::Race { readers, script } => read_script(crew, bytes, *readers, script, shelf, out),
         Action::Aranges => aranges_file(crew, bytes, out),
         Action::Files(name) => list_files(crew, bytes, name, out),
+        Action::Cached { store, query } => cached_file(crew, bytes, store, query, shelf, out),
     }
 }
 

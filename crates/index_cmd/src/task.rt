@@ -1,14 +1,14 @@
 //! What a command line asks for, once the query of its words is read.
 
-ghost use Rattle.std.specs.Prelude.{◌≡◌, ◌<◌, ◌≤◌, option_map};
+ghost use Rattle.std.specs.Prelude.{◌≡◌, ◌<◌, ◌≤◌, Some, option_map};
 ghost use Rattle.std.specs.Option.{ForSome};
-ghost use Rattle.command_words.specs.SeenWords.{seen_ask, seen_command, seen_look, seen_names, words_of, HasWorkers};
+ghost use Rattle.command_words.specs.SeenWords.{seen_ask, seen_cached, seen_command, seen_look, seen_names, words_of, HasWorkers};
 ghost use Rattle.command_words.specs.Words.{query_text};
-ghost use Rattle.index_cmd.specs.Requests.{asked, looked, looked_names, requested};
-ghost use Rattle.index_cmd.specs.Tasks.{query_words, request_seen, IsInBounds};
+ghost use Rattle.index_cmd.specs.Requests.{asked, kept, looked, looked_names, requested};
+ghost use Rattle.index_cmd.specs.Tasks.{query_words, request_on, request_seen, IsActionInBounds, IsInBounds};
 
 use crate::line::{offered_gdb, offered_name};
-use command_words::{Ask, Command, LookGdb, LookNames};
+use command_words::{Ask, Cached, Command, LookGdb, LookNames};
 use index_model::{CacheKind, Query};
 use query_text::parse;
 
@@ -60,6 +60,11 @@ pub(crate) enum Action<'w> {
     Aranges,
     /// The source files with this name.
     Files(&'w str),
+    Cached {
+        /// What stands before the names of kept indexes.
+        store: &'w str,
+        query: Query<'w>,
+    },
 }
 
 /// The words of the query of a command. There are none where it has no query.
@@ -70,6 +75,7 @@ pub(crate) fn query_words<'w>(command: &Command<'w>) -> &'w [String]
         Command::Ask(words) => words.query,
         Command::LookGdb(words) => words.query,
         Command::LookNames(words) => words.query,
+        Command::Cached(words) => words.query,
         Command::Help
         | Command::Version
         | Command::Index(_)
@@ -97,6 +103,7 @@ pub(crate) fn workers(command: &Command<'_>) -> u32
         Command::Drill(words) => words.workers,
         Command::Aranges(words) => words.workers,
         Command::Files(words) => words.workers,
+        Command::Cached(words) => words.workers,
         Command::Help | Command::Version | Command::LookGdb(_) | Command::LookNames(_) => 1,
     }
 }
@@ -112,46 +119,38 @@ pub(crate) fn task_for<'w>(command: &Command<'w>, line: &'w [u8]) -> Option<Task
         Command::Help => Some(Task::Help),
         Command::Version => Some(Task::Version),
         Command::Ask(words) => asked(words, line),
-        Command::Index(words) => Some(Task::OnFile(OnFile {
-            file: words.file,
-            action: Action::Index {
-                kind: words.kind,
-                out: words.out,
-            },
-        })),
-        Command::Add(words) => Some(Task::OnFile(OnFile {
-            file: words.file,
-            action: Action::Add {
-                kind: words.kind,
-                out: words.out,
-            },
-        })),
+        Command::Index(words) => {
+            let (kind, out) = (words.kind, words.out);
+            on_file(words.file, Action::Index { kind, out })
+        }
+        Command::Add(words) => {
+            let (kind, out) = (words.kind, words.out);
+            on_file(words.file, Action::Add { kind, out })
+        }
         Command::LookGdb(words) => looked(words, line),
         Command::LookNames(words) => looked_names(words, line),
-        Command::Serve(words) => Some(Task::OnFile(OnFile {
-            file: words.file,
-            action: Action::Serve { wait: words.wait },
-        })),
-        Command::Race(words) => Some(Task::OnFile(OnFile {
-            file: words.file,
-            action: Action::Race {
-                readers: words.readers,
-                script: words.script,
-            },
-        })),
-        Command::Aranges(words) => Some(Task::OnFile(OnFile {
-            file: words.file,
-            action: Action::Aranges,
-        })),
-        Command::Files(words) => Some(Task::OnFile(OnFile {
-            file: words.file,
-            action: Action::Files(words.name),
-        })),
+        Command::Serve(words) => on_file(words.file, Action::Serve { wait: words.wait }),
+        Command::Race(words) => {
+            let (readers, script) = (words.readers, words.script);
+            on_file(words.file, Action::Race { readers, script })
+        }
+        Command::Aranges(words) => on_file(words.file, Action::Aranges),
+        Command::Files(words) => on_file(words.file, Action::Files(words.name)),
+        Command::Cached(words) => cached(words, line),
         Command::Drill(words) => Some(Task::Drill {
             seed: words.seed,
             units: words.units,
         }),
     }
+}
+
+// What is asked of the bytes of a file.
+fn on_file<'w>(file: &'w str, action: Action<'w>) -> Option<Task<'w>>
+    requires { IsActionInBounds action }
+    ensures request { option_map request_seen result ≡ Some (request_on file.now action.entry) }
+    ensures bounds { ForSome result IsInBounds }
+{
+    Some(Task::OnFile(OnFile { file, action }))
 }
 
 // A query of a program file.
@@ -161,10 +160,7 @@ fn asked<'w>(words: &Ask<'w>, line: &'w [u8]) -> Option<Task<'w>>
     ensures bounds { ForSome result IsInBounds }
 {
     let query = parse(line)?;
-    Some(Task::OnFile(OnFile {
-        file: words.file,
-        action: Action::Ask(query),
-    }))
+    on_file(words.file, Action::Ask(query))
 }
 
 // A query of a `.gdb_index`.
@@ -174,10 +170,18 @@ fn looked<'w>(words: &LookGdb<'w>, line: &'w [u8]) -> Option<Task<'w>>
     ensures bounds { ForSome result IsInBounds }
 {
     let query = offered_gdb(line)?;
-    Some(Task::OnFile(OnFile {
-        file: words.index,
-        action: Action::LookGdb(query),
-    }))
+    on_file(words.index, Action::LookGdb(query))
+}
+
+// A query of an index that may be kept.
+fn cached<'w>(words: &Cached<'w>, line: &'w [u8]) -> Option<Task<'w>>
+    requires { line.now ≡ query_text (seen_cached words.now).query }
+    ensures request { option_map request_seen result ≡ kept (seen_cached words.now) }
+    ensures bounds { ForSome result IsInBounds }
+{
+    let query = offered_gdb(line)?;
+    let store = words.store;
+    on_file(words.file, Action::Cached { store, query })
 }
 
 // A query of a `.debug_names`.

@@ -8,6 +8,7 @@ ghost use Rattle.outside.specs.Written.{Appends};
 ghost use Rattle.command_base.specs.FilesRead.{HoldsMore};
 ghost use Rattle.session_commands.specs.Heard.{heard};
 ghost use Rattle.index_cmd.specs.Requests.{request_of, AsksFile, ReadsNoInput, StoresNothing};
+ghost use Rattle.index_cmd.specs.Caching.{UsesKept};
 ghost use Rattle.index_cmd.specs.Doings.{Does};
 ghost use Rattle.index_cmd.specs.Replies.{Ends, HasTooManySections, IsAlreadyIndexed, IsStatus, MakesTooLarge};
 ghost use Rattle.command_base.specs.Replies.{Writes};
@@ -32,7 +33,7 @@ use std::thread::Threads;
 /// Does what the words after the program's name ask for: reads the file from the shelf, builds its index, and writes the answer to
 /// the sink, or stores the index or the file with it; answers the lines of the input or of a script while it builds; reads an index
 /// and writes its answer; compares the file's address table with its units; lists the source files
-/// that its line tables name; or makes a program and writes the sizes of its indexes.
+/// that its line tables name; answers from an index that is kept, or else builds and keeps it; or makes a program and writes the sizes of its indexes.
 /// It gives the status. No clause speaks of the
 /// number of workers.
 pub fn run<R: Threads + Wait + Sync, F: Shelf, S: Source + Send, K: Sink + Send, G: Gate + Sync>(
@@ -84,13 +85,18 @@ pub fn run<R: Threads + Wait + Sync, F: Shelf, S: Source + Send, K: Sink + Send,
     ensures too_many_sections_line { result ≡ 13 → Appends (K.written out.old) (K.written out.new) (line (codes "too" ∷ codes "many" ∷ codes "sections" ∷ [])) }
     ensures prefix { result ≡ 5 → WritesPrefix (request_of (words_of words.now)) (F.files shelf.old) (heard S.left S.read_faults input.old input.new) (K.written out.old) (K.written out.new) }
 
-    // The index of the definitions over the file's bytes is stored, or the file with that index as a section, and nothing else;
-    // `ask` and `look` store nothing. A store that fails leaves what was there or a prefix, and a file that was stored before it
+    // The index of the definitions over the file's bytes is stored, or the file with that index as a section, or an index is kept, and
+    // nothing else; `ask` and `look` store nothing. A store that fails leaves what was there or a prefix, and a file that was stored before it
     // stays.
     ensures stored { result ≡ 0 → IsStored (request_of (words_of words.now)) (F.files shelf.old) (F.files shelf.new) }
     ensures part_stored { result ≡ 4 → IsPartStored (request_of (words_of words.now)) (F.files shelf.old) (F.files shelf.new) }
     ensures kept { StoresNothing (request_of (words_of words.now)) → SameFiles (F.files shelf.old) (F.files shelf.new) }
     ensures untouched { result ≢ 0 → result ≢ 4 → result ≢ 5 → SameFiles (F.files shelf.old) (F.files shelf.new) }
+    // An index that may be kept: an answer is that of the kept one, or of the one that was built, which is kept then or isn't; and what
+    // is wrong with the rest of the file is said only where no kept one answered.
+    ensures cached { result ≡ 0 → UsesKept (request_of (words_of words.now)) (F.files shelf.old) (F.files shelf.new) (Rose (F.kept_faults shelf.old) (F.kept_faults shelf.new)) (Rose (F.store_faults shelf.old) (F.store_faults shelf.new)) (K.written out.old) (K.written out.new) statuses.Answered }
+    ensures cached_refused { result ≡ 1 → UsesKept (request_of (words_of words.now)) (F.files shelf.old) (F.files shelf.new) (Rose (F.kept_faults shelf.old) (F.kept_faults shelf.new)) (Rose (F.store_faults shelf.old) (F.store_faults shelf.new)) (K.written out.old) (K.written out.new) statuses.Refused }
+    ensures cached_too_large { result ≡ 9 → UsesKept (request_of (words_of words.now)) (F.files shelf.old) (F.files shelf.new) (Rose (F.kept_faults shelf.old) (F.kept_faults shelf.new)) (Rose (F.store_faults shelf.old) (F.store_faults shelf.new)) (K.written out.old) (K.written out.new) statuses.IndexTooLarge }
     ensures cut { result ≡ 5 → SameFiles (F.files shelf.old) (F.files shelf.new) ⊎ IsPartStored (request_of (words_of words.now)) (F.files shelf.old) (F.files shelf.new) }
 {
     let status = command(rt, alloc, words, shelf, input, out, gate);
@@ -109,6 +115,7 @@ fn command<R: Threads + Wait + Sync, F: Shelf, S: Source + Send, K: Sink + Send,
     gate: &G,
 ) -> Status
     ensures did { Does (request_of (words_of words.now)) (F.files shelf.old) (F.files shelf.new) (heard S.left S.read_faults input.old input.new) (Rose (F.read_faults shelf.old) (F.read_faults shelf.new)) (Rose (F.store_faults shelf.old) (F.store_faults shelf.new)) (Rose (K.write_faults out.old) (K.write_faults out.new)) (K.written out.old) (K.written out.new) result }
+    ensures uses { UsesKept (request_of (words_of words.now)) (F.files shelf.old) (F.files shelf.new) (Rose (F.kept_faults shelf.old) (F.kept_faults shelf.new)) (Rose (F.store_faults shelf.old) (F.store_faults shelf.new)) (K.written out.old) (K.written out.new) result }
     ensures input { ReadsNoInput (request_of (words_of words.now)) → input.new ≡ input.old }
     ensures counts { K.write_faults out.old ≤ K.write_faults out.new }
 {

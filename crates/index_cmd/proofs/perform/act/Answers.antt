@@ -5,7 +5,9 @@ use Rattle.index_cmd.specs.Doings.{Does}
 use Rattle.index_cmd.specs.Requests.{ReadsNoInput}
 use Rattle.index_cmd.specs.Tasks.{request_on, IsActionInBounds}
 use Rattle.index_cmd.specs.declared.task.Action.{Action}
-use Rattle.index_cmd.proofs.Doings.{added, asked, compared, indexed, listed, looked, looked_names, raced, served}
+use Rattle.index_cmd.proofs.Doings.{added, asked, cached_does, compared, indexed, listed, looked, looked_names, raced, served}
+use Rattle.index_cmd.proofs.KeptUses.{other_action, uses, IsNotCached}
+use Rattle.index_cmd.specs.Caching.{UsesKept}
 use Rattle.index_cmd.proofs.perform.act.Goals as goal
 
 pub returns-in-Ask-clause-did : goal.returns-in-Ask-clause-did
@@ -141,3 +143,58 @@ returns-in-Files-clause-did g c told file old_reads old_stores was =
     let new = g.K.Sink.written call.new.out in
     subst (λ (a : Action). Does (Some (request_on file a)) told shelf input reads stores writes old new call.result) (sym c.in-Files.is)
     (listed told shelf file c.args.bytes.now input old_reads _ _ old_stores _ _ writes was old new _ call.result call.ensures.wrote call.ensures.causes)
+
+pub returns-in-Ask-clause-uses : goal.returns-in-Ask-clause-uses
+returns-in-Ask-clause-uses g c told file same holds = other_action _ _ _ _ _ _ file c.args.action.now (subst IsNotCached (sym c.in-Ask.is) tt) _
+
+pub returns-in-Index-clause-uses : goal.returns-in-Index-clause-uses
+returns-in-Index-clause-uses g c told file same holds = other_action _ _ _ _ _ _ file c.args.action.now (subst IsNotCached (sym c.in-Index.is) tt) _
+
+pub returns-in-Add-clause-uses : goal.returns-in-Add-clause-uses
+returns-in-Add-clause-uses g c told file same holds = other_action _ _ _ _ _ _ file c.args.action.now (subst IsNotCached (sym c.in-Add.is) tt) _
+
+pub returns-in-LookGdb-clause-uses : goal.returns-in-LookGdb-clause-uses
+returns-in-LookGdb-clause-uses g c told file same holds = other_action _ _ _ _ _ _ file c.args.action.now (subst IsNotCached (sym c.in-LookGdb.is) tt) _
+
+pub returns-in-LookNames-clause-uses : goal.returns-in-LookNames-clause-uses
+returns-in-LookNames-clause-uses g c told file same holds = other_action _ _ _ _ _ _ file c.args.action.now (subst IsNotCached (sym c.in-LookNames.is) tt) _
+
+pub returns-in-Serve-clause-uses : goal.returns-in-Serve-clause-uses
+returns-in-Serve-clause-uses g c told file same holds = other_action _ _ _ _ _ _ file c.args.action.now (subst IsNotCached (sym c.in-Serve.is) tt) _
+
+pub returns-in-Race-clause-uses : goal.returns-in-Race-clause-uses
+returns-in-Race-clause-uses g c told file same holds = other_action _ _ _ _ _ _ file c.args.action.now (subst IsNotCached (sym c.in-Race.is) tt) _
+
+pub returns-in-Aranges-clause-uses : goal.returns-in-Aranges-clause-uses
+returns-in-Aranges-clause-uses g c told file same holds = other_action _ _ _ _ _ _ file c.args.action.now (subst IsNotCached (sym c.in-Aranges.is) tt) _
+
+pub returns-in-Files-clause-uses : goal.returns-in-Files-clause-uses
+returns-in-Files-clause-uses g c told file same holds = other_action _ _ _ _ _ _ file c.args.action.now (subst IsNotCached (sym c.in-Files.is) tt) _
+
+pub cached_file-requires-clause-offered : goal.cached_file-requires-clause-offered
+cached_file-requires-clause-offered g c κs within = subst IsActionInBounds c.in-Cached.is c.requires.bounds
+
+pub returns-in-Cached-clause-did : goal.returns-in-Cached-clause-did
+returns-in-Cached-clause-did g c told file old_reads old_stores was =
+    let shelf = g.F.Shelf.files c.args.shelf.now in
+    let input = heard g.S.Source.left g.S.Source.read_faults c.args.input.now c.args.input.now in
+    let call = c.cached_file in
+    let after = g.F.Shelf.files call.new.shelf in
+    let reads = Rose old_reads (g.F.Shelf.read_faults call.new.shelf) in
+    let stores = Rose old_stores (g.F.Shelf.store_faults call.new.shelf) in
+    let writes = Rose (g.K.Sink.write_faults c.args.out.now) (g.K.Sink.write_faults call.new.out) in
+    let old = g.K.Sink.written c.args.out.now in
+    let new = g.K.Sink.written call.new.out in
+    subst (λ (a : Action). Does (Some (request_on file a)) told after input reads stores writes old new call.result) (sym c.in-Cached.is)
+    (cached_does told shelf file c.args.bytes.now input old_reads _ _ old_stores _ _ writes was old new _ _ after call.result call.ensures.wrote call.ensures.causes call.ensures.leaves)
+
+pub returns-in-Cached-clause-uses : goal.returns-in-Cached-clause-uses
+returns-in-Cached-clause-uses g c told file same holds =
+    let call = c.cached_file in
+    let after = g.F.Shelf.files call.new.shelf in
+    let kept = Rose (g.F.Shelf.kept_faults c.args.shelf.now) (g.F.Shelf.kept_faults call.new.shelf) in
+    let stores = Rose (g.F.Shelf.store_faults c.args.shelf.now) (g.F.Shelf.store_faults call.new.shelf) in
+    let old = g.K.Sink.written c.args.out.now in
+    let new = g.K.Sink.written call.new.out in
+    subst (λ (a : Action). UsesKept (Some (request_on file a)) told after kept stores old new call.result) (sym c.in-Cached.is)
+    (uses told (g.F.Shelf.files c.args.shelf.now) after same file c.args.bytes.now _ _ holds kept stores old new call.result call.ensures.tied call.ensures.looks_first)

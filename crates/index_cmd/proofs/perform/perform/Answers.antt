@@ -6,6 +6,8 @@ use Rattle.index_cmd.specs.Requests.{TheHelp, TheVersion, ReadsNoInput}
 use Rattle.index_cmd.specs.Tasks.{request_seen, IsInBounds}
 use Rattle.index_cmd.specs.declared.task.Task.{Task}
 use Rattle.index_cmd.proofs.Doings.{drilled, own_text}
+use Rattle.index_cmd.proofs.KeptUses.{other_task, IsNotOnFile}
+use Rattle.index_cmd.specs.Caching.{UsesKept}
 use Rattle.index_cmd.proofs.perform.perform.Goals as goal
 
 pub returns-in-Help-clause-did : goal.returns-in-Help-clause-did
@@ -65,3 +67,19 @@ returns-in-OnFile-clause-did g c =
 
 pub returns-in-OnFile-clause-input : goal.returns-in-OnFile-clause-input
 returns-in-OnFile-clause-input g c = subst (λ (t : Task). ReadsNoInput (Some (request_seen t)) → c.read_and_act.new.input ≡ c.args.input.now) (sym c.in-OnFile.is) c.read_and_act.ensures.input
+
+pub returns-in-Help-clause-uses : goal.returns-in-Help-clause-uses
+returns-in-Help-clause-uses g c = other_task _ _ _ _ _ _ c.args.task.now (subst IsNotOnFile (sym c.in-Help.is) tt) _
+
+pub returns-in-Version-clause-uses : goal.returns-in-Version-clause-uses
+returns-in-Version-clause-uses g c = other_task _ _ _ _ _ _ c.args.task.now (subst IsNotOnFile (sym c.in-Version.is) tt) _
+
+pub returns-in-Drill-clause-uses : goal.returns-in-Drill-clause-uses
+returns-in-Drill-clause-uses g c = other_task _ _ _ _ _ _ c.args.task.now (subst IsNotOnFile (sym c.in-Drill.is) tt) _
+
+pub returns-in-OnFile-clause-uses : goal.returns-in-OnFile-clause-uses
+returns-in-OnFile-clause-uses g c =
+    let done = c.read_and_act in
+    let kept = Rose (g.F.Shelf.kept_faults c.args.shelf.now) (g.F.Shelf.kept_faults done.new.shelf) in
+    let stores = Rose (g.F.Shelf.store_faults c.args.shelf.now) (g.F.Shelf.store_faults done.new.shelf) in
+    subst (λ (t : Task). UsesKept (Some (request_seen t)) (g.F.Shelf.files c.args.shelf.now) (g.F.Shelf.files done.new.shelf) kept stores (g.K.Sink.written c.args.out.now) (g.K.Sink.written done.new.out) done.result) (sym c.in-OnFile.is) done.ensures.uses

@@ -10,9 +10,11 @@ use Rattle.command_words.specs.SeenWords.{words_of}
 use Rattle.index_cmd.specs.Stores.{LeavesAtEnd}
 use Rattle.command_base.specs.declared.status.Table.TheVariants.{Addresses, Lines}
 use Rattle.command_base.specs.declared.status.Status.TheVariants.{Answered, Refused, IndexRefused, TableRefused, Usage, ReadFault, StoreFault, WriteFault, IndexTooLarge, FileTooBig, AlreadyIndexed, TooManySections, InputFault, InputTooLong}
-use Rattle.index_cmd.proofs.Outcomes.{Outcome, outcome, telling, failed, lined, no_memory, asks, asks_index, is_status, outside_grammar}
+use Rattle.index_cmd.proofs.Outcomes.{Outcome, one_status, outcome, telling, failed, lined, no_memory, asks, asks_index, is_status, outside_grammar}
 use Rattle.index_cmd.proofs.Leavings.{left_at_end, left_by, kept, untouched}
 use Rattle.index_cmd.proofs.Completeness.{complete}
+use Rattle.index_cmd.proofs.KeptUses.{at_end}
+use Rattle.index_cmd.specs.Caching.{UsesKept}
 use Rattle.index_cmd.proofs.top.run.Given.{Over}
 use Rattle.index_cmd.proofs.top.run.Goals.{After-code}
 use Rattle.index_cmd.proofs.top.run.Goals as goal
@@ -156,3 +158,21 @@ returns-clause-too_many_sections g c is = (lined (request g c) (told g c) (input
 
 pub returns-clause-too_many_sections_line : goal.returns-clause-too_many_sections_line
 returns-clause-too_many_sections_line g c is = (lined (request g c) (told g c) (input g c) (reads g c) (stores g c) (Rose (first g c) (last g c)) (old g c) (new g c) c.end.result TooManySections _ (λ n. omega (arith, n)) (came g c) (sym c.code.ensures ∙ is) refl).1
+
+pub returns-clause-cached : goal.returns-clause-cached
+returns-clause-cached g c is =
+    let kept = Rose (g.F.Shelf.kept_faults c.args.shelf.now) (g.F.Shelf.kept_faults c.command-status.new.shelf) in
+    let used = at_end (told g c) (shelf g c) kept (stores g c) (old g c) _ (new g c) _ (request g c) c.command-status.result c.end.result c.end.ensures.ends c.command-status.ensures.uses in
+    subst (UsesKept (request g c) (told g c) (shelf g c) kept (stores g c) (old g c) (new g c)) (one_status c.end.result Answered (λ n. omega (arith, n)) (sym c.code.ensures ∙ is)) used
+
+pub returns-clause-cached_refused : goal.returns-clause-cached_refused
+returns-clause-cached_refused g c is =
+    let kept = Rose (g.F.Shelf.kept_faults c.args.shelf.now) (g.F.Shelf.kept_faults c.command-status.new.shelf) in
+    let used = at_end (told g c) (shelf g c) kept (stores g c) (old g c) _ (new g c) _ (request g c) c.command-status.result c.end.result c.end.ensures.ends c.command-status.ensures.uses in
+    subst (UsesKept (request g c) (told g c) (shelf g c) kept (stores g c) (old g c) (new g c)) (one_status c.end.result Refused (λ n. omega (arith, n)) (sym c.code.ensures ∙ is)) used
+
+pub returns-clause-cached_too_large : goal.returns-clause-cached_too_large
+returns-clause-cached_too_large g c is =
+    let kept = Rose (g.F.Shelf.kept_faults c.args.shelf.now) (g.F.Shelf.kept_faults c.command-status.new.shelf) in
+    let used = at_end (told g c) (shelf g c) kept (stores g c) (old g c) _ (new g c) _ (request g c) c.command-status.result c.end.result c.end.ensures.ends c.command-status.ensures.uses in
+    subst (UsesKept (request g c) (told g c) (shelf g c) kept (stores g c) (old g c) (new g c)) (one_status c.end.result IndexTooLarge (λ n. omega (arith, n)) (sym c.code.ensures ∙ is)) used
