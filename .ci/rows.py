@@ -18,8 +18,6 @@ TOLD = {"args", "stdin", "stdout", "status", "expect", "dirs"}
 # How many words stand before the option of the number of workers.
 BEFORE_WORKERS = {"add": 3, "aranges": 1, "ask": 1, "cached": 1, "files": 1, "index": 3, "race": 1, "serve": 1}
 WORKERS = (1, 2, 8, 64)
-# Commands that the program doesn't have yet: their rows are vectors alone.
-LATER = {"cached"}
 
 
 def read(path, otherwise=b""):
@@ -78,8 +76,6 @@ def main():
     passed, failed = 0, 0
     for row in sorted(os.path.join(folder, name) for folder in FOLDERS for name in os.listdir(folder)):
         words = words_of(row)
-        if LATER.intersection(words[:1]):
-            continue
         for run in runs_of(words):
             wrong = differs(program, row, run)
             if wrong is None:
