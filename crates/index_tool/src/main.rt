@@ -1,20 +1,29 @@
 //! `gdbix`: the symbol index of a program with DWARF, on the command line.
 #![tactic(auto)]
 
+mod said;
+mod streams;
+mod words;
+
 use index_cmd::run;
 use outside::{FileShelf, NoGate, StreamSink, StreamSource};
-use std::alloc::AllocError;
+use said::{say_failure, say_input_error, say_output_error, stop};
 use std::process::ExitCode;
-use std::{env, io};
+use streams::take_closed;
+use words::{Stop, checked_words};
 
-fn main(rt: HostRuntime) -> io::Result<ExitCode> {
-    let mut words = Vec::new(rt.alloc());
-    for word in env::args(&rt)?.skip(1) {
-        words.push(word).map_err(AllocError::from)?;
-    }
-    let mut shelf = FileShelf::new(&rt, rt.alloc())?;
-    let mut input = StreamSource::new(rt.reader());
+fn main(rt: HostRuntime) -> ExitCode {
+    let _closed = take_closed(&rt);
     let mut out = StreamSink::new(&rt);
+    let words = match checked_words(&rt) {
+        Ok(words) => words,
+        Err(why) => return ExitCode::from(stop(&rt, why, &mut out)),
+    };
+    let mut shelf = match FileShelf::new(&rt, rt.alloc()) {
+        Ok(shelf) => shelf,
+        Err(_) => return ExitCode::from(stop(&rt, Stop::NoMemory, &mut out)),
+    };
+    let mut input = StreamSource::new(rt.reader());
     let status = run(
         &rt,
         rt.alloc(),
@@ -24,5 +33,8 @@ fn main(rt: HostRuntime) -> io::Result<ExitCode> {
         &mut out,
         &NoGate,
     );
-    Ok(ExitCode::from(status))
+    say_failure(&rt, status, shelf.failure());
+    say_input_error(&rt, status, input.error());
+    say_output_error(&rt, status, out.error());
+    ExitCode::from(status)
 }

@@ -1,7 +1,9 @@
+pub mod Answers
 pub mod Counts
 pub mod Files
 pub mod MemShelves
 pub mod MemSinks
 pub mod MemSources
+pub mod Places
 pub mod Taken
 pub mod Written

@@ -6,12 +6,16 @@
 //! files and standard streams don't. Clauses on content hold where it is told.
 #![tactic(auto)]
 
+mod answers;
+mod device;
+mod failure;
 mod file_shelf;
 mod gate;
 mod mem_shelf;
 mod mem_sink;
 mod mem_source;
 mod replace;
+mod same_file;
 mod shelf;
 mod sink;
 mod source;
@@ -19,14 +23,16 @@ mod stream_sink;
 mod stream_source;
 mod test_gate;
 
+pub use failure::{Cause, Failure, kind_words, system_words};
 pub use file_shelf::FileShelf;
 pub use gate::{Gate, NoGate};
 pub use mem_shelf::{FailingStore, Leaves, MemShelf};
 pub use mem_sink::MemSink;
 pub use mem_source::MemSource;
+pub use same_file::is_same_file;
 pub use shelf::{Failed, Shelf};
 pub use sink::{Sink, write_all};
 pub use source::Source;
-pub use stream_sink::StreamSink;
+pub use stream_sink::{Printed, StreamSink};
 pub use stream_source::StreamSource;
 pub use test_gate::{GateEvent, Hold, MAX_LOOKS, TestGate};

@@ -34,7 +34,7 @@ pub(crate) fn replace<R: Files>(
                 path.as_str(),
             ));
             if done.is_err() {
-                fs::remove_file(files, beside.as_str())?;
+                let _ = fs::remove_file(files, beside.as_str());
             }
             done
         }
