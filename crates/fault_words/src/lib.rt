@@ -7,8 +7,6 @@ mod fault;
 mod form;
 mod help;
 mod message;
-#[cfg(test)]
-mod tests;
 mod usage;
 
 pub use end::{About, End};

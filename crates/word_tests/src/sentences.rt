@@ -1,6 +1,6 @@
 //! Sentences as they stand on standard error, and help.
 
-use crate::{fault_of, help_for, message_for, note_for, usage_of};
+use fault_words::{fault_of, help_for, message_for, note_for, usage_of};
 use std::test::Fail;
 
 #[test]
