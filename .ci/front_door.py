@@ -95,8 +95,7 @@ class Door:
     def run(self, *words, **how):
         how.setdefault("stdin", subprocess.DEVNULL)
         how.setdefault("stdout", subprocess.PIPE)
-        with contextlib.ExitStack() as _:
-            done = subprocess.run([self.program, *words], cwd=self.folder, stderr=subprocess.PIPE, timeout=120, **how)
+        done = subprocess.run([self.program, *words], cwd=self.folder, stderr=subprocess.PIPE, timeout=120, **how)
         return done.returncode, (done.stdout or b"").decode(errors="replace"), done.stderr.decode(errors="replace")
 
     def note(self, what, wrong):
@@ -150,6 +149,17 @@ def try_words(door):
     for command in COMMANDS:
         for word in ("--help", "-h"):
             door.expect((command, word), 0, rf"(?s)usage: gdbix {command} .*\n", None)
+
+
+def try_usage_rows(door):
+    """A row outside the grammar is told which word is wrong."""
+    for base in fault_pages.ROWS:
+        for row in sorted(os.listdir(os.path.join(TOP, base))):
+            folder = os.path.join(TOP, base, row)
+            if os.path.exists(os.path.join(folder, "status")) and fault_pages.read(folder, "status").strip() == "2":
+                words = fault_pages.read(folder, "args").split("\n")[:-1] if os.path.exists(os.path.join(folder, "args")) else []
+                got = door.run(*words)
+                door.note(row, "said %r" % got[2] if "aren't in the grammar" in got[2] else differs(got, 2, "usage\n", "usage: .*"))
 
 
 def try_files(door):
@@ -281,7 +291,7 @@ def main():
     with tempfile.TemporaryDirectory() as folder:
         door = Door(os.path.abspath(sys.argv[1]), folder)
         prepare(folder)
-        for part in (try_words, try_files, try_streams, try_little_memory, try_kept, try_codes, try_install, try_completion):
+        for part in (try_words, try_usage_rows, try_files, try_streams, try_little_memory, try_kept, try_codes, try_install, try_completion):
             part(door)
     print("front door: %d passed, %d failed" % (door.passed, door.failed))
     return 1 if door.failed or not door.passed else 0

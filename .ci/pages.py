@@ -3,8 +3,8 @@
 
 What the pages say of the repository is so: each statement of docs/PROVED.md names something in backquotes that is declared in the sources
 (a call, a type, a variant, a clause or a definition), and nothing that isn't; each link and each path in the pages leads to a file that is
-there; docs/FAULTS.md is that of the table, whose codes are those of the sources, and every command has its help, its form, its words in
-the man page and in the completions; and README.md has at most 100 lines. The last line is 'pages: N passed, M failed'."""
+there; docs/FAULTS.md is that of the table, whose codes are those of the sources, and every command has its help and its words in the man
+page and in the completions; the table of the grammar has the commands and bounds of the grammar; and README.md has at most 100 lines. The last line is 'pages: N passed, M failed'."""
 import glob
 import os
 import re
@@ -112,6 +112,18 @@ def wrong_commands():
             yield None if re.search(rf"\b{command}\b", text) and second in text else f"{where}: no {command} {second}"
 
 
+def wrong_grammar():
+    """The table of the grammar in fault_words has the commands and the bounds of command_words."""
+    words = read("crates", "command_words", "src", "words.rt")
+    known = {word for form in forms() for word in form}
+    for word in re.findall(r'(?:word|word\.as_str\(\)) == "(\w+)"', words):
+        yield None if word in known else f"form.rt: no {word}"
+    options = read("crates", "command_words", "src", "options.rt").replace("u32::MAX", "4294967295")
+    table = read("crates", "fault_words", "src", "form.rt")
+    for name, low, high in re.findall(r'name: "(--\w+)",\s+low: (\d+),\s+high: (\d+),', options):
+        yield None if f'number!("{name}" {low} {high} ' in table else f"form.rt: {name} isn't {low} to {high}"
+
+
 def wrong_lengths():
     lines = len(read("README.md").splitlines())
     yield None if lines <= 100 else f"README.md: {lines} lines"
@@ -119,7 +131,7 @@ def wrong_lengths():
 
 def main():
     passed, failed = 0, 0
-    for check in (wrong_statements, wrong_links, wrong_faults, wrong_commands, wrong_lengths):
+    for check in (wrong_statements, wrong_links, wrong_faults, wrong_commands, wrong_grammar, wrong_lengths):
         for wrong in check():
             if wrong is None:
                 passed += 1

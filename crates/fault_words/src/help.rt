@@ -20,7 +20,7 @@ Give a debugger its index:
   index       store the index alone          gdbix index --as gdb8 app app.idx
 Ask an index that was stored:
   look gdb    a .gdb_index section           gdbix look gdb app.idx name main
-  look names  a .debug_names section         gdbix look names X X.debug_str name main
+  look names  a .debug_names section         gdbix look names X S name main
 Check what a program says of itself:
   aranges     its address table              gdbix aranges app
   files       its tables of source files     gdbix files app stdio.h
@@ -119,7 +119,8 @@ look names answers from the .debug_names section in INDEX, whose names stand
 in STRINGS, the .debug_str section from its byte B on, by default from 0.
 QUERY is name NAME. An entry is a line SORT UNIT OFFSET TAG NAME.
 
-  objcopy -O binary --only-section=.gdb_index --set-section-flags .gdb_index=alloc app app.idx
+  objcopy -O binary --only-section=.gdb_index \\
+    --set-section-flags .gdb_index=alloc app app.idx
   gdbix look gdb app.idx name main
 ";
 

@@ -120,7 +120,7 @@ fn check_query<'w>(form: &'static Form, words: &'w [String]) -> Result<(), Usage
     match words.split_first() {
         None if form.queries.is_empty() => Ok(()),
         None => Err(Usage::Missing(form.command, "QUERY")),
-        Some((word, _)) if form.queries.is_empty() => Err(Usage::Extra(word.as_str())),
+        Some(_) if form.queries.is_empty() => check_end(words),
         Some((word, others)) => check_offered(form, word.as_str(), others),
     }
 }
@@ -135,15 +135,35 @@ fn check_offered<'w>(
         .iter()
         .find(|query| **query == word)
         .ok_or(Usage::UnknownQuery(word))?;
-    match others.split_first() {
-        None if *query == "main" || *query == "cache" => Ok(()),
-        None if *query == "addr" => Err(Usage::Missing("addr", "HEX")),
-        None => Err(Usage::Missing(query, "NAME")),
-        Some((extra, _)) if *query == "main" || *query == "cache" => Err(Usage::Extra(
-            extra.as_str(),
-        )),
-        Some((address, _)) if *query == "addr" => Err(Usage::BadAddress(address.as_str())),
-        Some(_) => Ok(()),
+    match *query {
+        "main" | "cache" => check_end(others),
+        "addr" => check_address(others),
+        _ => check_name(query, others),
+    }
+}
+
+fn check_end(words: &[String]) -> Result<(), Usage<'_>> {
+    match words.first() {
+        Some(word) => Err(Usage::Extra(word.as_str())),
+        None => Ok(()),
+    }
+}
+
+// The words behind `addr`, of which something is wrong.
+fn check_address(words: &[String]) -> Result<(), Usage<'_>> {
+    match words {
+        [] => Err(Usage::Missing("addr", "HEX")),
+        [word] => Err(Usage::BadAddress(word.as_str())),
+        [_, word, ..] => Err(Usage::Extra(word.as_str())),
+    }
+}
+
+// The words of a name, of which there is at least one byte.
+fn check_name<'w>(query: &'static str, words: &'w [String]) -> Result<(), Usage<'w>> {
+    match words {
+        [] => Err(Usage::Missing(query, "NAME")),
+        [word] if word.is_empty() => Err(Usage::Missing(query, "NAME")),
+        _ => Ok(()),
     }
 }
 
