@@ -65,6 +65,7 @@ ENDS = [
     (("race", "app", "gone"), 3, "read fault\n", "app or gone: can't be read; .*"),
     (("index", "--as", "gdb8", "app", "none/out"), 4, "store fault\n", "none/out: can't be stored; .*"),
     (("look", "gdb", "app.c", "name", "main"), 8, "index refused 40 0\n", r"app\.c: no \.gdb_index of version 8 or 9 .*"),
+    (("look", "names", "names", "none", "name", "main"), 8, r"index refused 56 [0-9a-f]+\n", r"names: a name isn't in the strings .*; give the strings .*"),
     (("race", "app", "big"), 10, "file too big\n", r"app or big: too big: .*"),
     (("race", "app", "long"), 11, None, "a line has more than 65,536 bytes.*"),
     (("add", "--as", "gdb8", "indexed", "out"), 12, "already indexed\n", "indexed: already has such an index; remove it .*"),
@@ -79,8 +80,9 @@ ANSWERED = [
     (("aranges", "app"), r"agrees\n"),
     (("files", "app", "app.c"), r"found [12]\n(?:0 \d+ \d+ .*app\.c\n)+"),
     (("add", "--as", "gdb9", "app", "with9"), ""),
-    (("index", "--as", "names", "app", "n"), ""),
-    (("look", "names", "n", "n.debug_str", "name", "nothing"), "found 0\n"),
+    (("index", "--as", "gdb8", "app", "app.idx"), ""),
+    (("look", "gdb", "app.idx", "name", "add"), "found 1\n0 function global add\n"),
+    (("add", "--as", "names", "app", "named"), ""),
     (("drill", "7", "10", "2"), r"units 10 entries \d+ names \d+ gdb8 \d+ dbgnames \d+ \d+ main main\n"),
 ]
 
@@ -133,7 +135,7 @@ def prepare(folder):
     make("gcc", "-g", "-gz=zlib", "-o", "packed", "app.c")
     make("objcopy", "--decompress-debug-sections", "packed", "unpacked")
     make("strip", "-o", "bare", "app")
-    for name, size in (("big", 1048577), ("long", 70000)):
+    for name, size in (("big", 1048577), ("long", 70000), ("none", 0)):
         with open(os.path.join(folder, name), "w", encoding="utf-8") as file:
             file.write("x" * size)
 
@@ -168,6 +170,7 @@ def try_files(door):
     for words, out, err in REFUSED:
         door.expect(words, 1, out, err)
     door.run("add", "--as", "gdb8", "app", "indexed")
+    door.run("index", "--as", "names", "app", "names")
     for words, status, out, err in ENDS:
         door.expect(words, status, out, err)
 
@@ -220,6 +223,23 @@ def try_codes(door):
             status, _, err = Door(door.program, room).run(*words)
         wrong = status == 0 or not err.startswith("gdbix: ") or sentence not in err
         door.note(f"code {code} ({row})", f"status {status}, said {err!r}" if wrong else None)
+
+
+def try_readme(door):
+    """The examples of README.md, run in their order over the small program: what they write but for numbers, which compilers decide."""
+    examples = fault_pages.read(TOP, "README.md").split("## Four examples", 1)[1].split("\n## ", 1)[0]
+    bin_folder = os.path.join(door.folder, "bin")
+    os.mkdir(bin_folder)
+    os.symlink(door.program, os.path.join(bin_folder, "gdbix"))
+    environment = {**os.environ, "PATH": bin_folder + ":" + os.environ["PATH"]}
+    for example in re.split(r"^    \$ ", examples, flags=re.M)[1:]:
+        command, _, wanted = example.partition("\n")
+        if "gdb " in command and shutil.which("gdb") is None:
+            print("front door: no gdb, an example is passed over")
+            continue
+        done = subprocess.run(["bash", "-c", command], cwd=door.folder, env=environment, capture_output=True, text=True)
+        shapes = [re.sub(r"\b[0-9a-f]+\b", "#", text).split() for text in (done.stdout, wanted)]
+        door.note("README.md: " + command, None if shapes[0] == shapes[1] and not done.stderr else f"wrote {done.stdout + done.stderr!r}")
 
 
 def try_install(door):
@@ -291,7 +311,7 @@ def main():
     with tempfile.TemporaryDirectory() as folder:
         door = Door(os.path.abspath(sys.argv[1]), folder)
         prepare(folder)
-        for part in (try_words, try_usage_rows, try_files, try_streams, try_little_memory, try_kept, try_codes, try_install, try_completion):
+        for part in (try_words, try_usage_rows, try_files, try_streams, try_little_memory, try_kept, try_codes, try_readme, try_install, try_completion):
             part(door)
     print("front door: %d passed, %d failed" % (door.passed, door.failed))
     return 1 if door.failed or not door.passed else 0

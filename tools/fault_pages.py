@@ -67,16 +67,22 @@ def ends():
     return [(int(status), sentence, remedy) for status, sentence, remedy in rows if status != "255"]
 
 
+def written():
+    """Each row with what it writes, those of `cached` last, since a kept index has faults of its own."""
+    rows = [f"{base}/{row}" for base in ROWS for row in sorted(os.listdir(os.path.join(TOP, base)))]
+    for row in sorted(rows, key=lambda row: os.path.basename(row).startswith("cached")):
+        path = os.path.join(TOP, row, "stdout")
+        if os.path.exists(path):
+            with open(path, "rb") as file:
+                yield row, file.read()
+
+
 def shown():
     """Of each code the first row that gives it."""
     found = {}
-    for base in ROWS:
-        for row in sorted(os.listdir(os.path.join(TOP, base))):
-            path = os.path.join(TOP, base, row, "stdout")
-            if os.path.exists(path):
-                with open(path, "rb") as file:
-                    for code, _ in FAULT_LINE.findall(file.read()):
-                        found.setdefault(int(code), f"{base}/{row}")
+    for row, text in written():
+        for code, _ in FAULT_LINE.findall(text):
+            found.setdefault(int(code), row)
     return found
 
 
