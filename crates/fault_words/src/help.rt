@@ -116,7 +116,8 @@ look gdb answers from the .gdb_index section in INDEX, of version 8 or 9.
 QUERY is name NAME, addr HEX or main. An element is a line UNIT KIND SCOPE NAME.
 
 look names answers from the .debug_names section in INDEX, whose names stand
-in STRINGS, the .debug_str section from its byte B on, by default from 0.
+in STRINGS, the .debug_str section from its byte B on, by default from 0; of
+what 'index --as names' stored B is the length of the program's .debug_str.
 QUERY is name NAME. An entry is a line SORT UNIT OFFSET TAG NAME.
 
   objcopy -O binary --only-section=.gdb_index \\
