@@ -182,6 +182,7 @@ def try_streams(door):
     door.expect(("serve", "--wait", "3", "packed"), 1, r"4 refused 4 [0-9a-f]+\n", "packed: a debug section is compressed .*", stdin=None, input=b"main\n")
     with open("/dev/full", "wb") as full:
         door.expect(("ask", "app", "name", "main"), 5, None, "standard output can't be written; .*", stdout=full)
+        door.expect(("--help",), 5, None, "standard output can't be written; .*", stdout=full)
     folder = os.open(door.folder, os.O_RDONLY)
     door.expect(("serve", "app"), 6, None, "standard input can't be read; .*", stdin=folder)
     os.close(folder)

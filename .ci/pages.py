@@ -4,7 +4,8 @@
 What the pages say of the repository is so: each statement of docs/PROVED.md names something in backquotes that is declared in the sources
 (a call, a type, a variant, a clause or a definition), and nothing that isn't; each link and each path in the pages leads to a file that is
 there; docs/FAULTS.md is that of the table, whose codes are those of the sources, and every command has its help and its words in the man
-page and in the completions; the table of the grammar has the commands and bounds of the grammar; and README.md has at most 100 lines. The last line is 'pages: N passed, M failed'."""
+page and in the completions; the table of the grammar has the commands and bounds of the grammar; and README.md has at most 100 lines. The
+last line is 'pages: N passed, M failed'."""
 import glob
 import os
 import re
@@ -92,6 +93,19 @@ def wrong_links():
             yield None if made or glob.glob(path) else f"{page}: no {target}"
 
 
+def slugs(page):
+    """The anchors of a page's headings."""
+    for heading in re.findall(r"^#+ (.*)$", read(page), re.M):
+        yield re.sub(r"[^\w\- ]", "", heading.lower()).replace(" ", "-")
+
+
+def wrong_anchors():
+    for page in PAGES:
+        for target, anchor in re.findall(r"\]\(([^)#:]*)#([^)]+)\)", read(page)):
+            path = os.path.normpath(os.path.join(os.path.dirname(page), target)) if target else page
+            yield None if anchor in set(slugs(path)) else f"{page}: no #{anchor} in {path}"
+
+
 def wrong_faults():
     done = subprocess.run([sys.executable, os.path.join(TOP, "tools", "fault_pages.py"), "--check"], capture_output=True, text=True)
     yield None if done.returncode == 0 else done.stdout.strip()
@@ -131,7 +145,7 @@ def wrong_lengths():
 
 def main():
     passed, failed = 0, 0
-    for check in (wrong_statements, wrong_links, wrong_faults, wrong_commands, wrong_grammar, wrong_lengths):
+    for check in (wrong_statements, wrong_links, wrong_anchors, wrong_faults, wrong_commands, wrong_grammar, wrong_lengths):
         for wrong in check():
             if wrong is None:
                 passed += 1
