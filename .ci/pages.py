@@ -4,8 +4,8 @@
 What the pages say of the repository is so: each statement of docs/PROVED.md names something in backquotes that is declared in the sources
 (a call, a type, a variant, a clause or a definition), and nothing that isn't; each link and each path in the pages leads to a file that is
 there; docs/FAULTS.md is that of the table, whose codes are those of the sources, and every command has its help and its words in the man
-page and in the completions; the table of the grammar has the commands and bounds of the grammar; and README.md has at most 100 lines. The
-last line is 'pages: N passed, M failed'."""
+page and in the completions; the table of the grammar has the commands and bounds of the grammar; README.md has at most 100 lines,
+and a line of help at most 80 letters. The last line is 'pages: N passed, M failed'."""
 import glob
 import os
 import re
@@ -141,6 +141,9 @@ def wrong_grammar():
 def wrong_lengths():
     lines = len(read("README.md").splitlines())
     yield None if lines <= 100 else f"README.md: {lines} lines"
+    for text in re.findall(r'&str = "\\\n(.*?)";', read("crates", "fault_words", "src", "help.rt"), re.S):
+        long = [line for line in text.splitlines() if len(line) > 80]
+        yield f"help: more than 80 letters: {long[0]}" if long else None
 
 
 def main():

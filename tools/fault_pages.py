@@ -40,7 +40,7 @@ Made by tools/fault_pages.py from the tables of crates/fault_words; don't edit i
 A run that fails says on standard error `gdbix: FILE: SENTENCE (PLACE); REMEDY`. On standard output stands a line for scripts, with a code
 in decimal and a place in hexadecimal. A unit or an entry is named by its offset in `.debug_info`, as readelf and llvm-dwarfdump print it;
 one of `.debug_types` by its offset there and the length of `.debug_info`. "Shown by" is a folder with a file that has the fault, the
-words that are run over it (args) and what they write (stdout).
+words that are run over it (args) and what they write (stdout); "no row of ours" where such a file is too large to be kept here.
 """
 
 
