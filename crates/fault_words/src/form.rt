@@ -1,0 +1,94 @@
+//! The grammar of the command line, as data.
+
+/// What stands for a value.
+#[derive(Clone, Copy)]
+pub(crate) enum Kind {
+    /// A word that isn't empty and doesn't begin with `--`.
+    File,
+    /// A decimal number without a sign or a leading zero.
+    Number { low: u32, high: u32 },
+    /// The kind of an index.
+    Index,
+}
+
+/// An option or an operand.
+#[derive(Clone, Copy)]
+pub struct Value {
+    pub name: &'static str,
+    pub(crate) kind: Kind,
+    /// The kind in words.
+    pub takes: &'static str,
+    /// Whether it has to be there, of an option.
+    pub is_needed: bool,
+}
+
+/// The words of a command, in their order: its options, its operands and its query.
+#[derive(Clone, Copy)]
+pub struct Form {
+    pub command: &'static str,
+    /// The second word of the command, empty where it has none.
+    pub second: &'static str,
+    pub(crate) options: &'static [Value],
+    pub(crate) operands: &'static [Value],
+    /// The first words of its queries.
+    pub(crate) queries: &'static [&'static str],
+}
+
+const FILE: &str = "the name of a file, which doesn't begin with --";
+
+// The name of a file.
+macro_rules! file {
+    ($name:literal) => {
+        Value { name: $name, kind: Kind::File, takes: FILE, is_needed: true }
+    };
+}
+
+// A number within bounds.
+macro_rules! number {
+    ($name:literal $low:literal $high:literal $takes:literal) => {
+        Value { name: $name, kind: Kind::Number { low: $low, high: $high }, takes: $takes, is_needed: false }
+    };
+}
+
+const KIND: Value = Value {
+    name: "--as",
+    kind: Kind::Index,
+    takes: "gdb8, gdb9 or names",
+    is_needed: true,
+};
+
+const WORKERS: Value = number!("--workers" 1 64 "a number from 1 to 64");
+
+const READERS: Value = number!("--readers" 1 16 "a number from 1 to 16");
+
+const WAIT: Value = number!("--wait" 0 3 "a number from 0 to 3");
+
+const BASE: Value = number!("--base" 0 4294967295 "a number from 0 to 4294967295");
+
+const SEED: Value = number!("SEED" 0 4294967295 "a number from 0 to 4294967295");
+
+const UNITS: Value = number!("UNITS" 1 100000 "a number from 1 to 100000");
+
+const N: Value = number!("N" 1 64 "a number from 1 to 64");
+
+// Rows of the table: the command, its second word, its options, operands and queries.
+macro_rules! forms {
+    ($($command:literal $second:literal $options:expr; $operands:expr; $queries:expr;)+) => {
+        [$(Form { command: $command, second: $second, options: $options, operands: $operands, queries: $queries }),+]
+    };
+}
+
+/// All commands but `--help` and `--version`.
+pub(crate) static FORMS: [Form; 11] = forms! {
+    "ask" "" &[WORKERS]; &[file!("FILE")]; &["name", "simple", "addr", "main", "cache"];
+    "index" "" &[KIND, WORKERS]; &[file!("FILE"), file!("OUT")]; &[];
+    "add" "" &[KIND, WORKERS]; &[file!("FILE"), file!("OUT")]; &[];
+    "aranges" "" &[WORKERS]; &[file!("FILE")]; &[];
+    "files" "" &[WORKERS]; &[file!("FILE"), file!("NAME")]; &[];
+    "cached" "" &[WORKERS]; &[file!("FILE"), file!("STORE")]; &["name", "addr", "main"];
+    "look" "gdb" &[]; &[file!("INDEX")]; &["name", "addr", "main"];
+    "look" "names" &[BASE]; &[file!("INDEX"), file!("STRINGS")]; &["name"];
+    "serve" "" &[WORKERS, WAIT]; &[file!("FILE")]; &[];
+    "race" "" &[WORKERS, READERS]; &[file!("FILE"), file!("SCRIPT")]; &[];
+    "drill" "" &[]; &[SEED, UNITS, N]; &[];
+};
