@@ -1,8 +1,31 @@
 //! What the program says of itself.
 
 /// The text of `--help`.
-pub const HELP: &str =
-    "usage: gdbix ask [--workers N] FILE QUERY\n       gdbix index --as KIND [--workers N] FILE OUT\n       gdbix add --as KIND [--workers N] FILE OUT\n       gdbix aranges [--workers N] FILE\n       gdbix files [--workers N] FILE NAME\n       gdbix cached [--workers N] FILE STORE QUERY\n       gdbix look gdb INDEX QUERY\n       gdbix look names [--base B] INDEX STRINGS QUERY\n       gdbix serve [--workers N] [--wait S] FILE\n       gdbix race [--workers N] [--readers M] FILE SCRIPT\n       gdbix drill SEED UNITS N\n       gdbix --help\n       gdbix --version\n\nask answers from the symbol index of FILE, a linked ELF64 program with DWARF.\nQUERY is name NAME, simple NAME, addr HEX, main or cache.\n\nindex stores that index in OUT: a .gdb_index section, version 8 or 9, where\nKIND is gdb8 or gdb9; a .debug_names section where it is names, and in\nOUT.debug_str the strings to be appended to .debug_str.\n\nadd stores FILE in OUT with that index as a section of it, for names with its\nstrings in .debug_str, as gdb-add-index does. OUT may be FILE.\n\naranges says whether .debug_aranges of FILE agrees with the ranges of its\nunits, or the least address with two answers: the unit by the table and the\nunit by its own ranges.\n\nfiles lists the units of FILE whose line tables name the source file NAME: of\neach the number, the index of the file in the table, the number of its\ndirectory, and its path. NAME is the whole path, or what follows its last /.\n\ncached answers as look gdb does, from the index that is kept for FILE by its\nbuild-id, in the file named STORE, the build-id and .gdb-index; where none is\nkept, or what is kept isn't its index, from a new one, which is kept then.\n\nlook gdb answers from the .gdb_index section in INDEX.\nQUERY is name NAME, addr HEX or main.\n\nlook names answers from the .debug_names section in INDEX, whose names stand\nin STRINGS, the .debug_str section from its byte B on, by default from 0.\nQUERY is name NAME.\n\nserve answers the queries on the lines of standard input while the index of\nFILE is built. Before each answer stands the stage of the build, 0 to 5; the\nfirst is at least S, which is 0 to 3, by default 0.\n\nrace does so with the lines of SCRIPT for M readers at once, M being 1 to 16,\nby default 2, and once more for each of them when the index is built.\n\ndrill makes a program of UNITS units, 1 to 100000, whose references SEED\ndecides, and writes how large it and its indexes are.\n\nN is the number of workers, 1 to 64, by default 4.\n";
+pub const HELP: &str = "\
+usage: gdbix COMMAND [OPTION]... ARGUMENT...
+
+Ask a linked ELF64 program with DWARF debug information:
+  ask         answer one query               gdbix ask app name main
+  serve       answer the lines of the input  gdbix serve --wait 3 app <lines
+  race        answer a script for readers    gdbix race app lines
+  cached      answer from a kept index       gdbix cached app idx/ main
+Give a debugger its index:
+  add         store the program with it      gdbix add --as gdb8 app app
+  index       store the index alone          gdbix index --as gdb8 app app.idx
+Ask an index that was stored:
+  look gdb    a .gdb_index section           gdbix look gdb app.idx name main
+  look names  a .debug_names section         gdbix look names X S name main
+Check what a program says of itself:
+  aranges     its address table              gdbix aranges app
+  files       its tables of source files     gdbix files app stdio.h
+Measure:
+  drill       index a program made for it    gdbix drill 7 1000 4
+
+QUERY is name NAME, simple NAME, addr HEX, main or cache.
+'gdbix COMMAND --help' says more of one, 'man gdbix' of all; 'gdbix --version'
+gives the version. A status other than 0 comes with a sentence on standard
+error: 1 refused, 2 usage, 3 a file that can't be read, 4 or 5 a write failed.
+";
 
 /// The text of `--version`.
 pub const VERSION: &str = "gdbix 0.1.0\n";
