@@ -1,20 +1,23 @@
 //! `gdbix`: the symbol index of a program with DWARF, on the command line.
 #![tactic(auto)]
 
+mod last_line;
 mod said;
 mod streams;
 mod words;
 
+use fault_words::help_for;
 use index_cmd::run;
+use last_line::Remembering;
 use outside::{FileShelf, NoGate, StreamSink, StreamSource};
-use said::{say_failure, say_input_error, say_output_error, stop};
+use said::{Reasons, answer, say_end, stop};
 use std::process::ExitCode;
 use streams::take_closed;
 use words::{Stop, checked_words};
 
 fn main(rt: HostRuntime) -> ExitCode {
     let _closed = take_closed(&rt);
-    let mut out = StreamSink::new(&rt);
+    let mut out = Remembering::over(StreamSink::new(&rt));
     let words = match checked_words(&rt) {
         Ok(words) => words,
         Err(why) => return ExitCode::from(stop(&rt, why, &mut out)),
@@ -24,17 +27,23 @@ fn main(rt: HostRuntime) -> ExitCode {
         Err(_) => return ExitCode::from(stop(&rt, Stop::NoMemory, &mut out)),
     };
     let mut input = StreamSource::new(rt.reader());
-    let status = run(
-        &rt,
-        rt.alloc(),
-        &words,
-        &mut shelf,
-        &mut input,
-        &mut out,
-        &NoGate,
-    );
-    say_failure(&rt, status, shelf.failure());
-    say_input_error(&rt, status, input.error());
-    say_output_error(&rt, status, out.error());
+    let status = match help_for(&words) {
+        Some(text) => answer(text, &mut out),
+        None => run(
+            &rt,
+            rt.alloc(),
+            &words,
+            &mut shelf,
+            &mut input,
+            &mut out,
+            &NoGate,
+        ),
+    };
+    let reasons = Reasons {
+        file: shelf.failure(),
+        input: input.error(),
+        output: out.inner().error(),
+    };
+    say_end(&rt, status, out.last_line(), &words, &reasons);
     ExitCode::from(status)
 }

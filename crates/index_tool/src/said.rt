@@ -2,56 +2,80 @@
 
 use crate::words::Stop;
 use command_base::Status;
+use fault_words::message_for;
 use outside::{Failed, Failure, Sink, system_words, write_all};
 use std::io::{self, Eprint};
 
 /// Ends a command that doesn't begin, with its line and its status.
 pub(crate) fn stop<R: Eprint, K: Sink>(rt: &R, why: Stop, out: &mut K) -> u8 {
-    let (status, line, sentence) = match why {
-        Stop::NotUtf8 => (Status::Usage, "usage\n", "a word isn't UTF-8"),
-        Stop::OverItsFile => (
-            Status::Usage,
-            "usage\n",
-            "OUT is FILE itself; name another file, or add the index to FILE with add",
-        ),
-        Stop::NoMemory => (Status::NoMemory, "no memory\n", "Cannot allocate memory"),
+    let (status, line) = match why {
+        Stop::NotUtf8 => {
+            let _ = eprintln!(rt; "gdbix: usage: a word isn't UTF-8");
+            (Status::Usage, "usage\n")
+        }
+        Stop::OverItsFile => {
+            let _ = eprintln!(rt;
+                "gdbix: usage: OUT is FILE itself; name another file, or put the index into FILE with gdbix add"
+            );
+            (Status::Usage, "usage\n")
+        }
+        Stop::NoMemory => {
+            say_status(rt, Status::NoMemory.code(), b"", &[]);
+            (Status::NoMemory, "no memory\n")
+        }
     };
-    let _ = eprintln!(rt; "gdbix: {sentence}");
-    match write_all(out, line.as_bytes()) {
+    write(out, line, status)
+}
+
+/// Writes a text that was asked for.
+pub(crate) fn answer<K: Sink>(text: &str, out: &mut K) -> u8 {
+    write(out, text, Status::Answered)
+}
+
+fn write<K: Sink>(out: &mut K, text: &str, status: Status) -> u8 {
+    match write_all(out, text.as_bytes()) {
         Ok(()) => status.code(),
         Err(Failed) => Status::WriteFault.code(),
     }
 }
 
-/// Why a file wasn't read or stored, where a command ended for that.
-pub(crate) fn say_failure<R: Eprint>(rt: &R, status: u8, failure: Option<&Failure>) {
-    if status != Status::ReadFault.code() && status != Status::StoreFault.code() {
-        return;
-    }
-    if let Some(failure) = failure {
-        let name = failure.name().unwrap_or("a file");
-        let words = failure.cause().words();
-        let _ = eprintln!(rt; "gdbix: {name}: {words}");
+/// Why the last calls on what lies outside failed, where some did.
+#[derive(Clone, Copy)]
+pub(crate) struct Reasons<'r> {
+    pub file: Option<&'r Failure>,
+    pub input: Option<io::Error>,
+    pub output: Option<io::Error>,
+}
+
+/// Says why a command ended with this status behind this line: in the system's words, where a call on what lies outside failed.
+pub(crate) fn say_end<R: Eprint>(
+    rt: &R,
+    status: u8,
+    line: &[u8],
+    words: &[String],
+    reasons: &Reasons<'_>,
+) {
+    match status {
+        3 | 4 if let Some(failure) = reasons.file => say_failure(rt, failure),
+        5 if let Some(error) = reasons.output => say_error(rt, "standard output", error),
+        6 if let Some(error) = reasons.input => say_error(rt, "standard input", error),
+        _ => say_status(rt, status, line, words),
     }
 }
 
-/// Why standard input wasn't read, where a command ended for that.
-pub(crate) fn say_input_error<R: Eprint>(rt: &R, status: u8, error: Option<io::Error>) {
-    if status == Status::InputFault.code() {
-        say_error(rt, "standard input", error);
+fn say_status<R: Eprint>(rt: &R, status: u8, line: &[u8], words: &[String]) {
+    if let Some(message) = message_for(status, line, words) {
+        let _ = eprintln!(rt; "gdbix: {message}");
     }
 }
 
-/// Why standard output took no more, where a command ended for that.
-pub(crate) fn say_output_error<R: Eprint>(rt: &R, status: u8, error: Option<io::Error>) {
-    if status == Status::WriteFault.code() {
-        say_error(rt, "standard output", error);
-    }
+fn say_failure<R: Eprint>(rt: &R, failure: &Failure) {
+    let name = failure.name().unwrap_or("a file");
+    let words = failure.cause().words();
+    let _ = eprintln!(rt; "gdbix: {name}: {words}");
 }
 
-fn say_error<R: Eprint>(rt: &R, what: &str, error: Option<io::Error>) {
-    if let Some(error) = error {
-        let words = system_words(&error);
-        let _ = eprintln!(rt; "gdbix: {what}: {words}");
-    }
+fn say_error<R: Eprint>(rt: &R, what: &str, error: io::Error) {
+    let words = system_words(&error);
+    let _ = eprintln!(rt; "gdbix: {what}: {words}");
 }

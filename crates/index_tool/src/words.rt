@@ -49,13 +49,19 @@ pub(crate) fn checked_words<R: Env + Files + AllocGlobal>(rt: &R) -> Result<Vec<
     Ok(words)
 }
 
-// The words behind the program's name.
+// The words behind the program's name. `-h` alone is `--help`.
 fn words<R: Env + AllocGlobal>(rt: &R) -> Result<Vec<String>, Stop> {
     let mut words = Vec::new(rt.alloc());
     for word in env::args(rt)?.skip(1) {
         words.push(word)?;
     }
-    Ok(words)
+    match &words[..] {
+        [word] if word.as_str() == "-h" => {
+            let help = String::from_str(rt.alloc(), "--help")?;
+            Ok(Vec::from_array(rt.alloc(), [help])?)
+        }
+        _ => Ok(words),
+    }
 }
 
 // Whether `index` is to store its index, or the strings of one, in the very file that it reads.

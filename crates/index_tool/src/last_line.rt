@@ -1,0 +1,70 @@
+//! An output that remembers the end of what it took.
+
+ghost use Rattle.std.specs.Prelude.{◌≡◌, ◌≤◌};
+
+use memchr::memrchr;
+use outside::{Failed, Sink};
+
+/// More bytes than a line has that names a fault.
+const KEPT: usize = 64;
+
+/// An output that hands all on to another, and keeps the last bytes that it took.
+#[derive(Drop)]
+pub(crate) struct Remembering<K> {
+    to: K,
+    last: [u8; KEPT],
+    len: usize,
+    ghost within: { len ≤ 64 },
+}
+
+impl<K: Sink> Remembering<K> {
+    pub(crate) fn over(to: K) -> Self
+        ensures { result.to ≡ to.entry }
+    {
+        Remembering {
+            to,
+            last: [0; KEPT],
+            len: 0,
+        }
+    }
+
+    /// The output that takes all.
+    pub(crate) fn inner(&self) -> &K
+        ensures { result.now ≡ self.now.to }
+    {
+        &self.to
+    }
+
+    /// The last line that was written, or the end of it.
+    pub(crate) fn last_line(&self) -> &[u8] {
+        let text = &self.last[..self.len];
+        let text = text.strip_suffix(b"\n").unwrap_or(text);
+        match memrchr(b'\n', text) {
+            Some(at) => &text[at + 1..],
+            None => text,
+        }
+    }
+
+    // Keeps the end of what was kept and of these bytes.
+    fn keep(&mut self, piece: &[u8])
+        ensures { self.new.to ≡ self.old.to }
+    {
+        let fresh = &piece[piece.len() - piece.len().min(KEPT)..];
+        let old = self.len.min(KEPT - fresh.len());
+        self.last.copy_within(self.len - old..self.len, 0);
+        self.last[old..old + fresh.len()].copy_from_slice(fresh);
+        self.len = old + fresh.len();
+    }
+}
+
+impl<K: Sink> Sink for Remembering<K> {
+    ghost write_faults = { λ s. K.write_faults s.to };
+
+    ghost written = { λ s. K.written s.to };
+
+    fn write(&mut self, piece: &[u8]) -> Result<usize, Failed> {
+        let count = self.to.write(piece)?;
+        self.keep(&piece[..count]);
+        Ok(count)
+    }
+}
