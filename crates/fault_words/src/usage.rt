@@ -30,14 +30,26 @@ pub fn usage_of(words: &[String]) -> Usage<'_> {
 }
 
 fn check(words: &[String]) -> Result<(), Usage<'_>> {
-    let (form, mut others) = form_of(words)?;
+    let (form, others) = form_of(words)?;
+    let others = skip_options(form, others)?;
+    let others = skip_operands(form, others)?;
+    check_query(form, others)
+}
+
+fn skip_options<'w>(form: &'static Form, words: &'w [String]) -> Result<&'w [String], Usage<'w>> {
+    let mut others = words;
     for value in form.options {
         others = skip_option(form, *value, others)?;
     }
+    Ok(others)
+}
+
+fn skip_operands<'w>(form: &'static Form, words: &'w [String]) -> Result<&'w [String], Usage<'w>> {
+    let mut others = words;
     for value in form.operands {
         others = skip_operand(form, *value, others)?;
     }
-    check_query(form, others)
+    Ok(others)
 }
 
 // The form of the command, and the words behind it.
