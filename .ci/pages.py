@@ -119,7 +119,8 @@ def wrong_commands():
         "the man page": read("man", "gdbix.1"),
         "bash": read("completions", "gdbix.bash"),
         "zsh": read("completions", "_gdbix"),
-        "the help": read("crates", "fault_words", "src", "help.rt"),
+        "the help": read("crates", "index_cmd", "src", "about.rt"),
+        "the help of the commands": read("crates", "fault_words", "src", "help.rt"),
     }
     for command, second in forms():
         for where, text in texts.items():
@@ -141,7 +142,8 @@ def wrong_grammar():
 def wrong_lengths():
     lines = len(read("README.md").splitlines())
     yield None if lines <= 100 else f"README.md: {lines} lines"
-    for text in re.findall(r'&str = "\\\n(.*?)";', read("crates", "fault_words", "src", "help.rt"), re.S):
+    texts = read("crates", "index_cmd", "src", "about.rt") + read("crates", "fault_words", "src", "help.rt")
+    for text in re.findall(r'&str = "\\\n(.*?)";', texts, re.S):
         long = [line for line in text.splitlines() if len(line) > 80]
         yield f"help: more than 80 letters: {long[0]}" if long else None
 
