@@ -19,7 +19,7 @@ pub(crate) struct Remembering<K> {
 
 impl<K: Sink> Remembering<K> {
     pub(crate) fn over(to: K) -> Self
-        ensures { result.to ≡ to.entry }
+        ensures { result.to ≡ to }
     {
         Remembering {
             to,
