@@ -1,0 +1,169 @@
+#!/usr/bin/env python3
+"""python3 tools/fuzz.py PROGRAM [--count N] [--seed S] [--jobs J] [--against-reading K] [--kept FOLDER] [--seconds T]
+
+Changes programs and indexes of many makers, and asks PROGRAM of each. No run ends by a signal, by want of memory or not at all, each
+status and each line is one of those that its command has, and the first K answers are those of the reading in tools/reading. What a
+run does depends on the seed, its number and the tools that are installed. Files that show something wrong are kept in FOLDER with
+the words that were asked. The last line is 'fuzz: N passed, M failed'."""
+import argparse
+import multiprocessing
+import os
+import random
+import sys
+import tempfile
+import threading
+import time
+
+from fuzzing.changes import changed
+from fuzzing.grammar import wrong_with
+from fuzzing.seeds import all_seeds
+from reading.commands import run
+from reading.shelves import MemoryShelf
+from spawned import Program, limit_memory
+
+MEMORY = 3 << 30
+BATCH = 200
+KINDS = ("gdb8", "gdb9", "names")
+ASKED = ("name", "name", "simple", "addr", "main", "cache")
+
+
+def query_of(random, seed, sorts):
+    sort = random.choice(sorts)
+    if sort in ("name", "simple"):
+        return [sort, random.choice(seed.names).decode()]
+    if sort == "addr":
+        return [sort, "%x" % max(0, random.choice(seed.addresses) + random.choice((-1, 0, 0, 1)))]
+    return [sort]
+
+
+def words_for(random, seed):
+    """What is asked of a changed file, which is called X; what lies beside it is called S."""
+    workers = ["--workers", random.choice("1112")]
+    if seed.sort == "gdb":
+        return ["look", "gdb", "X"] + query_of(random, seed, ("name", "name", "addr", "main"))
+    if seed.sort == "names":
+        base = ["--base", str(seed.base)] if seed.base else []
+        return ["look", "names"] + base + ["X", "S"] + query_of(random, seed, ("name",))
+    command = random.choice(("ask", "ask", "ask", "index", "add", "aranges", "files"))
+    if command == "ask":
+        return ["ask"] + workers + ["X"] + query_of(random, seed, ASKED)
+    if command in ("index", "add"):
+        return [command, "--as", random.choice(KINDS)] + workers + ["X", "OUT"]
+    return [command] + workers + ["X"] + ([random.choice(seed.names).decode()] if command == "files" else [])
+
+
+def write(name, data):
+    with open(name, "wb") as file:
+        file.write(data)
+
+
+def take_stored(files):
+    """The files that the program stored in the current folder, which are taken away."""
+    stored = {}
+    for name in set(os.listdir()) - set(files):
+        with open(name, "rb") as file:
+            stored[name] = file.read()
+        os.unlink(name)
+    return stored
+
+
+def by_reading(words, files):
+    shelf = MemoryShelf(files)
+    status, text = run(words, shelf)
+    return status, text, {name: data for name, data in shelf.files.items() if name not in files}
+
+
+def try_one(program, seed, rng, is_read):
+    """(the words, the files, what is wrong or None) of one run."""
+    files, words = {"X": changed(rng, seed)}, words_for(rng, seed)
+    if seed.sort == "names":
+        files["S"] = changed(rng, seed_of_strings(seed)) if seed.beside and rng.random() < 0.2 else seed.beside
+    for name, data in files.items():
+        write(name, data)
+    status, text = program.run(words)
+    stored = take_stored(("X", "S"))
+    wrong = wrong_with(words, status, text)
+    if wrong is None and is_read:
+        meant = by_reading(words, files)
+        if meant != (status, text, stored):
+            wrong = "the reading has %s %r" % (meant[0], meant[1][:200])
+    return words, files, wrong and "%s; the program has %s %r" % (wrong, status, text[:200])
+
+
+def seed_of_strings(seed):
+    strings = type(seed)(seed.about, seed.sort, seed.beside)
+    return strings
+
+
+def keep(folder, number, words, files):
+    place = os.path.join(folder, str(number))
+    os.makedirs(place, exist_ok=True)
+    for name, data in files.items():
+        write(os.path.join(place, name), data)
+    write(os.path.join(place, "args"), "".join(word + "\n" for word in words).encode())
+
+
+SEEDS = []      # what the processes share, filled before they begin
+
+
+def try_batch(work):
+    """(how many passed, the lines that say what was wrong) of the runs of some numbers."""
+    settings, first, behind = work
+    limit_memory(MEMORY)
+    program, passed, lines = Program(settings.program), 0, []
+    with tempfile.TemporaryDirectory(dir="/dev/shm") as folder:
+        os.chdir(folder)
+        for number in range(first, behind):
+            rng = random.Random("%d %d" % (settings.seed, number))
+            seed = rng.choice(SEEDS)
+            words, files, wrong = try_one(program, seed, rng, number < settings.against_reading)
+            passed += wrong is None
+            if wrong is not None:
+                keep(settings.kept, number, words, files)
+                lines.append("fuzz: %d of %s, %s: %s" % (number, seed.about, " ".join(words), wrong))
+        os.chdir("/")
+    program.end()
+    return passed, lines
+
+
+def settings_of():
+    parser = argparse.ArgumentParser()
+    parser.add_argument("program", type=os.path.abspath)
+    parser.add_argument("--count", type=int, default=10_000)
+    parser.add_argument("--seed", type=int, default=1)
+    parser.add_argument("--jobs", type=int, default=1)
+    parser.add_argument("--against-reading", type=int, default=1_000)
+    parser.add_argument("--kept", type=os.path.abspath, default="/tmp/fuzz-kept")
+    parser.add_argument("--seconds", type=float, default=float("inf"), help="no batch begins behind so many")
+    return parser.parse_args()
+
+
+def batches(settings, room):
+    """The numbers of the runs in parts, as long as there is time; each waits until there is room for it."""
+    began = time.monotonic()
+    for first in range(0, settings.count, BATCH):
+        room.acquire()
+        if time.monotonic() - began > settings.seconds:
+            return
+        yield settings, first, min(first + BATCH, settings.count)
+
+
+def main():
+    settings = settings_of()
+    SEEDS.extend(all_seeds(settings.program))
+    print("%d files to begin with" % len(SEEDS), flush=True)
+    passed = failed = 0
+    began, room = time.monotonic(), threading.Semaphore(2 * settings.jobs)
+    with multiprocessing.Pool(settings.jobs) as pool:
+        for right, lines in pool.imap(try_batch, batches(settings, room)):
+            room.release()
+            passed, failed = passed + right, failed + len(lines)
+            for line in lines:
+                print(line, flush=True)
+    print("%.0f runs a second" % ((passed + failed) / (time.monotonic() - began)))
+    print("fuzz: %d passed, %d failed" % (passed, failed))
+    return 1 if failed or not passed else 0
+
+
+if __name__ == "__main__":
+    sys.exit(main())
