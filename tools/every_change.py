@@ -11,10 +11,9 @@ import sys
 import tempfile
 
 from reading.check_rows import FOLDERS, inputs_of, words_of
-from reading.commands import COMMANDS, run
-from reading.shelves import MemoryShelf
+from reading.commands import COMMANDS
 from reading.words import task_of
-from spawned import Program, limit_memory
+from spawned import Program, answer, limit_memory, meant, offers_cached
 
 MEMORY = 4 << 30
 # Of a program, what is asked beside the row's own question: its index says most of it.
@@ -48,18 +47,21 @@ def cases_of(row):
         return
     name = task.files[0]
     yield Case(os.path.basename(row), name, files, with_one_worker(words, task))
-    if not task.command.startswith("look"):
+    if task.command == "cached":
+        yield from (Case(os.path.basename(row), kept, files, with_one_worker(words, task)) for kept in set(files) - {name})
+    elif not task.command.startswith("look"):
         yield Case(os.path.basename(row), name, {name: files[name]}, [name if word is None else word for word in INDEX])
 
 
-def all_cases(match):
+def all_cases(match, with_cached):
     """Each case once: of equal files with one command the first row's counts."""
     rows = [os.path.join(FOLDERS[0], name) for name in sorted(os.listdir(FOLDERS[0])) if name.startswith(match)]
     found = {}
     for row in rows:
         for case in cases_of(row):
-            key = case.words[0], case.words[1] if case.words[0] == "look" else "", tuple(sorted(case.files.values()))
-            found.setdefault(key, case)
+            key = case.words[0], case.words[1] if case.words[0] == "look" else "", case.name, tuple(sorted(case.files.items()))
+            if with_cached or case.words[0] != "cached":
+                found.setdefault(key, case)
     return sorted(found.values(), key=Case.size)
 
 
@@ -72,28 +74,6 @@ def changes_of(data):
             yield "byte %#x bit %d" % (place, bit), data[:place] + bytes((data[place] ^ 1 << bit,)) + data[place + 1:]
 
 
-def write(name, data):
-    with open(name, "wb") as file:
-        file.write(data)
-
-
-def by_program(program, case, files):
-    """What the program answers and stores in the current folder."""
-    answer = program.run(case.words)
-    stored = {}
-    for name in set(os.listdir()) - set(files):
-        with open(name, "rb") as file:
-            stored[name] = file.read()
-        os.unlink(name)
-    return answer + (stored,)
-
-
-def by_reading(case, files):
-    shelf = MemoryShelf(files)
-    status, text = run(case.words, shelf)
-    return status, text, {name: data for name, data in shelf.files.items() if name not in files}
-
-
 def try_case(work):
     """(passed, the lines that say what differs) over every change of a case."""
     program, case = work
@@ -101,24 +81,21 @@ def try_case(work):
     passed, wrong = 0, []
     with tempfile.TemporaryDirectory(dir="/dev/shm") as folder:
         os.chdir(folder)
-        for name, data in case.files.items():
-            write(name, data)
         runner = Program(program)
         for done, data in changes_of(case.files[case.name]):
             files = {**case.files, case.name: data}
-            write(case.name, data)
-            got, meant = by_program(runner, case, files), by_reading(case, files)
-            passed += got == meant
-            if got != meant:
-                wrong.append("%s: %s: %s: the program %s, the reading %s"
-                             % (case.row, " ".join(case.words), done, shown(got), shown(meant)))
+            got, wanted = answer(runner, case.words, files), meant(case.words, files)
+            passed += got == wanted
+            if got != wanted:
+                wrong.append("%s: %s: %s of %s: the program %s, the reading %s"
+                             % (case.row, " ".join(case.words), done, case.name, shown(got), shown(wanted)))
         runner.end()
         os.chdir("/")
     return passed, wrong
 
 
-def shown(answer):
-    status, text, stored = answer
+def shown(outcome):
+    status, text, stored = outcome
     return "%s %r%s" % (status, text[:200], "".join(" %s of %d bytes" % (name, len(data)) for name, data in stored.items()))
 
 
@@ -129,8 +106,8 @@ def main():
     parser.add_argument("--jobs", type=int, default=1)
     parser.add_argument("--match", default="", help="only rows whose name begins so")
     words = parser.parse_args()
-    cases = all_cases(words.match)[:words.files]
     program = os.path.abspath(words.program)
+    cases = all_cases(words.match, offers_cached(program))[:words.files]
     cuts = sum(case.size() for case in cases)
     print("%d files, %d cuts, %d bits" % (len(cases), cuts, 8 * cuts), flush=True)
     passed = failed = 0

@@ -14,16 +14,19 @@ import tempfile
 import threading
 import time
 
-from fuzzing.changes import changed
+from fuzzing.changes import MOVING, STAYING, change, changed
 from fuzzing.grammar import wrong_with
 from fuzzing.seeds import all_seeds
-from reading.commands import run
-from reading.shelves import MemoryShelf
-from spawned import Program, limit_memory
+from reading import kept
+from reading.faults import Fault
+from reading.program import open_program
+from spawned import Program, answer, limit_memory, meant, offers_cached, write
 
 MEMORY = 3 << 30
 BATCH = 200
 KINDS = ("gdb8", "gdb9", "names")
+STORE = "c_"
+COMMANDS = ["ask", "ask", "ask", "index", "add", "aranges", "files"]
 ASKED = ("name", "name", "simple", "addr", "main", "cache")
 
 
@@ -44,55 +47,49 @@ def words_for(random, seed):
     if seed.sort == "names":
         base = ["--base", str(seed.base)] if seed.base else []
         return ["look", "names"] + base + ["X", "S"] + query_of(random, seed, ("name",))
-    command = random.choice(("ask", "ask", "ask", "index", "add", "aranges", "files"))
+    command = random.choice(COMMANDS)
     if command == "ask":
         return ["ask"] + workers + ["X"] + query_of(random, seed, ASKED)
     if command in ("index", "add"):
         return [command, "--as", random.choice(KINDS)] + workers + ["X", "OUT"]
+    if command == "cached":
+        return ["cached"] + workers + ["X", STORE] + query_of(random, seed, ("name", "name", "addr", "main"))
     return [command] + workers + ["X"] + ([random.choice(seed.names).decode()] if command == "files" else [])
 
 
-def write(name, data):
-    with open(name, "wb") as file:
-        file.write(data)
-
-
-def take_stored(files):
-    """The files that the program stored in the current folder, which are taken away."""
-    stored = {}
-    for name in set(os.listdir()) - set(files):
-        with open(name, "rb") as file:
-            stored[name] = file.read()
-        os.unlink(name)
-    return stored
-
-
-def by_reading(words, files):
-    shelf = MemoryShelf(files)
-    status, text = run(words, shelf)
-    return status, text, {name: data for name, data in shelf.files.items() if name not in files}
+def kept_file(random, seed, file):
+    """A changed index that is kept for the file, by its name; nothing where the file has no build-id."""
+    try:
+        build_id = kept.build_id_of(open_program(file).sections)
+    except Fault:
+        return {}
+    if build_id is None or not seed.kept or random.random() < 0.3:
+        return {}
+    whole = kept.kept_bytes(build_id, seed.kept)
+    if random.random() < 0.8:
+        whole = change(random, whole, [(0, len(whole))], STAYING + MOVING)
+    return {kept.cache_name(STORE, build_id): whole}
 
 
 def try_one(program, seed, rng, is_read):
     """(the words, the files, what is wrong or None) of one run."""
     files, words = {"X": changed(rng, seed)}, words_for(rng, seed)
     if seed.sort == "names":
-        files["S"] = changed(rng, seed_of_strings(seed)) if seed.beside and rng.random() < 0.2 else seed.beside
-    for name, data in files.items():
-        write(name, data)
-    status, text = program.run(words)
-    stored = take_stored(("X", "S"))
-    wrong = wrong_with(words, status, text)
+        files["S"] = changed_strings(rng, seed.beside)
+    if words[0] == "cached":
+        files.update(kept_file(rng, seed, files["X"]))
+    got = answer(program, words, files)
+    wrong = wrong_with(words, *got[:2])
     if wrong is None and is_read:
-        meant = by_reading(words, files)
-        if meant != (status, text, stored):
-            wrong = "the reading has %s %r" % (meant[0], meant[1][:200])
-    return words, files, wrong and "%s; the program has %s %r" % (wrong, status, text[:200])
+        wanted = meant(words, files)
+        if wanted != got:
+            wrong = "the reading has %s %r" % (wanted[0], wanted[1][:200])
+    return words, files, wrong and "%s; the program has %s %r" % (wrong, got[0], got[1][:200])
 
 
-def seed_of_strings(seed):
-    strings = type(seed)(seed.about, seed.sort, seed.beside)
-    return strings
+def changed_strings(random, strings):
+    """The strings of a `.debug_names`, seldom changed."""
+    return change(random, strings, [(0, len(strings))], STAYING + MOVING) if random.random() < 0.2 else strings
 
 
 def keep(folder, number, words, files):
@@ -151,6 +148,8 @@ def batches(settings, room):
 def main():
     settings = settings_of()
     SEEDS.extend(all_seeds(settings.program))
+    if offers_cached(settings.program):
+        COMMANDS.append("cached")
     print("%d files to begin with" % len(SEEDS), flush=True)
     passed = failed = 0
     began, room = time.monotonic(), threading.Semaphore(2 * settings.jobs)

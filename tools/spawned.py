@@ -1,9 +1,12 @@
-"""Runs of a program that cost little: no shell, no thread, and one pipe for what it writes."""
+"""Runs of a program that cost little: no shell, no thread, and one pipe for what it writes.  Beside them stands the reading's answer."""
 import os
 import resource
 import select
 import signal
 import time
+
+from reading.commands import run
+from reading.shelves import MemoryShelf
 
 SECONDS = 10
 
@@ -34,6 +37,44 @@ class Program:
         text, closed = _read(source, end)
         os.close(source)
         return _status(child, end if closed else 0), text
+
+
+def _take_files():
+    """The files in the current folder, which are taken away."""
+    found = {}
+    for name in os.listdir():
+        with open(name, "rb") as file:
+            found[name] = file.read()
+        os.unlink(name)
+    return found
+
+
+def write(name, data):
+    with open(name, "wb") as file:
+        file.write(data)
+
+
+def answer(program, words, files):
+    """(status, what is written, the files that are stored) of a run over these files in the current folder, which is empty."""
+    for name, data in files.items():
+        write(name, data)
+    status, text = program.run(words)
+    return status, text, {name: data for name, data in _take_files().items() if files.get(name) != data}
+
+
+def meant(words, files):
+    """The same by the reading."""
+    shelf = MemoryShelf(files)
+    status, text = run(words, shelf)
+    return status, text, {name: data for name, data in shelf.files.items() if files.get(name) != data}
+
+
+def offers_cached(path):
+    """Whether the program has the command `cached`: else its words aren't in the grammar (status 2)."""
+    program = Program(path)
+    status, _ = program.run(["cached", os.devnull + "/none", "none", "main"])
+    program.end()
+    return status == 3
 
 
 def _read(source, end):

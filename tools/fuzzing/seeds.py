@@ -8,6 +8,7 @@ from . import packed
 from reading.check_rows import FOLDERS, inputs_of, words_of
 from reading.commands import COMMANDS
 from reading.faults import Fault
+from reading.gdb_index import gdb_index_bytes
 from reading.gdb_index_read import GdbIndex
 from reading.name_index_read import NameIndex
 from reading.program import built
@@ -28,7 +29,7 @@ class Seed:
 
     def __init__(self, about, sort, data, beside=b"", base=0):
         self.about, self.sort, self.data, self.beside, self.base = about, sort, data, beside, base
-        self.parts, self.spans, self.names, self.addresses = None, [(0, len(data))], [b"main"], [0x1000]
+        self.parts, self.spans, self.names, self.addresses, self.kept = None, [(0, len(data))], [b"main"], [0x1000], b""
 
     def ask_for(self, names, addresses):
         self.names = sorted(set(names) | {b"main"})
@@ -46,6 +47,7 @@ def program_seed(about, file, whole=False):
     except Fault:
         return seed
     names = [name for entry in program.entries for name in (entry.name, entry.simple())]
+    seed.kept = gdb_index_bytes(program, 9)
     paths = [b"demo.c", b"shapes.hh", b"shapes.h"]
     seed.ask_for([name for name in names + paths if is_word(name)], [edge for piece in program.pieces for edge in piece[:2]])
     return seed
