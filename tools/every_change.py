@@ -15,7 +15,7 @@ from reading.commands import COMMANDS
 from reading.words import task_of
 from spawned import Program, answer, limit_memory, meant, offers_cached
 
-MEMORY = 4 << 30
+MEMORY = 1 << 30
 # Of a program, what is asked beside the row's own question: its index says most of it.
 INDEX = ["index", "--as", "gdb8", "--workers", "1", None, "OUT"]
 MOST_SHOWN = 20

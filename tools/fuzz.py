@@ -22,7 +22,7 @@ from reading.faults import Fault
 from reading.program import open_program
 from spawned import Program, answer, limit_memory, meant, offers_cached, write
 
-MEMORY = 3 << 30
+MEMORY = 1 << 30
 BATCH = 200
 KINDS = ("gdb8", "gdb9", "names")
 STORE = "c_"
@@ -100,7 +100,7 @@ def keep(folder, number, words, files):
     write(os.path.join(place, "args"), "".join(word + "\n" for word in words).encode())
 
 
-SEEDS = []      # what the processes share, filled before they begin
+SEEDS = []      # what the processes share, filled before they begin: of each sort its files, each sort as likely as the others
 
 
 def try_batch(work):
@@ -112,7 +112,7 @@ def try_batch(work):
         os.chdir(folder)
         for number in range(first, behind):
             rng = random.Random("%d %d" % (settings.seed, number))
-            seed = rng.choice(SEEDS)
+            seed = rng.choice(rng.choice(SEEDS))
             words, files, wrong = try_one(program, seed, rng, number < settings.against_reading)
             passed += wrong is None
             if wrong is not None:
@@ -147,10 +147,10 @@ def batches(settings, room):
 
 def main():
     settings = settings_of()
-    SEEDS.extend(all_seeds(settings.program))
+    SEEDS.extend(group for group in all_seeds(settings.program) if group)
     if offers_cached(settings.program):
         COMMANDS.append("cached")
-    print("%d files to begin with" % len(SEEDS), flush=True)
+    print("%d files to begin with" % sum(map(len, SEEDS)), flush=True)
     passed = failed = 0
     began, room = time.monotonic(), threading.Semaphore(2 * settings.jobs)
     with multiprocessing.Pool(settings.jobs) as pool:

@@ -1,5 +1,5 @@
 """How a fuzzer changes a file: bits, bytes, numbers, LEB128 numbers, spans, and cuts."""
-from . import packed
+from . import invented, packed
 
 BYTES = (0x00, 0x01, 0x02, 0x7E, 0x7F, 0x80, 0x81, 0xFE, 0xFF)
 LEBS = (b"\x00", b"\x01", b"\x7f", b"\x80\x00", b"\x80\x80\x80\x00", b"\xff\xff\xff\xff\x0f", b"\xff" * 9 + b"\x01",
@@ -115,7 +115,10 @@ def _change_section(random, parts):
 
 
 def changed(random, seed):
-    """The changed bytes of a seed."""
+    """The changed bytes of a seed; where it is to be made up, one program, changed now and then."""
+    if seed.is_invented:
+        parts = invented.sections(random)
+        return packed.pack(_change_section(random, parts) if random.random() < 0.3 else parts)[0]
     if seed.parts and random.random() < 0.6:
         return packed.pack(_change_section(random, seed.parts))[0]
     ways = STAYING + MOVING if random.random() < 0.3 else STAYING

@@ -4,7 +4,7 @@ import shutil
 import subprocess
 import tempfile
 
-from . import packed
+from . import invented, packed
 from reading.check_rows import FOLDERS, inputs_of, words_of
 from reading.commands import COMMANDS
 from reading.faults import Fault
@@ -29,6 +29,7 @@ class Seed:
 
     def __init__(self, about, sort, data, beside=b"", base=0):
         self.about, self.sort, self.data, self.beside, self.base = about, sort, data, beside, base
+        self.is_invented = False
         self.parts, self.spans, self.names, self.addresses, self.kept = None, [(0, len(data))], [b"main"], [0x1000], b""
 
     def ask_for(self, names, addresses):
@@ -199,5 +200,17 @@ def row_seeds():
     return [make() for make in found.values()]
 
 
+def invented_seed():
+    """Stands for a program that is made up anew for each run."""
+    seed = Seed("made up", "program", b"")
+    seed.is_invented = True
+    scoped = [b"::".join((scope, name)) for scope in (b"n", b"C", b"C::n") for name in invented.NAMES if name]
+    seed.ask_for([name for name in invented.NAMES if name] + scoped + [b"p.q", b"x"], invented.ADDRESSES[2:8])
+    return seed
+
+
 def all_seeds(program):
-    return list(made_seeds(program)) + row_seeds()
+    """The programs that were made, the indexes that were made, the worked files, and those that are made up."""
+    made = list(made_seeds(program))
+    of_compilers = [seed for seed in made if seed.sort == "program"]
+    return of_compilers, [seed for seed in made if seed.sort != "program"], row_seeds(), [invented_seed()]
