@@ -1,5 +1,5 @@
 #!/usr/bin/env python3
-"""python3 tools/every_change.py PROGRAM [--files N] [--jobs J] [--match PREFIX]
+"""python3 tools/every_change.py PROGRAM [--files N] [--jobs J] [--match PREFIX] [--seconds T]
 
 Takes the worked programs and indexes of tools/rows, the small ones first, and makes of each every cut (each proper prefix) and
 every change of one bit. The status of PROGRAM on each of them, what it writes and what it stores have to be those of the reading in
@@ -9,6 +9,7 @@ import multiprocessing
 import os
 import sys
 import tempfile
+import time
 
 from reading.check_rows import FOLDERS, inputs_of, words_of
 from reading.commands import COMMANDS
@@ -75,8 +76,10 @@ def changes_of(data):
 
 
 def try_case(work):
-    """(passed, the lines that say what differs) over every change of a case."""
-    program, case = work
+    """(passed, the lines that say what differs) over every change of a case; none where there is no time left."""
+    program, case, end = work
+    if time.monotonic() > end:
+        return 0, []
     limit_memory(MEMORY)
     passed, wrong = 0, []
     with tempfile.TemporaryDirectory(dir="/dev/shm") as folder:
@@ -105,17 +108,21 @@ def main():
     parser.add_argument("--files", type=int, help="how many cases, the small ones first")
     parser.add_argument("--jobs", type=int, default=1)
     parser.add_argument("--match", default="", help="only rows whose name begins so")
+    parser.add_argument("--seconds", type=float, default=float("inf"), help="no file begins behind so many")
     words = parser.parse_args()
+    end = time.monotonic() + words.seconds
     program = os.path.abspath(words.program)
     cases = all_cases(words.match, offers_cached(program))[:words.files]
     cuts = sum(case.size() for case in cases)
     print("%d files, %d cuts, %d bits" % (len(cases), cuts, 8 * cuts), flush=True)
-    passed = failed = 0
+    passed = failed = left_out = 0
     with multiprocessing.Pool(words.jobs) as pool:
-        for right, wrong in pool.imap_unordered(try_case, [(program, case) for case in cases]):
-            passed, failed = passed + right, failed + len(wrong)
+        for right, wrong in pool.imap_unordered(try_case, [(program, case, end) for case in cases]):
+            passed, failed, left_out = passed + right, failed + len(wrong), left_out + (right == 0 and not wrong)
             for line in wrong[:MOST_SHOWN]:
                 print(line, flush=True)
+    if left_out:
+        print("%d files left out: no bytes, or no time" % left_out)
     print("every change: %d passed, %d failed" % (passed, failed))
     return 1 if failed or not passed else 0
 

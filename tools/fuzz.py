@@ -11,7 +11,6 @@ import os
 import random
 import sys
 import tempfile
-import threading
 import time
 
 from fuzzing.changes import MOVING, STAYING, change, changed
@@ -106,6 +105,8 @@ SEEDS = []      # what the processes share, filled before they begin: of each so
 def try_batch(work):
     """(how many passed, the lines that say what was wrong) of the runs of some numbers."""
     settings, first, behind = work
+    if time.monotonic() > settings.end:
+        return 0, []
     limit_memory(MEMORY)
     program, passed, lines = Program(settings.program), 0, []
     with tempfile.TemporaryDirectory(dir="/dev/shm") as folder:
@@ -135,13 +136,9 @@ def settings_of():
     return parser.parse_args()
 
 
-def batches(settings, room):
-    """The numbers of the runs in parts, as long as there is time; each waits until there is room for it."""
-    began = time.monotonic()
+def batches(settings):
+    """The numbers of the runs in parts."""
     for first in range(0, settings.count, BATCH):
-        room.acquire()
-        if time.monotonic() - began > settings.seconds:
-            return
         yield settings, first, min(first + BATCH, settings.count)
 
 
@@ -152,10 +149,10 @@ def main():
         COMMANDS.append("cached")
     print("%d files to begin with" % sum(map(len, SEEDS)), flush=True)
     passed = failed = 0
-    began, room = time.monotonic(), threading.Semaphore(2 * settings.jobs)
+    began = time.monotonic()
+    settings.end = began + settings.seconds
     with multiprocessing.Pool(settings.jobs) as pool:
-        for right, lines in pool.imap(try_batch, batches(settings, room)):
-            room.release()
+        for right, lines in pool.imap(try_batch, batches(settings)):
             passed, failed = passed + right, failed + len(lines)
             for line in lines:
                 print(line, flush=True)

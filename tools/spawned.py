@@ -63,9 +63,12 @@ def answer(program, words, files):
 
 
 def meant(words, files):
-    """The same by the reading."""
+    """The same by the reading; one that breaks off has no status, so no program agrees with it."""
     shelf = MemoryShelf(files)
-    status, text = run(words, shelf)
+    try:
+        status, text = run(words, shelf)
+    except Exception as error:      # whatever it is, it has to be shown with the file that brought it about
+        return "broken off", repr(error).encode(), {}
     return status, text, {name: data for name, data in shelf.files.items() if files.get(name) != data}
 
 
