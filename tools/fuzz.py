@@ -15,7 +15,7 @@ import time
 
 from fuzzing.changes import MOVING, STAYING, change, changed
 from fuzzing.grammar import wrong_with
-from fuzzing.seeds import all_seeds
+from fuzzing.seeds import all_seeds, program_seed
 from reading import kept
 from reading.faults import Fault
 from reading.program import open_program
@@ -72,7 +72,11 @@ def kept_file(random, seed, file):
 
 def try_one(program, seed, rng, is_read):
     """(the words, the files, what is wrong or None) of one run."""
-    files, words = {"X": changed(rng, seed)}, words_for(rng, seed)
+    file = changed(rng, seed)
+    if seed.is_invented:
+        # what is asked has to be there now and then
+        seed = program_seed(seed.about, file, whole=True)
+    files, words = {"X": file}, words_for(rng, seed)
     if seed.sort == "names":
         files["S"] = changed_strings(rng, seed.beside)
     if words[0] == "cached":

@@ -4,7 +4,7 @@ import shutil
 import subprocess
 import tempfile
 
-from . import invented, packed
+from . import packed
 from reading.check_rows import FOLDERS, inputs_of, words_of
 from reading.commands import COMMANDS
 from reading.faults import Fault
@@ -182,6 +182,16 @@ def made_seeds(program):
         yield from _by_linkers(folder)
 
 
+def worked_program(about, file):
+    """A program of a row as it stands; where it has sections these are changed too."""
+    seed = program_seed(about, file, whole=True)
+    try:
+        seed.parts = packed.sections_in(file)
+    except Fault:
+        pass
+    return seed
+
+
 def row_seeds():
     """The worked programs and indexes, each once."""
     found = {}
@@ -196,7 +206,7 @@ def row_seeds():
             strings, base = files[task.files[1]], task.options["--base"]
             found.setdefault(data, lambda about=about, data=data, strings=strings, base=base: index_seed(about, data, strings, base))
         elif task.command != "look names":
-            found.setdefault(data, lambda about=about, data=data: program_seed(about, data, whole=True))
+            found.setdefault(data, lambda about=about, data=data: worked_program(about, data))
     return [make() for make in found.values()]
 
 
@@ -204,8 +214,6 @@ def invented_seed():
     """Stands for a program that is made up anew for each run."""
     seed = Seed("made up", "program", b"")
     seed.is_invented = True
-    scoped = [b"::".join((scope, name)) for scope in (b"n", b"C", b"C::n") for name in invented.NAMES if name]
-    seed.ask_for([name for name in invented.NAMES if name] + scoped + [b"p.q", b"x"], invented.ADDRESSES[2:8])
     return seed
 
 
