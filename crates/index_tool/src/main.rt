@@ -10,7 +10,7 @@ use fault_words::help_for;
 use index_cmd::run;
 use last_line::Remembering;
 use outside::{FileShelf, NoGate, StreamSink, StreamSource};
-use said::{Reasons, answer, say_end, stop};
+use said::{answer, say_end, stop};
 use std::process::ExitCode;
 use streams::take_closed;
 use words::{Stop, checked_words};
@@ -39,11 +39,6 @@ fn main(rt: HostRuntime) -> ExitCode {
             &NoGate,
         ),
     };
-    let reasons = Reasons {
-        file: shelf.failure(),
-        input: input.error(),
-        output: out.inner().error(),
-    };
-    say_end(&rt, status, out.last_line(), &words, &reasons);
+    say_end(&rt, status, &words, shelf, input, out);
     ExitCode::from(status)
 }

@@ -1,10 +1,14 @@
 //! What is said on standard error, beside the line and the status of a command. It changes neither, and may get lost.
 
+use crate::last_line::Remembering;
 use crate::words::Stop;
 use command_base::Status;
 use fault_words::message_for;
-use outside::{Failed, Failure, Sink, system_words, write_all};
-use std::io::{self, Eprint};
+use outside::{
+    Failed, Failure, FileShelf, Sink, StreamSink, StreamSource, system_words, write_all,
+};
+use std::io::{self, Eprint, Read, Write};
+use std::rt::Files;
 
 /// Ends a command that doesn't begin, with its line and its status.
 pub(crate) fn stop<R: Eprint, K: Sink>(rt: &R, why: Stop, out: &mut K) -> u8 {
@@ -39,27 +43,21 @@ fn write<K: Sink>(out: &mut K, text: &str, status: Status) -> u8 {
     }
 }
 
-/// Why the last calls on what lies outside failed, where some did.
-#[derive(Clone, Copy)]
-pub(crate) struct Reasons<'r> {
-    pub file: Option<&'r Failure>,
-    pub input: Option<io::Error>,
-    pub output: Option<io::Error>,
-}
-
-/// Says why a command ended with this status behind this line: in the system's words, where a call on what lies outside failed.
-pub(crate) fn say_end<R: Eprint>(
+/// Says why a command ended with this status: in the system's words, where a call on what lies outside failed, else by the last line
+/// that it wrote.
+pub(crate) fn say_end<R: Eprint, F: Files + Drop, T: Read + Drop, W: Write + Drop>(
     rt: &R,
     status: u8,
-    line: &[u8],
     words: &[String],
-    reasons: &Reasons<'_>,
+    shelf: FileShelf<F>,
+    input: StreamSource<T>,
+    out: Remembering<StreamSink<W>>,
 ) {
     match status {
-        3 | 4 if let Some(failure) = reasons.file => say_failure(rt, failure),
-        5 if let Some(error) = reasons.output => say_error(rt, "standard output", error),
-        6 if let Some(error) = reasons.input => say_error(rt, "standard input", error),
-        _ => say_status(rt, status, line, words),
+        3 | 4 if let Some(failure) = shelf.failure() => say_failure(rt, failure),
+        5 if let Some(error) = out.inner().error() => say_error(rt, "standard output", error),
+        6 if let Some(error) = input.error() => say_error(rt, "standard input", error),
+        _ => say_status(rt, status, out.last_line(), words),
     }
 }
 
