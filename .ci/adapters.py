@@ -334,7 +334,7 @@ def over_itself(room):
     runs += [("LINK", "FILE", "gdb8"), ("LINK", "LINK", "gdb8"), ("FILE", "X", "names"), ("X.debug_str", "X", "names")]
     for file, name, kind in runs:
         got = index(room, file, name, kind)
-        wrong = None if got[:2] == (2, b"usage\n") and got[2].startswith(b"gdbix: OUT is FILE itself") else repr(got)
+        wrong = None if got[:2] == (2, b"usage\n") and got[2].startswith(b"gdbix: usage: OUT is FILE itself") else repr(got)
         yield "index --as %s %s %s" % (kind, file, name), wrong or differs(room.names(), before)
     status, out, _ = index(room, "FILE", "X", "gdb8")
     yield "X isn't FILE where it has no strings", differs((status, out), (0, b""))

@@ -63,7 +63,7 @@ ENDS = [
     (("ask", ".", "main"), 3, "read fault\n", r"\.: Is a directory"),
     (("look", "names", "app.c", "gone", "name", "main"), 3, "read fault\n", "gone: No such file or directory"),
     (("race", "app", "gone"), 3, "read fault\n", "gone: No such file or directory"),
-    (("index", "--as", "gdb8", "app", "none/out"), 4, "store fault\n", "none/out: No such file or directory"),
+    (("index", "--as", "gdb8", "app", "none/out"), 4, "store fault\n", "none/out: Not a directory"),
     (("look", "gdb", "app.c", "name", "main"), 8, "index refused 40 0\n", r"app\.c: no \.gdb_index of version 8 or 9 .*"),
     (("look", "names", "names", "none", "name", "main"), 8, r"index refused 56 [0-9a-f]+\n", r"names: a name isn't in the strings .*; give the strings .*"),
     (("race", "app", "big"), 10, "file too big\n", r"app or big: too big: .*"),
