@@ -16,5 +16,3 @@ mod locks;
 mod replaced;
 #[cfg(test)]
 mod streams;
-#[cfg(test)]
-mod wanting;
