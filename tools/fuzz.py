@@ -34,7 +34,7 @@ def query_of(random, seed, sorts):
     if sort in ("name", "simple"):
         return [sort, random.choice(seed.names).decode()]
     if sort == "addr":
-        return [sort, "%x" % max(0, random.choice(seed.addresses) + random.choice((-1, 0, 0, 1)))]
+        return [sort, "%x" % (random.choice(seed.addresses) + random.choice((-1, 0, 0, 1)) & 0xFFFFFFFFFFFFFFFF)]
     return [sort]
 
 
