@@ -16,3 +16,5 @@ mod locks;
 mod replaced;
 #[cfg(test)]
 mod streams;
+#[cfg(test)]
+mod wanting;
