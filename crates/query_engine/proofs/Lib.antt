@@ -8,3 +8,4 @@ mod NamesLaws
 mod SearchLaws
 pub mod CountLaws
 mod PlainLaws
+pub mod TextLists
