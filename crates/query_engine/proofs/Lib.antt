@@ -9,3 +9,4 @@ mod SearchLaws
 pub mod CountLaws
 mod PlainLaws
 pub mod TextLists
+pub mod PlacedEntries
