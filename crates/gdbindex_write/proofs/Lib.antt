@@ -1,6 +1,5 @@
-mod UniqueLaws
+mod ElementLaws
 mod GroupLaws
-mod PairLaws
 mod PositionLaws
 mod NumberLaws
 mod SlotLaws
@@ -8,7 +7,6 @@ mod DistinctLaws
 mod UnitLaws
 mod PartLaws
 mod HeaderLaws
-mod SymbolLaws
 mod VectorLaws
 mod SizeLaws
 mod PlaceLaws

@@ -4,7 +4,6 @@ use Rattle.std.specs.Prelude.{sum_by}
 use Rattle.std.proofs.lemmas.List.Folds.{fold-map}
 use Rattle.std.proofs.lemmas.List.Sums.{sum_by_more, sum_by_more_le}
 use denote.Ref.{Bor}
-use Rattle.gdbindex_write.specs.declared.keys.Key.{Key}
 use Rattle.gdbindex_write.specs.declared.symbols.Symbol.{Symbol}
 use Rattle.gdbindex_write.specs.Pools.{vectors_seen}
 use Rattle.gdbindex_write.specs.Sizes.{names_size, vectors_size}
@@ -16,9 +15,6 @@ no_vector = record { ref_ptr = (0, 0); now = [] }
 
 abbrev pub no_symbol : Symbol
 no_symbol = record { name = record { ref_ptr = (0, 0); now = [] }; start = 0; end = 0 }
-
-abbrev pub no_key : Key
-no_key = record { name = record { ref_ptr = (0, 0); now = [] }; element = 0 }
 
 abbrev name_part : Symbol → ℕ
 name_part s = length s.name.now + 1

@@ -2,28 +2,25 @@
 use Rattle.std.proofs.Common.{◌≡◌, ℕ, ◌+◌, ◌*◌, ◌<◌, true, false, not, nat_eq, List, [], ◌++◌, length, get_or, take, map, position, Option, Some, None, is_some, unwrap_or, refl, sym, ap, ◌∙◌, subst, arith}
 use mathlib.Core.Bool.{◌&&◌, true≢false}
 use Rattle.std.specs.Prelude.{filter, flat_map, bytes_eq, slice_get, option_map}
-use Rattle.std.specs.Ordering.{nat_cmp}
-use Rattle.std.specs.Cmp.Lexicographic.{slice_cmp}
 use Rattle.std.specs.List.{list_any, position_or_len}
-use Rattle.std.specs.List.Sorted.{IsStrictlySortedBy}
-use Rattle.std.proofs.lemmas.Cmp.{nat_list_cmp_total, nat_list_eq_equiv}
-use Rattle.std.specs.declared.cmp.Ordering.{Ordering}
-use Rattle.std.specs.declared.cmp.Ordering.TheVariants.{Less}
+use Rattle.std.proofs.lemmas.Cmp.{nat_list_eq_equiv}
 use Rattle.std.proofs.lemmas.List.{get_or-map, length-map, take-map}
 use Rattle.std.proofs.lemmas.List.FromFn.{get_or-map-range_with_len}
 use Rattle.std.proofs.lemmas.List.Folds.{flat_map-map, list_any_at}
 use Rattle.std.proofs.lemmas.List.Quantifiers.{position-Some}
 use Rattle.std.proofs.lemmas.List.Sums.{position_or_len_is}
-use Rattle.std.proofs.lemmas.Map.Keys.{Less-from_sorted}
 use Rattle.std.proofs.lemmas.Option.{slice_get-get_or}
 use Rattle.ix_base.specs.Reading.{◌>>=◌ as ◌>>=?◌}
-use Rattle.query_engine.proofs.TextOrder.{eq_from_same, eq_from_other, before_itself, equal_is_same}
+use Rattle.query_engine.proofs.TextOrder.{eq_from_same, eq_from_other}
+use Rattle.query_engine.proofs.TextLists.{any_from_has, has_from_any}
 use Rattle.query_engine.proofs.CountLaws.{any_filter, any_map, any_same}
 use Rattle.index_model.specs.declared.answer.Main.{Main}
 use Rattle.index_model.specs.declared.entry.Entry.{Entry}
 use Rattle.index_model.specs.declared.unit.Unit.{Unit as UnitHeader}
 use Rattle.index_model.specs.Layout.{below, u32_bytes, ended, start_of}
+use Rattle.index_model.specs.Order.{Rises}
 use Rattle.index_model.specs.Ordered.{bytes_lt, place_of}
+use Rattle.index_model.proofs.Orders.{bytes_order, ascending_has, ascending_rises, pairs_from_rises}
 use Rattle.index_model.specs.GdbSlots.{slot_count, slots_of}
 use Rattle.index_model.specs.GdbIndex.{Pool, index_names, vector, name_place, vector_place, vector_bytes, slot_bytes, name_in_slot, symbol_table, shortcut}
 use denote.Ref.{Bor}
@@ -35,15 +32,10 @@ use Rattle.gdbindex_write.specs.Places.{place_at, places_of, nowhere, numbered_b
 use Rattle.gdbindex_write.specs.Sizes.{names_size, vectors_size}
 use Rattle.gdbindex_write.specs.Slots.{numbers_in_slots}
 use Rattle.gdbindex_write.specs.Writable.{is_plainly_named, IsMainOf}
-use Rattle.gdbindex_write.proofs.UniqueLaws.{sorted_ascending, any_ascending}
-use Rattle.gdbindex_write.proofs.GroupLaws.{less_is}
 use Rattle.gdbindex_write.proofs.PositionLaws.{is_some_position, position_map}
 use Rattle.gdbindex_write.proofs.DistinctLaws.{is_in, place_is}
 use Rattle.gdbindex_write.proofs.SlotLaws.{slots_length_of}
 use Rattle.gdbindex_write.proofs.SizeLaws.{ended_length, vector_length, vectors_length, start_is}
-
-abbrev text_cmp : List ℕ → List ℕ → Ordering
-text_cmp = slice_cmp nat_cmp
 
 -- ---- each name stands once
 
@@ -51,15 +43,15 @@ module _ (entries : List Entry) where
   abbrev names : List (List ℕ)
   names = index_names entries
 
-  names_ascend : IsStrictlySortedBy text_cmp (index_names entries)
+  names_rise : Rises bytes_lt (index_names entries)
   unfolding index_names
-  names_ascend = sorted_ascending text_cmp nat_list_cmp_total equal_is_same bytes_lt less_is (map (λ e. e.name) (filter (λ e. not e.linkage) entries))
+  names_rise = ascending_rises bytes_lt bytes_order (map (λ e. e.name) (filter (λ e. not e.linkage) entries))
 
   -- the place of a name is its number
   other_name : (j k : ℕ) → j < k → k < length (index_names entries) → bytes_eq (get_or (index_names entries) k []) (get_or (index_names entries) j []) ≡ false
   other_name j k less lt = eq_from_other (get_or names k []) (get_or names j []) (λ same.
-      let before = Less-from_sorted text_cmp names j k [] names_ascend less lt in
-      before_itself (get_or names j []) (subst (λ (w : List ℕ). text_cmp (get_or names j []) w ≡ Less) same before))
+      let before : bytes_lt (get_or names j []) (get_or names k []) ≡ true = pairs_from_rises bytes_lt names names_rise j k [] less lt in
+      bytes_order.itself (get_or names j []) (subst (λ (w : List ℕ). bytes_lt (get_or names j []) w ≡ true) same before))
 
   -- the place of a name is its number
   pub own_place : (k : ℕ) → k < length (index_names entries) → place_of bytes_eq (get_or (index_names entries) k []) (index_names entries) ≡ k
@@ -73,9 +65,10 @@ module _ (entries : List Entry) where
   pub has_name : (name : List ℕ) → list_any (is_plainly_named name) entries ≡ true → list_any (bytes_eq name) (index_names entries) ≡ true
   unfolding index_names
   has_name name some =
-      any_ascending text_cmp nat_list_cmp_total equal_is_same bytes_lt less_is (bytes_eq name) (map (λ e. e.name) (filter (λ e. not e.linkage) entries))
-      ∙ any_map (bytes_eq name) (λ (e : Entry). e.name) (filter (λ e. not e.linkage) entries) ∙ any_filter (λ (e : Entry). bytes_eq name e.name) (λ (e : Entry). not e.linkage) entries
-      ∙ any_same (λ (e : Entry). not e.linkage && bytes_eq name e.name) (is_plainly_named name) entries (λ e. ap (λ b. not e.linkage && b) (nat_list_eq_equiv.symm name e.name)) ∙ some
+      let named : list_any (bytes_eq name) (map (λ (e : Entry). e.name) (filter (λ e. not e.linkage) entries)) ≡ true =
+      any_map (bytes_eq name) (λ (e : Entry). e.name) (filter (λ e. not e.linkage) entries) ∙ any_filter (λ (e : Entry). bytes_eq name e.name) (λ (e : Entry). not e.linkage) entries
+      ∙ any_same (λ (e : Entry). not e.linkage && bytes_eq name e.name) (is_plainly_named name) entries (λ e. ap (λ b. not e.linkage && b) (nat_list_eq_equiv.symm name e.name)) ∙ some in
+      any_from_has name (index_names entries) (ascending_has bytes_lt bytes_order (map (λ (e : Entry). e.name) (filter (λ e. not e.linkage) entries)) name (has_from_any name (map (λ (e : Entry). e.name) (filter (λ e. not e.linkage) entries)) named))
 
 module _ (units : List UnitHeader) (entries : List Entry) (symbols : List Symbol) (vectors : List (Bor (List ℕ))) (numbers : List ℕ) where
   abbrev own_pool : Pool

@@ -1,23 +1,26 @@
 -- What was sorted and numbered is the constant pool of the index.
-use Rattle.std.proofs.Common.{◌≡◌, ℕ, ◌+◌, ◌*◌, ◌^◌, ◌<◌, ◌≤◌, Bool, true, false, not, cond, List, [], ◌∷◌, length, get_or, map, Option, Some, None, refl, sym, ap, ◌∙◌, subst, arith}
-use Rattle.std.specs.Prelude.{filter, All, bytes_eq, slice_get, slice_range, IsSomeAnd}
-use Rattle.std.proofs.lemmas.List.Elements.{All-head, All-tail}
+use Rattle.std.proofs.Common.{◌≡◌, ℕ, ◌+◌, ◌*◌, ◌^◌, ◌<◌, ◌≤◌, not, cond, List, [], ◌∷◌, length, get_or, map, Option, Some, None, refl, sym, ap, ◌∙◌, arith}
+use mathlib.Core.Bool.{◌&&◌}
+use Rattle.std.specs.Prelude.{filter, nat_lt, All, bytes_eq, slice_get, slice_range, IsSomeAnd}
+use Rattle.std.proofs.lemmas.List.{map-id}
+use Rattle.std.proofs.lemmas.List.Elements.{All-filter, All-head, All-tail}
 use Rattle.std.proofs.lemmas.List.FromFn.{get_or-map-range_with_len, length-map-range_with_len}
 use Rattle.std.proofs.lemmas.Option.{slice_get_within}
+use Rattle.common_laws.proofs.Filters.{filter_both, map_map}
 use Rattle.index_model.specs.declared.entry.Entry.{Entry}
 use Rattle.index_model.specs.declared.unit.Unit.{Unit as UnitHeader}
 use Rattle.index_model.specs.Layout.{below}
-use Rattle.index_model.specs.Ordered.{distinct, place_of}
+use Rattle.index_model.specs.Answers.{is_named}
+use Rattle.index_model.specs.Ordered.{ascending, distinct, place_of}
 use Rattle.index_model.specs.GdbIndex.{pool_of, index_names, index_number, vector, element, kind_number}
 use Rattle.gdbindex_write.specs.declared.symbols.Symbol.{Symbol}
 use Rattle.gdbindex_write.specs.declared.symbols.Symbols.{Symbols}
 use Rattle.gdbindex_write.specs.declared.vectors.Vectors.{Vectors}
-use Rattle.gdbindex_write.specs.Keys.{Pair, element_by, pairs_by, AreSortOf}
+use Rattle.gdbindex_write.specs.Elements.{element_by, vector_by}
 use Rattle.gdbindex_write.specs.Pools.{pool_seen, vectors_seen}
-use Rattle.gdbindex_write.specs.Symbols.{groups_seen, names_of, vectors_of, AreSymbolsOf}
+use Rattle.gdbindex_write.specs.Symbols.{Group, group_by, names_of, vectors_of, AreSymbolsOf}
 use Rattle.gdbindex_write.specs.Vectors.{AreVectorsOf}
 use Rattle.gdbindex_write.specs.Writable.{IsInUnits}
-use Rattle.gdbindex_write.proofs.GroupLaws.{names, elements, names_are, vectors_are, pairs_of}
 
 -- ---- entries
 
@@ -38,42 +41,40 @@ module _ (units : List UnitHeader) (numbers : List ℕ) (numbers_are : numbers �
   number_of : (e : Entry) → IsInUnits units e → get_or numbers e.unit 0 ≡ index_number units e.unit
   number_of e is = ap (λ (w : List ℕ). get_or w e.unit 0) numbers_are ∙ get_or-map-range_with_len (index_number units) 0 (length units) e.unit e.unit 0 (in_units units e is) (omega arith)
 
-  abbrev first : Entry → Pair
-  first e = (e.name, element_by numbers e)
+  element_is : (e : Entry) → IsInUnits units e → element_by numbers e ≡ element units e
+  element_is e is = ap (λ (n : ℕ). n + kind_number e.kind * 2 ^ 28 + cond e.local (2 ^ 31) 0) (number_of e is)
 
-  abbrev second : Entry → Pair
-  second e = (e.name, element units e)
+  elements_are : (es : List Entry) → All (IsInUnits units) es → map (element_by numbers) es ≡ map (element units) es
+  elements_are [] all = refl
+  elements_are (e ∷ es) all = λ i. element_is e (All-head (IsInUnits units) e es all) i ∷ elements_are es (All-tail (IsInUnits units) e es all) i
 
-  pub pairs_are : (entries : List Entry) → All (IsInUnits units) entries → pairs_by numbers entries ≡ pairs_of units entries
-  pairs_are [] all = refl
-  pairs_are (e ∷ es) all = by (not e.linkage) (pairs_are es (All-tail (IsInUnits units) e es all))
-    where
-      own : element_by numbers e ≡ element units e
-      own = ap (λ (n : ℕ). n + kind_number e.kind * 2 ^ 28 + cond e.local (2 ^ 31) 0) (number_of e (All-head (IsInUnits units) e es all))
-
-      by : (b : Bool) → pairs_by numbers es ≡ pairs_of units es → map first (cond b (e ∷ filter (λ e. not e.linkage) es) (filter (λ e. not e.linkage) es)) ≡ map second (cond b (e ∷ filter (λ e. not e.linkage) es) (filter (λ e. not e.linkage) es))
-      by true rest = λ i. (e.name, own i) ∷ rest i
-      by false rest = rest
+  -- the vector of a name's entries is that of the name
+  pub vector_is : (entries : List Entry) → All (IsInUnits units) entries → (n : List ℕ) → vector_by numbers (filter (is_named n) entries) ≡ vector units entries n
+  unfolding vector
+  vector_is entries all n =
+      let plain : filter (λ e. not e.linkage) (filter (is_named n) entries) ≡ filter (λ e. not e.linkage && bytes_eq e.name n) entries = filter_both (λ e. not e.linkage) (is_named n) (λ e. not e.linkage && bytes_eq e.name n) entries (λ e _. refl) in
+      let named = filter (λ e. not e.linkage && bytes_eq e.name n) entries in
+      ap (λ w. ascending nat_lt (map (element_by numbers) w)) plain
+      ∙ ap (ascending nat_lt) (elements_are named (All-filter (λ e. not e.linkage && bytes_eq e.name n) (IsInUnits units) entries all))
 
 -- ---- symbols
 
-names_seen : (es : List ℕ) (list : List Symbol) → names (groups_seen es list) ≡ names_of list
-names_seen es [] = refl
-names_seen es (s ∷ list) = ap (λ w. s.name.now ∷ w) (names_seen es list)
+abbrev group_name : Group → List ℕ
+group_name g = g.0
 
-elements_seen : (es : List ℕ) (list : List Symbol) → elements (groups_seen es list) ≡ vectors_of es list
-elements_seen es [] = refl
-elements_seen es (s ∷ list) = ap (λ w. slice_range es s.start s.end ∷ w) (elements_seen es list)
+abbrev group_elements : Group → List ℕ
+group_elements g = g.1
 
-module _ (units : List UnitHeader) (entries : List Entry) (numbers : List ℕ) (symbols : Symbols) (are : AreSymbolsOf (pairs_by numbers entries) symbols) (same : pairs_by numbers entries ≡ pairs_of units entries) where
-  sorted : AreSortOf (pairs_of units entries) are.pairs
-  sorted = subst (λ (ps : List Pair). AreSortOf ps are.pairs) same are.sorted
-
+module _ (units : List UnitHeader) (entries : List Entry) (numbers : List ℕ) (symbols : Symbols) (are : AreSymbolsOf numbers entries symbols) (same : (n : List ℕ) → vector_by numbers (filter (is_named n) entries) ≡ vector units entries n) where
   pub own_names : names_of symbols.list.items ≡ index_names entries
-  own_names = sym (names_seen symbols.elements.items symbols.list.items) ∙ ap names are.are ∙ names_are units entries are.pairs sorted
+  own_names =
+      sym (map_map (λ (s : Symbol). (s.name.now, slice_range symbols.elements.items s.start s.end)) group_name symbols.list.items) ∙ ap (map group_name) are.are
+      ∙ map_map (group_by numbers entries) group_name (index_names entries) ∙ map-id (index_names entries)
 
   pub own_vectors : vectors_of symbols.elements.items symbols.list.items ≡ map (vector units entries) (index_names entries)
-  own_vectors = sym (elements_seen symbols.elements.items symbols.list.items) ∙ ap elements are.are ∙ vectors_are units entries are.pairs sorted
+  own_vectors =
+      sym (map_map (λ (s : Symbol). (s.name.now, slice_range symbols.elements.items s.start s.end)) group_elements symbols.list.items) ∙ ap (map group_elements) are.are
+      ∙ map_map (group_by numbers entries) group_elements (index_names entries) ∙ (λ i. map (λ n. same n i) (index_names entries))
 
   module _ (vectors : Vectors) (vectors_are_those : AreVectorsOf (vectors_of symbols.elements.items symbols.list.items) vectors) where
     pub own_pool : pool_seen symbols.list.items vectors.distinct.items ≡ pool_of units entries

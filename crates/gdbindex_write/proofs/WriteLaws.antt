@@ -26,7 +26,6 @@ use Rattle.gdbindex_write.specs.declared.symbols.Symbols.{Symbols}
 use Rattle.gdbindex_write.specs.declared.vectors.Vectors.{Vectors}
 use Rattle.gdbindex_write.specs.Addresses.{piece_bytes}
 use Rattle.gdbindex_write.specs.Header.{header_bytes}
-use Rattle.gdbindex_write.specs.Keys.{pairs_by}
 use Rattle.gdbindex_write.specs.Places.{numbered_bytes, places_of, shortcut_of}
 use Rattle.gdbindex_write.specs.Pools.{pool_seen, vectors_seen}
 use Rattle.gdbindex_write.specs.Sizes.{sizes_of, total, names_size}
@@ -37,13 +36,13 @@ use Rattle.gdbindex_write.specs.Writable.{IsWritable}
 use Rattle.gdbindex_write.proofs.DistinctLaws.{in_distinct, place_is}
 use Rattle.gdbindex_write.proofs.SlotLaws.{slots_length_of}
 use Rattle.gdbindex_write.proofs.UnitLaws.{area_is}
-use Rattle.gdbindex_write.proofs.PoolLaws.{pairs_are, own_names, own_pool, own_numbers}
+use Rattle.gdbindex_write.proofs.PoolLaws.{vector_is, own_names, own_pool, own_numbers}
 use Rattle.gdbindex_write.proofs.PlaceLaws.{table_is, shortcut_is}
 use Rattle.gdbindex_write.proofs.IndexLaws.{written_is, length_is}
 
 module _ (units : List UnitHeader) (pieces : List UnitRange) (main : Option Main) (entries : List Entry) (version : ℕ) (writable : IsWritable units pieces main entries version)
     (numbers : List ℕ) (numbers_are : numbers ≡ map (index_number units) (below (length units)))
-    (symbols : Symbols) (are : AreSymbolsOf (pairs_by numbers entries) symbols) (vectors : Vectors) (those : AreVectorsOf (vectors_of symbols.elements.items symbols.list.items) vectors) where
+    (symbols : Symbols) (are : AreSymbolsOf numbers entries symbols) (vectors : Vectors) (those : AreVectorsOf (vectors_of symbols.elements.items symbols.list.items) vectors) where
   abbrev pool : Pool
   pool = pool_of units entries
 
@@ -54,13 +53,13 @@ module _ (units : List UnitHeader) (pieces : List UnitRange) (main : Option Main
   places = places_of symbols.list.items vectors.distinct.items vectors.numbers.items
 
   pool_is : pool_seen symbols.list.items vectors.distinct.items ≡ pool_of units entries
-  pool_is = own_pool units entries numbers symbols are (pairs_are units numbers numbers_are entries writable.entries_are) vectors those
+  pool_is = own_pool units entries numbers symbols are (vector_is units numbers numbers_are entries writable.entries_are) vectors those
 
   names_are : names_of symbols.list.items ≡ index_names entries
-  names_are = own_names units entries numbers symbols are (pairs_are units numbers numbers_are entries writable.entries_are)
+  names_are = own_names units entries numbers symbols are (vector_is units numbers numbers_are entries writable.entries_are)
 
   places_are : vectors.numbers.items ≡ map (λ w. place_of bytes_eq w (vectors_seen vectors.distinct.items)) (map (vector units entries) (names_of symbols.list.items))
-  places_are = subst (λ (p : Pool). vectors.numbers.items ≡ map (λ w. place_of bytes_eq w p.vectors) (map (vector units entries) p.names)) (sym pool_is) (own_numbers units entries numbers symbols are (pairs_are units numbers numbers_are entries writable.entries_are) vectors those)
+  places_are = subst (λ (p : Pool). vectors.numbers.items ≡ map (λ w. place_of bytes_eq w p.vectors) (map (vector units entries) p.names)) (sym pool_is) (own_numbers units entries numbers symbols are (vector_is units numbers numbers_are entries writable.entries_are) vectors those)
 
   table_written : flat_map (numbered_bytes places) (numbers_in_slots (names_of symbols.list.items)) ≡ symbol_table units entries pool
   table_written = table_is units entries symbols.list.items vectors.distinct.items vectors.numbers.items names_are places_are ∙ ap (symbol_table units entries) pool_is

@@ -7,7 +7,6 @@ use Rattle.index_model.specs.declared.unit.Unit.{Unit as UnitHeader}
 use Rattle.index_model.specs.GdbIndex.{index_number}
 use Rattle.index_model.specs.Layout.{below}
 use Rattle.gdbindex_write.specs.declared.symbols.Symbols.{Symbols}
-use Rattle.gdbindex_write.specs.Keys.{pairs_by}
 use Rattle.gdbindex_write.specs.Symbols.{AreSymbolsOf}
 use Rattle.gdbindex_write.specs.Writable.{IsWritable}
 
@@ -15,4 +14,4 @@ use Rattle.gdbindex_write.specs.Writable.{IsWritable}
 pub record IsPrepared (units : List UnitHeader) (pieces : List UnitRange) (main : Option Main) (version : ℕ) (numbers : List ℕ) (symbols : Symbols) (entries : List Entry) : Type 0 where
   pub writable : IsWritable units pieces main entries version
   pub numbers_are : numbers ≡ map (index_number units) (below (length units))
-  pub symbols_are : AreSymbolsOf (pairs_by numbers entries) symbols
+  pub symbols_are : AreSymbolsOf numbers entries symbols

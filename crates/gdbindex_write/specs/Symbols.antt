@@ -1,26 +1,23 @@
 -- Names with their vectors.
-use Rattle.std.specs.Prelude.{◌≡◌, ℕ, ◌-◌, ◌≤◌, Bool, ◌&&◌, nat_lt, if◌then◌else◌, List, [], ◌∷◌, length, map, All, bytes_eq, slice_range, slice_index_or}
+use Rattle.std.specs.Prelude.{◌≡◌, ℕ, ◌≤◌, Bool, nat_lt, List, length, map, filter, All, slice_range}
+use Rattle.index_model.specs.declared.entry.Entry.{Entry}
+use Rattle.index_model.specs.Answers.{is_named}
+use Rattle.index_model.specs.GdbIndex.{index_names}
 use Rattle.gdbindex_write.specs.declared.symbols.Symbol.{Symbol}
 use Rattle.gdbindex_write.specs.declared.symbols.Symbols.{Symbols}
-use Rattle.gdbindex_write.specs.Keys.{Pair, AreSortOf}
+use Rattle.gdbindex_write.specs.Elements.{vector_by}
 
 -- a name with the elements of its vector
 abbrev pub Group : Type 0
 Group = List ℕ × List ℕ
 
--- a pair before groups: in the first of them, if that has its name
-unfoldable pub onto_first : Pair → List Group → List Group
-onto_first p [] = (p.0, p.1 ∷ []) ∷ []
-onto_first p (g ∷ gs) = if bytes_eq p.0 g.0 then (p.0, p.1 ∷ g.1) ∷ gs else (p.0, p.1 ∷ []) ∷ g ∷ gs
+-- a name with the vector of the entries that have it, where the units have these numbers
+abbrev pub group_by : List ℕ → List Entry → List ℕ → Group
+group_by numbers entries name = (name, vector_by numbers (filter (is_named name) entries))
 
--- the pairs by their names, where those with one name stand together
-unfoldable pub groups : List Pair → List Group
-groups [] = []
-groups (p ∷ ps) = onto_first p (groups ps)
-
--- whether there is a pair at an index, with the name of the one before it
-abbrev pub goes_on_at : List Pair → ℕ → Bool
-goes_on_at ps k = nat_lt k (length ps) && bytes_eq (slice_index_or ps k ([], 0)).0 (slice_index_or ps (k - 1) ([], 0)).0
+-- whether the vector has elements
+abbrev pub has_elements : Group → Bool
+has_elements g = nat_lt 0 (length g.1)
 
 -- the names of symbols
 abbrev pub names_of : List Symbol → List (List ℕ)
@@ -38,9 +35,7 @@ groups_seen elements list = map (λ s. (s.name.now, slice_range elements s.start
 abbrev pub AreWithin : ℕ → List Symbol → Type 0
 AreWithin n list = All (λ s. (s.start ≤ s.end) × (s.end ≤ n)) list
 
--- the symbols are the groups of these pairs, sorted
-pub record AreSymbolsOf (all : List Pair) (s : Symbols) : Type 0 where
-  pub pairs : List Pair
-  pub sorted : AreSortOf all pairs
-  pub are : groups_seen s.elements.items s.list.items ≡ groups pairs
+-- the symbols are the names of the index, each with its vector
+pub record AreSymbolsOf (numbers : List ℕ) (entries : List Entry) (s : Symbols) : Type 0 where
+  pub are : groups_seen s.elements.items s.list.items ≡ map (group_by numbers entries) (index_names entries)
   pub within : AreWithin (length s.elements.items) s.list.items

@@ -23,8 +23,8 @@ use std::alloc::Global;
 /// The bytes of the `.gdb_index` of a program with these units, addresses, main and entries, version 8 or 9.
 ///
 /// The units stand in section order and follow one another. The map and the table name no others, and each entry lies in its
-/// unit. Main has the name of an entry that isn't a linkage entry; only version 9 says it. The work beside one sort, that of the
-/// names with their elements, is linear.
+/// unit. Main has the name of an entry that isn't a linkage entry; only version 9 says it. The names come sorted from the table;
+/// the work beside sorts of each name's own elements is linear.
 ///
 /// # Errors
 ///
@@ -43,7 +43,7 @@ pub fn write(
     ensures too_large { result ≡ Err TooLarge → 4294967295 < length (gdb_index_bytes units.now map.now (option_map main_seen main.entry) table.now version) }
 {
     let numbers = index_numbers(alloc, units)?;
-    let symbols = Symbols::of(alloc, &numbers, table.entries())?;
+    let symbols = Symbols::of(alloc, &numbers, table)?;
     index_bytes(
         alloc,
         units,
@@ -55,7 +55,7 @@ pub fn write(
     )
 }
 
-// The bytes of the index, once its units have numbers and its names are sorted.
+// The bytes of the index, once its units have numbers and its names have vectors.
 fn index_bytes(
     alloc: Global,
     units: &[Unit],

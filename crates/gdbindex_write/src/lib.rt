@@ -7,9 +7,9 @@
 
 mod addresses;
 mod areas;
+mod elements;
 mod header;
 mod index;
-mod keys;
 mod names;
 mod numbers;
 mod places;

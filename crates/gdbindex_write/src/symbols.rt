@@ -1,12 +1,11 @@
 //! The names of the symbol table and the elements of their vectors.
 
-ghost use Rattle.std.specs.Prelude.{◌≡◌, ◌<◌, length, map, All, IfOk};
-ghost use Rattle.gdbindex_write.specs.Keys.{pairs_by, pairs_seen};
-ghost use Rattle.gdbindex_write.specs.Symbols.{AreSymbolsOf, AreWithin, goes_on_at, groups, groups_seen};
+ghost use Rattle.std.specs.Prelude.{◌≡◌, ◌<◌, ◌∷◌, ◌++◌, [], length, All, IfOk, OnOk};
+ghost use Rattle.gdbindex_write.specs.Symbols.{AreSymbolsOf, AreWithin, groups_seen};
 
-use crate::keys::{Key, sorted_keys};
-use index_model::Entry;
+use crate::elements::fill_vector;
 use ix_base::NoMemory;
+use query_engine::Table;
 use std::alloc::Global;
 
 /// A name of the symbol table, and where the elements of its vector stand among those of all names.
@@ -29,52 +28,44 @@ impl<'r> Symbols<'r> {
     pub(crate) fn of(
         alloc: Global,
         numbers: &[u32],
-        entries: &'r [Entry<'_>],
+        table: &'r Table<'_>,
     ) -> Result<Symbols<'r>, NoMemory>
         requires small { All (λ n. n < 16777216) numbers.now }
-        requires entries { All (λ e. e.unit < length numbers.now) entries.now }
-        ensures { IfOk result (AreSymbolsOf (pairs_by numbers.now entries.now)) }
+        requires units { All (λ e. e.unit < length numbers.now) table.now }
+        ensures { IfOk result (AreSymbolsOf numbers.now table.now) }
     {
-        let keys = sorted_keys(alloc, numbers, entries)?;
-        let list = groups_of(alloc, &keys)?;
-        let elements = elements_of(alloc, &keys)?;
-        Ok(Symbols { list, elements })
-    }
-}
-
-// The groups of ascending keys with one name.
-fn groups_of<'r>(alloc: Global, keys: &[Key<'r>]) -> Result<Vec<Symbol<'r>>, NoMemory>
-    ensures groups { IfOk result (λ v. groups_seen (map (λ k. k.element) keys.now) v.items ≡ groups (pairs_seen keys.now)) }
-    ensures within { IfOk result (λ v. AreWithin (length keys.now) v.items) }
-{
-    let mut list = Vec::with_capacity(alloc, keys.len())?;
-    let mut start = 0;
-    for i in 0..keys.len() {
-        let next = i + 1;
-        if !goes_on_at(keys, next) {
-            list.push(Symbol {
-                name: keys[start].name,
-                start,
-                end: next,
-            })?;
-            start = next;
+        let list = Vec::with_capacity(alloc, table.distinct() as usize)?;
+        let elements = Vec::new(alloc);
+        let mut symbols = Symbols { list, elements };
+        let mut vector = Vec::new(alloc);
+        for index in 0..table.name_count() {
+            fill_vector(
+                &mut vector,
+                numbers,
+                table.entries(),
+                table.places_at(index),
+            )?;
+            // A name that linkage entries alone have is none of the index.
+            if !vector.is_empty() {
+                symbols.push(table.name_at(index), &vector)?;
+            }
         }
+        Ok(symbols)
     }
-    list.shrink_to_fit();
-    Ok(list)
-}
 
-// Whether the key at the index has the name of the one before it.
-fn goes_on_at(keys: &[Key<'_>], index: usize) -> bool
-    requires { 0 < index }
-    ensures { result ≡ goes_on_at (pairs_seen keys.now) index }
-{
-    index < keys.len() && keys[index].name == keys[index - 1].name
-}
-
-// The elements of keys.
-fn elements_of(alloc: Global, keys: &[Key<'_>]) -> Result<Vec<u32>, NoMemory>
-    ensures { IfOk result (λ v. v.items ≡ map (λ k. k.element) keys.now) }
-{
-    Ok(keys.iter().map(|key| key.element).collect(alloc)?)
+    // Appends a name and its vector.
+    fn push(&mut self, name: &'r [u8], vector: &[u32]) -> Result<(), NoMemory>
+        requires { AreWithin (length self.now.elements.items) self.now.list.items }
+        ensures groups { OnOk result (groups_seen self.new.elements.items self.new.list.items ≡ groups_seen self.old.elements.items self.old.list.items ++ (name.now, vector.now) ∷ []) }
+        ensures within { OnOk result (AreWithin (length self.new.elements.items) self.new.list.items) }
+    {
+        let start = self.elements.len();
+        self.elements.extend_from_slice(vector)?;
+        self.list.push(Symbol {
+            name,
+            start,
+            end: self.elements.len(),
+        })?;
+        Ok(())
+    }
 }

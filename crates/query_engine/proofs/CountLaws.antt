@@ -101,7 +101,7 @@ module _ (es : List Entry) (n : Names) (names : AreNamesOf es n) where
   texts_length = length-map-range_with_len (name_at es n) 0 size
 
   -- an index has the text
-  text_found : (q : List ℕ) → list_any (bytes_eq q) (group_texts es n) ≡ true → (k : ℕ) × (k < size) × (name_at es n k ≡ q)
+  pub text_found : (q : List ℕ) → list_any (bytes_eq q) (group_texts es n) ≡ true → (k : ℕ) × (k < size) × (name_at es n k ≡ q)
   unfolding group_texts
   text_found q some =
       let r = some_passes (bytes_eq q) (map (name_at es n) (range_with_len 0 size)) some in
@@ -155,7 +155,7 @@ any_text way p q es =
 pub group_count : (es : List Entry) (n : Names) → AreNamesOf es n → length n.groups.items ≡ text_count n.way es
 group_count es n names = sym (texts_length es n names) ∙ length-from_keys nat_list_eq_equiv (group_texts es n) (map (text_of n.way) (filter (is_counted n.way) es)) (texts_apart es n names) (λ q. same_texts es n names q ∙ sym (any_text n.way (is_counted n.way) q es))
 
-filter_all : {X : Type 0} (xs : List X) → filter (λ _. true) xs ≡ xs
+pub filter_all : {X : Type 0} (xs : List X) → filter (λ _. true) xs ≡ xs
 filter_all [] = refl
 filter_all (x ∷ xs) = ap (λ w. x ∷ w) (filter_all xs)
 

@@ -8,3 +8,5 @@ mod NamesLaws
 mod SearchLaws
 pub mod CountLaws
 mod PlainLaws
+pub mod TextLists
+pub mod PlacedEntries

@@ -7,9 +7,11 @@ use Rattle.std.specs.Ordering.{nat_cmp, is_lt, is_eq, ordering_reverse}
 use Rattle.std.specs.Cmp.Lexicographic.{slice_cmp}
 use Rattle.std.specs.declared.cmp.Ordering.{Ordering}
 use Rattle.std.specs.declared.cmp.Ordering.TheVariants.{Less, Equal, Greater}
-use Rattle.std.proofs.lemmas.Cmp.{nat_list_cmp_total}
+use Rattle.std.proofs.lemmas.Bool.Decides.{nat_tests}
+use Rattle.std.proofs.lemmas.Cmp.{nat_list_cmp_total, same_from_slice_cmp}
 use Rattle.std.proofs.lemmas.Map.Text.{is_eq-slice_cmp}
 use Rattle.std.proofs.lemmas.Slice.Eq.{bytes_eq-Decides}
+use Rattle.index_model.specs.Ordered.{bytes_lt}
 use Rattle.query_engine.specs.Pairs.{ComesBefore}
 
 abbrev pub text_cmp : List ℕ → List ℕ → Ordering
@@ -57,6 +59,23 @@ before_or_same xs ys not_behind = by (text_cmp xs ys) refl
     by Less e = inl e
     by Equal e = inr (equal_is_same xs ys e)
     by Greater e = absurd (not_behind (before_flip xs ys e))
+
+-- ---- the order of bytes as the definitions have it
+
+pub bytes_lt_is : (xs ys : List ℕ) → is_lt (text_cmp xs ys) ≡ bytes_lt xs ys
+unfolding bytes_lt
+bytes_lt_is xs ys = same_from_slice_cmp nat_cmp is_lt bytes_lt refl (λ _ _. refl) (λ _ _. refl) (λ x y xs ys o h. grind (arith, nat_tests)) xs ys _ refl
+
+less_from_lt : (o : Ordering) → is_lt o ≡ true → o ≡ Less
+less_from_lt Less e = refl
+less_from_lt Equal e = absurd (true≢false (sym e))
+less_from_lt Greater e = absurd (true≢false (sym e))
+
+pub before_from_lt : (xs ys : List ℕ) → bytes_lt xs ys ≡ true → ComesBefore xs ys
+before_from_lt xs ys e = less_from_lt (text_cmp xs ys) (bytes_lt_is xs ys ∙ e)
+
+pub lt_from_before : (xs ys : List ℕ) → ComesBefore xs ys → bytes_lt xs ys ≡ true
+lt_from_before xs ys e = sym (bytes_lt_is xs ys) ∙ ap is_lt e
 
 -- ---- filters
 

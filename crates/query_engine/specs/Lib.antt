@@ -7,3 +7,4 @@ pub mod Pairs
 pub mod Seen
 pub mod Sorted
 pub mod Tables
+pub mod Texts

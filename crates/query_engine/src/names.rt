@@ -82,6 +82,17 @@ impl Names {
         }
     }
 
+    /// The text at an index.
+    pub fn text_at<'r>(&self, entries: &'r [Entry<'_>], index: usize) -> &'r [u8]
+        requires index { index < length self.now.groups.items }
+        requires tails { TailsFit entries.now }
+        requires names { AreNamesOf entries.now self.now }
+        ensures { result.now ≡ name_at entries.now self.now index }
+    {
+        let group = self.groups[index];
+        self.text_of(entries, group)
+    }
+
     /// The ascending places of the entries with the text at an index.
     pub fn places_at(&self, entries: &[Entry<'_>], index: usize) -> &[u32]
         requires index { index < length self.now.groups.items }

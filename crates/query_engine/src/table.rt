@@ -1,11 +1,12 @@
 //! The table of entries and its look-ups.
 
-ghost use Rattle.std.specs.Prelude.{◌≡◌, ◌<◌, ◌^◌, length, IfOk, flat_map};
+ghost use Rattle.std.specs.Prelude.{◌≡◌, ◌<◌, ◌^◌, [], length, slice_index_or, IfOk, flat_map};
 ghost use Rattle.index_model.specs.Answers.{places, is_named, is_simply_named};
 ghost use Rattle.query_engine.specs.Asked.{TailsFit, is_asked};
 ghost use Rattle.query_engine.specs.Counts.{name_count, simple_count, without_linkage, text_count};
 ghost use Rattle.query_engine.specs.Halving.{AddsHalvings};
 ghost use Rattle.query_engine.specs.Sorted.{AreNamesOf};
+ghost use Rattle.query_engine.specs.Texts.{table_names};
 
 use crate::names::Names;
 use crate::search::find;
@@ -93,6 +94,29 @@ impl<'f> Table<'f> {
         ensures steps { AddsHalvings (simple_count (without_linkage self.now)) steps.old steps.new }
     {
         places_of(&self.by_simple, &self.entries, name, steps)
+    }
+
+    /// How many distinct names the entries have, those of linkage entries too. Takes no memory.
+    pub fn name_count(&self) -> usize
+        ensures { result ≡ length (table_names self.now) }
+    {
+        self.by_name.len()
+    }
+
+    /// The name at an index among the distinct ones in byte order. Takes no memory.
+    pub fn name_at(&self, index: usize) -> &[u8]
+        requires { index < length (table_names self.now) }
+        ensures { result.now ≡ slice_index_or (table_names self.now) index [] }
+    {
+        self.by_name.text_at(&self.entries, index)
+    }
+
+    /// The ascending places of all entries with the name at an index. Takes no memory.
+    pub fn places_at(&self, index: usize) -> &[u32]
+        requires { index < length (table_names self.now) }
+        ensures { result.now ≡ places (is_named (slice_index_or (table_names self.now) index [])) self.now }
+    {
+        self.by_name.places_at(&self.entries, index)
     }
 
     /// How many distinct names the entries have that aren't linkage entries. Takes no memory.

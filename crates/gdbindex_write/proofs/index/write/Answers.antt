@@ -5,19 +5,17 @@ use Rattle.index_model.specs.Seen.{main_seen}
 use Rattle.index_model.specs.declared.entry.Entry.{Entry}
 use Rattle.index_model.specs.declared.range.UnitRange.{UnitRange}
 use Rattle.gdbindex_write.specs.declared.stop.WriteStop.TheVariants.{TooLarge}
-use Rattle.gdbindex_write.specs.Keys.{Pair, pairs_by}
 use Rattle.gdbindex_write.specs.Prepared.{IsPrepared}
 use Rattle.gdbindex_write.specs.Symbols.{AreSymbolsOf}
 use Rattle.gdbindex_write.proofs.PoolLaws.{all_in_units, numbers_length}
 use Rattle.gdbindex_write.proofs.index.write.Goals as goal
 
-pub of-requires-clause-entries : goal.of-requires-clause-entries
-of-requires-clause-entries c =
+pub of-requires-clause-units : goal.of-requires-clause-units
+of-requires-clause-units c =
     let units = c.args.units.now in
     let numbers = c.in_ok-numbers.numbers.items in
     let all = all_in_units units numbers c.args.table.now (numbers_length units numbers c.in_ok-numbers.ensures.exact) c.requires.entries_are in
-    let named = subst (λ (ns : List ℕ). All (λ (e : Entry). e.unit < length ns) c.args.table.now) (sym c.deref.ensures.value) all in
-    subst (λ (es : List Entry). All (λ (e : Entry). e.unit < length c.deref.result.now) es) (sym c.entries.ensures.all) named
+    subst (λ (ns : List ℕ). All (λ (e : Entry). e.unit < length ns) c.args.table.now) (sym c.deref.ensures.value) all
 
 pub index_bytes-requires-clause-pieces : goal.index_bytes-requires-clause-pieces
 index_bytes-requires-clause-pieces c =
@@ -32,11 +30,10 @@ pub returns : goal.returns
 returns c =
     let main = option_map main_seen c.args.main in
     let version = c.args.version in
-    let same : pairs_by c.deref.result.now c.entries.result.now ≡ pairs_by c.in_ok-numbers.numbers.items c.args.table.now = (λ i. pairs_by (c.deref.ensures.value i) (c.entries.ensures.all i)) in
     let prepared : IsPrepared c.args.units.now c.args.map.now main version c.in_ok-numbers.numbers.items c.in_ok-symbols.symbols c.args.table.now = record {
       writable = c.requires;
       numbers_are = c.in_ok-numbers.ensures.exact;
-      symbols_are = subst (λ (ps : List Pair). AreSymbolsOf ps c.in_ok-symbols.symbols) same c.in_ok-symbols.ensures;
+      symbols_are = subst (λ (ns : List ℕ). AreSymbolsOf ns c.args.table.now c.in_ok-symbols.symbols) c.deref.ensures.value c.in_ok-symbols.ensures;
     } in
     let with_pieces = subst (λ (ps : List UnitRange). IsPrepared c.args.units.now ps main version c.in_ok-numbers.numbers.items c.in_ok-symbols.symbols c.args.table.now) (sym c.pieces.ensures) prepared in
     let passed = subst (λ (ns : List ℕ). IsPrepared c.args.units.now c.pieces.result.now main version ns c.in_ok-symbols.symbols c.args.table.now) (sym c.deref-2.ensures.value) with_pieces in
