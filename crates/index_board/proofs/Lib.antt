@@ -2,6 +2,8 @@ mod Looks
 mod KeptLaws
 mod Openings
 mod Waits
+pub mod MarkLaws
+pub mod KeepLaws
 mod Fills
 mod TurnLaws
 pub mod Crossing

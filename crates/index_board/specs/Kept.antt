@@ -34,6 +34,10 @@ filled p q = record {
   fault = option_or p.fault q.fault;
 }
 
+-- no part is taken away: those that the first has stand in the second
+abbrev pub Keeps : Parts → Parts → Type 0
+Keeps old new = filled old new ≡ new
+
 -- whether a query can be answered by the parts: that which it needs is kept, or the fault
 abbrev pub answers : Parts → Query → Bool
 answers p q = is_some p.fault || is_some (answer_by p q)

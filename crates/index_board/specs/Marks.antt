@@ -1,5 +1,5 @@
 -- Marks of a reader, and what a poll answers at one.
-use Rattle.std.specs.Prelude.{◌≡◌, ◌≤◌, ℕ, [], ◌∷◌, ◌++◌, None, IsSome}
+use Rattle.std.specs.Prelude.{◌≡◌, ◌≤◌, ℕ, List, [], ◌∷◌, ◌++◌, None, IsSome}
 use Rattle.index_model.specs.declared.answer.Look.{Look}
 use Rattle.index_model.specs.Answers.{Reply, reply_at}
 use Rattle.index_model.specs.Cache.{size_in}
@@ -24,6 +24,16 @@ pub record IsMark (r : Reader) (s : ℕ) : Type 0 where
   pub reach : IsReachable r.pass.floor s
   pub range : s ≤ stopped
   pub fits : FitsFile r.board.subject s
+
+-- marks one after the other: each is reachable from the one before it, the first from the floor, is at most 5, and fits the file
+abbrev pub AreMarks : Subject → ℕ → List ℕ → Type 0
+AreMarks s floor [] = Unit {0}
+AreMarks s floor (mark ∷ marks) = IsReachable floor mark × (mark ≤ stopped) × FitsFile s mark × AreMarks s mark marks
+
+-- the floor behind some marks
+abbrev pub floor_after : ℕ → List ℕ → ℕ
+floor_after floor [] = floor
+floor_after floor (mark ∷ marks) = floor_after mark marks
 
 -- what the file replies at a stage
 abbrev pub file_reply : Subject → Query → ℕ → Reply

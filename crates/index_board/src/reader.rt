@@ -50,7 +50,7 @@ impl<'b, 'f> Reader<'b, 'f> {
     ghost use Rattle.index_board.specs.contracts.reader.Reader.{the_row};
     ghost use Rattle.index_board.specs.Kept.{AreOf, HasPublished, filled};
     ghost use Rattle.index_board.specs.LookUps.{ByKept, InTurn, IsAsked, OneMark};
-    ghost use Rattle.index_board.specs.Marks.{IsLook, IsMark, IsPoll, IsPolled, IsReady, marked};
+    ghost use Rattle.index_board.specs.Marks.{AreMarks, IsLook, IsMark, IsPoll, IsPolled, IsReady, marked};
     ghost use Rattle.index_board.specs.Turns.{Turn};
 
     /// A reader with this pass, which keeps no parts.
@@ -175,7 +175,7 @@ impl<'b, 'f> Reader<'b, 'f> {
     pub fn wait<R: Wait>(&mut self, rt: &R, stage: u8) -> u8
         requires { stage ≤ 3 }
         ensures least { stage ≤ result }
-        ensures marks { (gained : List ℕ) × (self.new ≡ record self.old { pass = record self.old.pass { marks = self.old.pass.marks ++ (gained ++ result ∷ []); floor = result } }) }
+        ensures marks { (gained : List ℕ) × AreMarks self.old.board.subject self.old.pass.floor (gained ++ result ∷ []) × (self.new ≡ record self.old { pass = record self.old.pass { marks = self.old.pass.marks ++ (gained ++ result ∷ []); floor = result } }) }
         ensures last { IsMark self.old result }
     {
         for _ in rt.forever() {

@@ -14,7 +14,7 @@ use Rattle.query_text.specs.Sessions.{Answers, AnswersWhole, HasLongLine, IsShor
 use Rattle.query_text.specs.WholeLines.{HasNoNewline, Spells, whole_lines_of}
 use Rattle.query_text.proofs.AnswerLaws.{answers_more, answers_none, stops_front, stops_more}
 use Rattle.query_text.proofs.NewlineLaws.{last_line, last_none, lines_behind, spells_line, spells_more, spells_none, whole_behind, whole_line, whole_none}
-use Rattle.query_text.proofs.ShortLines.{last_short, lines_short}
+use Rattle.query_text.proofs.ShortLines.{last_short, lines_short, whole_short}
 
 -- ---- what is taken
 
@@ -108,22 +108,34 @@ reading_first left r told part is = subst (λ (l : List ℕ). Reading left left 
 })
 
 module _ (s t : Option (List ℕ)) (old r : Reader) (a b : Option (List ℕ)) (part : List ℕ) (room : ℕ) (p : Reading s t old r a b part room) where
-  -- the lines that are whole were answered
-  pub whole_answers : Answers old r a b (whole_lines_of p.taken)
-  whole_answers =
+  -- the lines that are whole
+  whole_are : whole_lines_of p.taken ≡ p.at.lines
+  whole_are =
       let none = ap (λ (ls : List (List ℕ)). p.at.lines ++ ls) (whole_none part p.one_line) ∙ append-nil p.at.lines in
-      subst (λ (ls : List (List ℕ)). Answers old r a b ls) (sym (whole_of old r r a b b p.taken part p.at ∙ none)) p.at.answers
+      whole_of old r r a b b p.taken part p.at ∙ none
+
+  -- they were answered, and none of them is too long
+  pub whole_answers : Answers old r a b (whole_lines_of p.taken)
+  whole_answers = subst (λ (ls : List (List ℕ)). Answers old r a b ls) (sym whole_are) p.at.answers
+
+  pub all_short : All IsShort (whole_lines_of p.taken)
+  all_short = subst (All IsShort) (sym whole_are) p.short
+
+  pub no_more : length p.taken ≤ 2 ^ 32
+  no_more = let e = p.size in omega (arith, e)
 
   -- a read that took nothing
   pub read_stops : (u : Option (List ℕ)) → Takes t u [] → AnswersWhole s u old r a b
   read_stops u q = record {
     taken = p.taken;
     takes = subst (λ (l : List ℕ). Takes s u l) (append-nil p.taken) (takes_more s t u p.taken [] p.takes q);
+    few = no_more;
+    short = all_short;
     answers = whole_answers;
   }
 
   abbrev pub whole_so_far : AnswersWhole s t old r a b
-  whole_so_far = record { taken = p.taken; takes = p.takes; answers = whole_answers }
+  whole_so_far = record { taken = p.taken; takes = p.takes; few = no_more; short = all_short; answers = whole_answers }
 
   pub too_long : longest_line < length part → (w : AnswersWhole s t old r a b) × HasLongLine w.taken
   too_long long = (whole_so_far, record { before = p.at.text; part = part; whole = p.at.whole; one_line = p.one_line; long = long })
@@ -159,11 +171,15 @@ module _ (s t : Option (List ℕ)) (old r : Reader) (a b : Option (List ℕ)) (p
     }
 
     -- the answers to the lines in it stop
-    pub piece_stops : (new : Reader) (c : Option (List ℕ)) (k m n : ℕ) (e : SessionFault) → k ≤ m → Stops r new b c m n (whole_lines_of (part ++ piece)) e → StopsAt s u old new a c k n e
-    piece_stops new c k m n e le h = record {
+    pub piece_stops : (new : Reader) (c : Option (List ℕ)) (k m n : ℕ) (e : SessionFault) → k ≤ m → length piece ≤ room → length part + length piece ≤ longest_line + 1 → Stops r new b c m n (whole_lines_of (part ++ piece)) e → StopsAt s u old new a c k n e
+    piece_stops new c k m n e le fits held h = record {
       taken = p.taken ++ piece;
       ended = false;
       takes = record { takes = takes_more s t u p.taken piece p.takes q; end = λ f. absurd (cc f) };
+      few = let e = p.size in let n = length-append p.taken piece in omega (arith, e, n, fits);
+      short =
+          let n = length-append part piece in
+          subst (All IsShort) (sym (whole_of old r r a b b (p.taken ++ piece) (part ++ piece) at_piece)) (All-append IsShort p.at.lines (whole_lines_of (part ++ piece)) p.short (whole_short (part ++ piece) (omega (arith, n, held))));
       stops = stops_more old r new a b c p.at.lines p.at.answers k m n (whole_lines_of (part ++ piece)) (whole_lines_of (p.taken ++ piece)) e le (whole_of old r r a b b (p.taken ++ piece) (part ++ piece) at_piece) h;
     }
 
@@ -175,20 +191,25 @@ module _ (s t : Option (List ℕ)) (old r : Reader) (a b : Option (List ℕ)) (p
       end = λ _. ends;
     }
 
+    pub lines_are_short : length part ≤ longest_line → All IsShort (lines_of p.taken)
+    lines_are_short le = subst (All IsShort) (sym (lines_left old r r a b b p.taken part p.at)) (All-append IsShort p.at.lines (lines_of part) p.short (last_short part p.one_line le))
+
     pub all_answered : (new : Reader) (c : Option (List ℕ)) → 0 < room → length part ≤ longest_line → Answers r new b c (lines_of part) → (taken : List ℕ) × TakesUntil s u true taken × (length taken < 2 ^ 32) × All IsShort (lines_of taken) × Answers old new a c (lines_of taken)
     all_answered new c more le h = (
       p.taken,
       took_all,
       (let e = p.size in omega (arith, e, more)),
-      subst (All IsShort) (sym (lines_left old r r a b b p.taken part p.at)) (All-append IsShort p.at.lines (lines_of part) p.short (last_short part p.one_line le)),
+      lines_are_short le,
       subst (λ (ls : List (List ℕ)). Answers old new a c ls) (sym (lines_left old r r a b b p.taken part p.at)) (answers_more old r new a b c p.at.lines p.at.answers (lines_of part) h),
     )
 
-    pub last_stops : (new : Reader) (c : Option (List ℕ)) (k m n : ℕ) (e : SessionFault) → k ≤ m → Stops r new b c m n (lines_of part) e → StopsAt s u old new a c k n e
-    last_stops new c k m n e le h = record {
+    pub last_stops : (new : Reader) (c : Option (List ℕ)) (k m n : ℕ) (e : SessionFault) → k ≤ m → length part ≤ longest_line → Stops r new b c m n (lines_of part) e → StopsAt s u old new a c k n e
+    last_stops new c k m n e le held h = record {
       taken = p.taken;
       ended = true;
       takes = took_all;
+      few = no_more;
+      short = lines_are_short held;
       stops = stops_more old r new a b c p.at.lines p.at.answers k m n (lines_of part) (lines_of p.taken) e le (lines_left old r r a b b p.taken part p.at) h;
     }
 

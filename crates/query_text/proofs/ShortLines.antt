@@ -28,7 +28,7 @@ whole_below [] = All-nil (IsBelow 0)
 whole_below (c ∷ cs) = byte_below (eqb c 10) c (length cs) (whole_lines_of cs) (whole_below cs)
 
 -- the whole lines in a buffer, which has room for the longest and its newline
-whole_short : (bytes : List ℕ) → length bytes ≤ longest_line + 1 → All IsShort (whole_lines_of bytes)
+pub whole_short : (bytes : List ℕ) → length bytes ≤ longest_line + 1 → All IsShort (whole_lines_of bytes)
 whole_short bytes fits = All-weaker (IsBelow (length bytes)) IsShort (λ line lt. omega (arith, fits, lt)) (whole_lines_of bytes) (whole_below bytes)
 
 pub lines_short : (bytes text rest : List ℕ) (lines : List (List ℕ)) → length bytes ≤ longest_line + 1 → bytes ≡ text ++ rest → Spells text lines → HasNoNewline rest → All IsShort lines

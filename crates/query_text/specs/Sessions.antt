@@ -1,5 +1,5 @@
 -- What a session does: the lines that it answers, the marks that its reader gains, and what it writes.
-use Rattle.std.specs.Prelude.{◌≡◌, ◌≤◌, ◌<◌, ℕ, ◌+◌, ◌^◌, Bool, true, List, [], ◌∷◌, ◌++◌, length, Option, Some, None, IsSome}
+use Rattle.std.specs.Prelude.{◌≡◌, ◌≤◌, ◌<◌, ℕ, ◌+◌, ◌^◌, Bool, true, List, [], ◌∷◌, ◌++◌, length, All, Option, Some, None, IsSome}
 use Rattle.outside.specs.Counts.{Rose}
 use Rattle.outside.specs.Taken.{Takes, IsAtEnd}
 use Rattle.outside.specs.Written.{Appends, AppendsPrefix}
@@ -94,17 +94,21 @@ pub record HasLongLine (taken : List ℕ) : Type 0 where
   pub one_line : HasNoNewline part
   pub long : longest_line < length part
 
--- what was taken of the input, and that the lines of it that are whole were answered
+-- what was taken of the input, and that the lines of it that are whole were answered, none of which is too long
 pub record AnswersWhole (left_old left_new : Option (List ℕ)) (old new : Reader) (told_old told_new : Option (List ℕ)) : Type 0 where
   pub taken : List ℕ
   pub takes : Takes left_old left_new taken
+  pub few : length taken ≤ 2 ^ 32
+  pub short : All IsShort (whole_lines_of taken)
   pub answers : Answers old new told_old told_new (whole_lines_of taken)
 
--- what was taken of the input, and how the answers to the lines that are known to be whole stop
+-- what was taken of the input, and how the answers to the lines that are known to be whole stop, none of which is too long
 pub record StopsAt (left_old left_new : Option (List ℕ)) (old new : Reader) (told_old told_new : Option (List ℕ)) (faults_old faults_new : ℕ) (fault : SessionFault) : Type 0 where
   pub taken : List ℕ
   pub ended : Bool
   pub takes : TakesUntil left_old left_new ended taken
+  pub few : length taken ≤ 2 ^ 32
+  pub short : All IsShort (known_lines ended taken)
   pub stops : Stops old new told_old told_new faults_old faults_new (known_lines ended taken) fault
 
 -- How a session stops. After a fault of the input, a line too long and an input too long, all lines that are whole were answered.

@@ -9,7 +9,7 @@ pub enum SessionFault {
     WriteFault,
     /// A line has more than 65,536 bytes.
     LineTooLong,
-    /// 4,294,967,296 bytes were taken, and no end was seen.
+    /// 4,294,967,296 bytes were taken. A session takes no more.
     InputTooLong,
     /// A look-up was refused memory.
     NoMemory,

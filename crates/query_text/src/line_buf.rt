@@ -15,8 +15,8 @@ use std::marker::Model;
 /// How many bytes wait at most: a line of the greatest length, and its newline.
 const ROOM: usize = 65537;
 
-/// Room for the longest line and its newline. Contracts see the beginning of a line whose newline isn't found yet, and the bytes
-/// behind it.
+/// Room for the longest line and its newline. Contracts see how many bytes there is room for, the beginning of a line
+/// whose newline isn't found yet, and the bytes behind it.
 #[derive(Drop)]
 pub struct LineBuf {
     bytes: Vec<u8>,
@@ -32,6 +32,7 @@ impl Model for LineBuf {
     ghost Value = { Buffer };
 
     ghost view = { λ b. record {
+      room = length b.bytes.items;
       part = take (b.searched - b.start) (drop b.start b.bytes.items);
       fresh = take (b.filled - b.searched) (drop b.searched b.bytes.items);
     } };
@@ -41,8 +42,13 @@ impl Model for LineBuf {
 
 impl LineBuf {
     /// An empty buffer of 65,537 bytes.
+    ///
+    /// # Errors
+    ///
+    /// `NoMemory` where memory was refused.
     pub fn new(alloc: Global) -> Result<LineBuf, NoMemory>
-        ensures { IfOk result (λ buffer. buffer ≡ empty_buffer) }
+        ensures empty { IfOk result (λ buffer. buffer ≡ empty_buffer) }
+        ensures room { IfOk result (λ buffer. buffer.room ≡ longest_line + 1) }
     {
         Ok(LineBuf {
             bytes: vec![in alloc; 0; ROOM]?,

@@ -45,7 +45,7 @@ returns-in-Ok-eq0-clause-err g c =
     (λ (fault : SessionFault). Stops c.loop-left.reader c.answer_last.new.reader (g.K.Sink.written c.loop-left.out) (g.K.Sink.written c.answer_last.new.out) (g.K.Sink.write_faults c.loop-left.out) (g.K.Sink.write_faults c.answer_last.new.out) (lines_of c.part.result.now) fault)
     (λ (fault : SessionFault). SessionStops (g.S.Source.left c.args.input.now) (g.S.Source.left c.fill.new.input) (g.S.Source.read_faults c.args.input.now) (g.S.Source.read_faults c.fill.new.input) c.args.reader.now c.answer_last.new.reader (g.K.Sink.written c.args.out.now) (g.K.Sink.written c.answer_last.new.out) (g.K.Sink.write_faults c.args.out.now) (g.K.Sink.write_faults c.answer_last.new.out) fault)
     (λ fault h. session_stops (g.S.Source.left c.args.input.now) (g.S.Source.left c.fill.new.input) (g.S.Source.read_faults c.args.input.now) (g.S.Source.read_faults c.fill.new.input) c.args.reader.now c.answer_last.new.reader (g.K.Sink.written c.args.out.now) (g.K.Sink.written c.answer_last.new.out) (g.K.Sink.write_faults c.args.out.now) (g.K.Sink.write_faults c.answer_last.new.out) fault
-    (last_stops (g.S.Source.left c.args.input.now) (g.S.Source.left c.loop-left.input) c.args.reader.now c.loop-left.reader (g.K.Sink.written c.args.out.now) (g.K.Sink.written c.loop-left.out) c.loop-left.line.part c.loop-left.left c.loop-left.invariant.reading (g.S.Source.left c.fill.new.input) took ends c.answer_last.new.reader (g.K.Sink.written c.answer_last.new.out) (g.K.Sink.write_faults c.args.out.now) (g.K.Sink.write_faults c.loop-left.out) (g.K.Sink.write_faults c.answer_last.new.out) fault c.loop-left.invariant.writes
+    (last_stops (g.S.Source.left c.args.input.now) (g.S.Source.left c.loop-left.input) c.args.reader.now c.loop-left.reader (g.K.Sink.written c.args.out.now) (g.K.Sink.written c.loop-left.out) c.loop-left.line.part c.loop-left.left c.loop-left.invariant.reading (g.S.Source.left c.fill.new.input) took ends c.answer_last.new.reader (g.K.Sink.written c.answer_last.new.out) (g.K.Sink.write_faults c.args.out.now) (g.K.Sink.write_faults c.loop-left.out) (g.K.Sink.write_faults c.answer_last.new.out) fault c.loop-left.invariant.writes c.loop-left.invariant.short
     (subst (λ (l : List ℕ). Stops c.loop-left.reader c.answer_last.new.reader (g.K.Sink.written c.loop-left.out) (g.K.Sink.written c.answer_last.new.out) (g.K.Sink.write_faults c.loop-left.out) (g.K.Sink.write_faults c.answer_last.new.out) (lines_of l) fault) part h))) c.answer_last.ensures.err
 
 pub returns-in-Err-clause-err : goal.returns-in-Err-clause-err
@@ -57,12 +57,14 @@ returns-in-Err-clause-err g c = (
 pub returns-in_err-answer_whole-clause-err : goal.returns-in_err-answer_whole-clause-err
 returns-in_err-answer_whole-clause-err g c =
     let fault = c.in_err-answer_whole.field-0.0 in
+    let fits : length c.fill.new.self.fresh ≤ c.loop-left.left = omega (arith, c.in-Ok.ensures.fresh, c.in-Ok.ensures.most) in
+    let held : length c.loop-left.line.part + length c.fill.new.self.fresh ≤ longest_line + 1 = subst (λ (l : List ℕ). length l + length c.fill.new.self.fresh ≤ longest_line + 1) c.fill.ensures.part c.fill.ensures.fits in
     let p = err_from_is_err_and c.from_residual.result c.from_residual.ensures.1 in
     if_err c.from_residual.result
     (λ (fault : SessionFault). SessionStops (g.S.Source.left c.args.input.now) (g.S.Source.left c.fill.new.input) (g.S.Source.read_faults c.args.input.now) (g.S.Source.read_faults c.fill.new.input) c.args.reader.now c.answer_whole.new.reader (g.K.Sink.written c.args.out.now) (g.K.Sink.written c.answer_whole.new.out) (g.K.Sink.write_faults c.args.out.now) (g.K.Sink.write_faults c.answer_whole.new.out) fault)
     c.in_err-answer_whole.field-0.0 (p.1 ∙ ap Err p.2)
     (session_stops (g.S.Source.left c.args.input.now) (g.S.Source.left c.fill.new.input) (g.S.Source.read_faults c.args.input.now) (g.S.Source.read_faults c.fill.new.input) c.args.reader.now c.answer_whole.new.reader (g.K.Sink.written c.args.out.now) (g.K.Sink.written c.answer_whole.new.out) (g.K.Sink.write_faults c.args.out.now) (g.K.Sink.write_faults c.answer_whole.new.out) fault
-    (piece_stops (g.S.Source.left c.args.input.now) (g.S.Source.left c.loop-left.input) c.args.reader.now c.loop-left.reader (g.K.Sink.written c.args.out.now) (g.K.Sink.written c.loop-left.out) c.loop-left.line.part c.loop-left.left c.loop-left.invariant.reading (g.S.Source.left c.fill.new.input) c.fill.new.self.fresh c.in-Ok.ensures.taken c.answer_whole.new.reader (g.K.Sink.written c.answer_whole.new.out) (g.K.Sink.write_faults c.args.out.now) (g.K.Sink.write_faults c.loop-left.out) (g.K.Sink.write_faults c.answer_whole.new.out) fault c.loop-left.invariant.writes
+    (piece_stops (g.S.Source.left c.args.input.now) (g.S.Source.left c.loop-left.input) c.args.reader.now c.loop-left.reader (g.K.Sink.written c.args.out.now) (g.K.Sink.written c.loop-left.out) c.loop-left.line.part c.loop-left.left c.loop-left.invariant.reading (g.S.Source.left c.fill.new.input) c.fill.new.self.fresh c.in-Ok.ensures.taken c.answer_whole.new.reader (g.K.Sink.written c.answer_whole.new.out) (g.K.Sink.write_faults c.args.out.now) (g.K.Sink.write_faults c.loop-left.out) (g.K.Sink.write_faults c.answer_whole.new.out) fault c.loop-left.invariant.writes fits held
     (subst (λ (l : List ℕ). Stops c.loop-left.reader c.answer_whole.new.reader (g.K.Sink.written c.loop-left.out) (g.K.Sink.written c.answer_whole.new.out) (g.K.Sink.write_faults c.loop-left.out) (g.K.Sink.write_faults c.answer_whole.new.out) (whole_lines_of (l ++ c.fill.new.self.fresh)) fault) c.fill.ensures.part c.in_err-answer_whole.ensures.err)))
 
 pub returns-then-part-gt-LONGEST-clause-err : goal.returns-then-part-gt-LONGEST-clause-err
