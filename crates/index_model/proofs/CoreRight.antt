@@ -7,11 +7,15 @@ use Rattle.ix_base.specs.declared.fault.Fault.{Fault}
 use Rattle.index_model.specs.declared.answer.Main.{Main as MainOf}
 use Rattle.index_model.specs.declared.entry.Entry.{Entry}
 use Rattle.index_model.specs.declared.job.Job.TheVariants.{Main, Merge, Write}
-use Rattle.index_model.specs.Meaning.{wrong_in}
+use Rattle.index_model.specs.declared.unit.Unit.{Unit as UnitHeader}
+use Rattle.index_model.specs.Meaning.{◌>>=◌, wrong_in}
+use Rattle.index_model.specs.Program.{Program}
+use Rattle.index_model.specs.Sections.{Section, sections_of}
+use Rattle.index_model.specs.Units.{units_of}
 use Rattle.index_model.specs.Ranges.{unit_at}
 use Rattle.index_model.specs.MainProgram.{main_of}
 use Rattle.index_model.specs.Pieces.{IsPieces}
-use Rattle.index_model.specs.Faults.{Built, built_of, first_fault}
+use Rattle.index_model.specs.Faults.{Built, built_of, first_fault, program_of}
 use Rattle.index_model.specs.Queries.{Query, AskName, AskSimple, AskAddress, AskMain, AskCache, need_of}
 use Rattle.index_model.specs.Answers.{Answer, Entries, InUnit, MainIs, CacheIs, Reply, Answered, Refused, places, is_named, is_simply_named, entries_in, answer_to, reply_of, reply_at}
 use Rattle.index_model.specs.Cache.{Cache, cache_in, size_of, size_in}
@@ -20,7 +24,7 @@ use Rattle.index_model.specs.MachineEvents.{Event, Draw, Finish, Look, after_eve
 use Rattle.index_model.proofs.MachineParts.{Holds, fault_from}
 use Rattle.index_model.specs.Outputs.{Subject, Summary, Made, ShardOf, LinkedOf, SummaryOf, RunOf, TableOf, CacheOf, IsSummary, Makes, AllMeet}
 use Rattle.index_model.specs.Parts.{Parts, summary_in, table_in, index_in, parts, answer_by, reply_by}
-use Rattle.index_model.specs.LawsCore.{PartsAreRight, plan_of, StateIsRight, HasRuns, BeginsAt, with_jobs, with_fault, IsState, CoreIsRight, StatesGoOn, StagesFollow, LevelsFollow}
+use Rattle.index_model.specs.LawsCore.{PartsAreRight, early_fault, plan_of, StateIsRight, HasRuns, BeginsAt, with_jobs, with_fault, IsState, CoreIsRight, StatesGoOn, StagesFollow, LevelsFollow}
 use Rattle.index_model.specs.Stages.{IsReachable, same as same_stage, level as level_behind}
 use Rattle.index_model.proofs.MachineHolds.{Kept, kept, kept_start, holds, from_closed}
 use Rattle.index_model.proofs.StageLaws.{order}
@@ -205,6 +209,19 @@ module _ (s : Subject) (closed : List (List Made)) (drawn : ℕ) (brought : List
 
 -- ---- a machine that begins refused
 
+bind_wrong : {A B : Type 0} (r : Result A Fault) (g : A → Result B Fault) (f : Fault) → wrong_in r ≡ Some f → wrong_in (r >>= g) ≡ Some f
+bind_wrong (Ok x) g f h = absurd cc
+bind_wrong (Err e) g f h = h
+
+of_headers : (g : List Section → List UnitHeader → Result Program Fault) (f : Fault) (r : Result (List Section) Fault) → wrong_in (r >>= units_of) ≡ Some f → wrong_in (r >>= λ ss. units_of ss >>= g ss) ≡ Some f
+of_headers g f (Ok own) h = bind_wrong (units_of own) (g own) f h
+of_headers g f (Err e) h = h
+
+-- a fault of the sections or headers is the first of the file
+pub early_is_first : (file : List ℕ) (f : Fault) → early_fault file ≡ Some f → first_fault file ≡ Some f
+unfolding built_of program_of
+early_is_first file f early = bind_wrong (program_of file) _ f (of_headers _ f (sections_of file) early)
+
 pub idle : (f : Fault) (place : JobPlace) → is_running {Made = Made} (refused_start f) place ≡ false
 idle f place = grind (arith, nat_tests)
 
@@ -248,7 +265,7 @@ state_is s start t es (with_jobs h) meet run = jobs (record {
   h = h;
   kept_there = subst (Kept (FaultAt s) (MakesAt s) (plan_of s)) run (kept (FaultAt s) (MakesAt s) (plan_of s) (machine_start (plan_of s)) es (kept_start (FaultAt s) (MakesAt s) (plan_of s)) (all_meet_at s es meet));
 })
-state_is s start t es (with_fault f first) meet run = fault f first (sym (refused_stays s f es) ∙ run)
+state_is s start t es (with_fault f early none) meet run = fault f (early_is_first s.file f early) (sym (refused_stays s f es) ∙ run)
 
 either_of : (s : Subject) (t : State Made) → IsState s t → Either s t
 either_of s t is = state_is s is.start t is.events is.begins is.meet is.run

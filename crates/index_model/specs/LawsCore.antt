@@ -1,9 +1,10 @@
 -- The core is right, over every cut and every list of events.
-use Rattle.std.specs.Prelude.{◌≡◌, ◌<◌, ◌≤◌, ℕ, List, [], ◌∷◌, length, Some, None, Ok, IsSomeAnd}
+use Rattle.std.specs.Prelude.{◌≡◌, ◌<◌, ◌≤◌, ℕ, List, [], ◌∷◌, length, Option, Some, None, Ok, IsSomeAnd}
 use Rattle.std.specs.List.{enumerate_from}
 use Rattle.ix_base.specs.declared.fault.Fault.{Fault}
 use Rattle.index_model.specs.declared.job.Job.TheVariants.{Main, Merge, Write}
 use Rattle.index_model.specs.declared.unit.Unit.{Unit as UnitHeader}
+use Rattle.index_model.specs.Meaning.{◌>>=◌, wrong_in}
 use Rattle.index_model.specs.Sections.{Section, sections_of}
 use Rattle.index_model.specs.Units.{units_of}
 use Rattle.index_model.specs.Faults.{built_of, first_fault, IsAccepted}
@@ -52,10 +53,14 @@ pub record HasRuns (s : Subject) : Type 0 where
   pub units_are : units_of sections ≡ Ok units
   pub all : MakeUp s.runs (enumerate_from 0 units)
 
--- where the machine of a subject begins: with its first jobs open, or refused with the first fault of the file
+-- the first fault of the sections or, where they have none, of the units' headers
+abbrev pub early_fault : List ℕ → Option Fault
+early_fault file = wrong_in (sections_of file >>= units_of)
+
+-- where the machine of a subject begins: with its first jobs open, or, without runs, refused with a fault of the sections or headers
 pub data BeginsAt (s : Subject) : State Made → Type 0 where
   with_jobs : HasRuns s → BeginsAt s (machine_start (plan_of s))
-  with_fault : (f : Fault) → first_fault s.file ≡ Some f → BeginsAt s (refused_start f)
+  with_fault : (f : Fault) → early_fault s.file ≡ Some f → s.runs ≡ [] → BeginsAt s (refused_start f)
 
 -- a state of the subject's machine: some events of any actors, in which each output is one for its job, lead to it
 pub record IsState (s : Subject) (t : State Made) : Type 0 where

@@ -31,7 +31,7 @@ reached s start t es j (with_jobs h) meet run next = record {
   runs = h;
   there = subst (Kept (FaultAt s) (MakesAt s) (plan_of s)) run (kept (FaultAt s) (MakesAt s) (plan_of s) (machine_start (plan_of s)) es (kept_start (FaultAt s) (MakesAt s) (plan_of s)) (all_meet_at s es meet));
 }
-reached s start t es j (with_fault f first) meet run next =
+reached s start t es j (with_fault f early empty) meet run next =
     let none : None ≡ Some j = ap (next_job (plan_of s)) (sym (refused_stays s f es) ∙ run) ∙ next in
     absurd (cc none)
 

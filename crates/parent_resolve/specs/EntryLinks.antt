@@ -1,5 +1,5 @@
 -- The link of an entry whose references were followed.
-use Rattle.std.specs.Prelude.{◌≡◌, ℕ, true, false, not, ◌||◌, List, Option, Some, None, Result, Ok}
+use Rattle.std.specs.Prelude.{◌≡◌, ℕ, true, false, not, ◌||◌, List, Option, Some, None, Result, Ok, Err, IsOkAnd}
 use Rattle.ix_base.specs.declared.code.TheConstants.{NAME_TOO_LONG}
 use Rattle.index_model.specs.declared.rules.Class.{Class}
 use Rattle.index_model.specs.declared.shard.LinkedEntry.{LinkedEntry}
@@ -28,6 +28,11 @@ link_tested p d n path = do
 -- whatever entry has the node and the class, and was followed with this result: what holds of it with its chain and its name
 abbrev pub ForFollowed : Node → Class → Followed → (Program → Located → Named → Type 0) → Type 0
 ForFollowed node class followed Holds = (p : Program) (d : Located) (n : Named) → IsNodeOf p.sections node d → class ≡ class_of_unit p d.home → IsFollowed p d followed n → Holds p d n
+
+-- The answer stands for the meaning: the relation holds of both values at Ok, and Err is what is first wrong. There is no want of memory.
+abbrev pub StandsAlways : {X Y E : Type 0} → (X → Y → Type 0) → Result X E → Result Y E → Type 0
+StandsAlways StandsFor (Ok x) meaning = IsOkAnd meaning (StandsFor x)
+StandsAlways StandsFor (Err e) meaning = meaning ≡ Err e
 
 -- the link is that of an indexed entry, of which this is said, or its entry isn't indexed
 abbrev pub IsEntryOf : Program → Option LinkedEntry → Link → Type 0

@@ -7,7 +7,7 @@ ghost use Rattle.index_model.specs.Languages.{class_of_unit};
 ghost use Rattle.index_model.specs.Meaning.{at_place};
 ghost use Rattle.index_model.specs.Names.{Member, qualified_name};
 ghost use Rattle.parent_resolve.specs.Followed.{ForEntry};
-ghost use Rattle.parent_resolve.specs.EntryLinks.{link_tested, link_with, ForFollowed, IsEntryOf};
+ghost use Rattle.parent_resolve.specs.EntryLinks.{link_tested, link_with, ForFollowed, IsEntryOf, StandsAlways};
 ghost use Rattle.parent_resolve.specs.Scopes.{greatest, IsScope};
 
 use crate::followed::Followed;
@@ -33,17 +33,19 @@ pub(crate) fn link_entry<'f>(
 {
     let followed = paths.follow(alloc, node, node.offset)?;
     let scope = paths.around(alloc, &followed.end, node.offset)?;
-    entry_of(node, class, &followed, scope)
+    let entry = entry_of(node, class, &followed, scope)?;
+    Ok(entry)
 }
 
-// What is said of an entry whose references were followed. The length of its qualified name counts if it is indexed.
+// What is said of an entry whose references were followed. The length of its qualified name counts if it is indexed. Takes no
+// memory.
 fn entry_of<'f>(
     node: &Node<'f>,
     class: Class,
     followed: &Followed<'f>,
     scope: Scope,
-) -> Result<Option<LinkedEntry<'f>>, Stop>
-    ensures { ForFollowed node.now class followed.now (λ p d n. (path : List Member) → IsScope scope path → GivesFor (IsEntryOf p) result (at_place d.item.at (link_tested p d n path))) }
+) -> Result<Option<LinkedEntry<'f>>, Fault>
+    ensures { ForFollowed node.now class followed.now (λ p d n. (path : List Member) → IsScope scope path → StandsAlways (IsEntryOf p) result (at_place d.item.at (link_tested p d n path))) }
 {
     let Some(name) = name_with(node, followed.spelled) else {
         return Ok(None);
@@ -53,10 +55,10 @@ fn entry_of<'f>(
     }
     let length = qualified_length(class, scope, name);
     if length as u64 > MAX_QUALIFIED_NAME {
-        return Err(Stop::Fault(Fault {
+        return Err(Fault {
             code: NAME_TOO_LONG,
             at: node.offset,
-        }));
+        });
     }
     Ok(Some(LinkedEntry {
         offset: node.offset,

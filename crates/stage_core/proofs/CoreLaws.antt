@@ -6,7 +6,7 @@ use Rattle.index_model.specs.declared.job.CacheKind.{CacheKind}
 use Rattle.index_model.specs.declared.job.Job.{Job}
 use Rattle.index_model.specs.declared.unit.Unit.{Unit as UnitHeader}
 use Rattle.index_model.specs.Faults.{first_fault}
-use Rattle.index_model.specs.LawsCore.{plan_of, StateIsRight, IsState, HasRuns, BeginsAt, with_jobs, with_fault}
+use Rattle.index_model.specs.LawsCore.{early_fault, plan_of, StateIsRight, IsState, HasRuns, BeginsAt, with_jobs, with_fault}
 use Rattle.index_model.specs.Machine.{Row, IsCut, Output, State, plan_for, place_of_job, machine_start, refused_start}
 use Rattle.index_model.specs.MachineEvents.{Draw, Finish, after_draw, after_finish, after_events}
 use Rattle.index_model.specs.Outputs.{Subject, Made, IsOutputOf}
@@ -91,8 +91,10 @@ refused_seen b fault none is =
     (ap (λ (n : ℕ). record { file = b.file.now; runs = cut n (enumerate_from 0 (units_in b.file.now)); cache = b.cache }) none ∙
     ap (λ rs. record { file = b.file.now; runs = rs; cache = b.cache }) (no_runs (enumerate_from 0 (units_in b.file.now)))) is
 
-pub refused_is_sound : (b : Build) (fault : Fault) → first_fault b.file.now ≡ Some fault → b.progress ≡ refused_start fault → IsState (subject_of b) b.progress
-refused_is_sound b fault first is = subst (λ (t : State Made). IsState (subject_of b) t) (sym is) (begun (subject_of b) (refused_start fault) (with_fault fault first))
+pub refused_is_sound : (b : Build) (fault : Fault) → early_fault b.file.now ≡ Some fault → b.runs ≡ 0 → b.progress ≡ refused_start fault → IsState (subject_of b) b.progress
+refused_is_sound b fault early none is =
+    let empty : (subject_of b).runs ≡ [] = ap (λ (n : ℕ). cut n (enumerate_from 0 (units_in b.file.now))) none ∙ no_runs (enumerate_from 0 (units_in b.file.now)) in
+    subst (λ (t : State Made). IsState (subject_of b) t) (sym is) (begun (subject_of b) (refused_start fault) (with_fault fault early empty))
 
 -- ---- what follows
 

@@ -2,8 +2,7 @@
 
 ghost use Rattle.std.specs.Prelude.{◌≡◌, ◌<◌, ◌≤◌, [], Some, IfOk, option_map};
 ghost use Rattle.std.specs.List.{enumerate_from};
-ghost use Rattle.index_model.specs.Faults.{first_fault};
-ghost use Rattle.index_model.specs.LawsCore.{StateIsRight, plan_of};
+ghost use Rattle.index_model.specs.LawsCore.{StateIsRight, early_fault, plan_of};
 ghost use Rattle.index_model.specs.Machine.{IsCut, machine_start, refused_start, place_of_job, level, stage};
 ghost use Rattle.index_model.specs.MachineEvents.{after_draw, after_finish, next_job};
 ghost use Rattle.index_model.specs.Outputs.{IsOutputOf};
@@ -67,9 +66,10 @@ impl<'f> Core<'f> {
         Ok(Core { build })
     }
 
-    /// A core for a file with a fault of its sections or headers, at stage 4. It has no runs.
+    /// A core for a file whose sections or headers have this as their first fault, at stage 4. It has no runs. The kind of
+    /// index, of which none is made then, is the one that was asked for.
     pub fn refused(alloc: Global, file: &'f [u8], fault: Fault, cache: CacheKind) -> Core<'f>
-        requires { first_fault file.now ≡ Some fault }
+        requires { early_fault file.now ≡ Some fault }
         ensures { result ≡ record { subject = record { file = file.now; runs = []; cache = cache }; state = refused_start fault } }
     {
         Core {

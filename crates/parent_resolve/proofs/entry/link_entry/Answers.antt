@@ -1,8 +1,8 @@
-use Rattle.std.proofs.Common.{Result, ℕ, sym, ap, subst, ◌∙◌}
+use Rattle.std.proofs.Common.{IsOkAnd, Result, ℕ, sym, ap, subst, ◌∙◌}
 use Rattle.std.proofs.lemmas.Result.{err_from_is_err_and}
 use Rattle.index_model.specs.Chains.{chain_end}
 use Rattle.index_model.specs.Faults.{program_of}
-use Rattle.index_model.specs.Gives.{GivesFor, StopsAs}
+use Rattle.index_model.specs.Gives.{StopsAs}
 use Rattle.index_model.specs.Links.{Link, link_of}
 use Rattle.index_model.specs.Meaning.{at_place}
 use Rattle.index_model.specs.Names.{scope_path}
@@ -32,9 +32,17 @@ returns-in_err-scope-clause-value c p file d dc node class =
     let q = err_from_is_err_and c.from_residual-in_err-scope.result c.from_residual-in_err-scope.ensures.1 in
     rw (q.1, q.2) (stops_as stop d.item.at path (link_of p d) here (path_wrong p d n.0 n.1))
 
+pub returns-in_err-entry-clause-value : goal.returns-in_err-entry-clause-value
+returns-in_err-entry-clause-value c p file d dc node class =
+    let n = ok_and (IsFollowed p d c.in_ok-followed.followed) c.args.node.now.offset (followed_of p d) (c.in_ok-followed.ensures.value p file d dc node) in
+    let later = ap (λ (e : EntriesOf). program_of e.image.file) c.in_ok-followed.ensures.kept ∙ file in
+    let path = ok_and (IsScope c.in_ok-scope.scope) c.args.node.now.offset (scope_path p (chain_end d n.0.chain)) (c.in_ok-scope.ensures.value p later (chain_end d n.0.chain) n.2.there n.2.end) in
+    let q = err_from_is_err_and c.from_residual-in_err-entry.result c.from_residual-in_err-entry.ensures.1 in
+    rw (q.1, q.2) (ap (λ (r : Result Link ℕ). at_place d.item.at r) (link_is p d n.0 n.1 path.0 path.1) ∙ c.in_err-entry.ensures p d n.0 node class n.2 path.0 path.2)
+
 pub returns-clause-value : goal.returns-clause-value
 returns-clause-value c p file d dc node class =
     let n = ok_and (IsFollowed p d c.in_ok-followed.followed) c.args.node.now.offset (followed_of p d) (c.in_ok-followed.ensures.value p file d dc node) in
     let later = ap (λ (e : EntriesOf). program_of e.image.file) c.in_ok-followed.ensures.kept ∙ file in
     let path = ok_and (IsScope c.in_ok-scope.scope) c.args.node.now.offset (scope_path p (chain_end d n.0.chain)) (c.in_ok-scope.ensures.value p later (chain_end d n.0.chain) n.2.there n.2.end) in
-    subst (λ (r : Result Link ℕ). GivesFor (IsEntryOf p) c.entry_of.result (at_place d.item.at r)) (sym (link_is p d n.0 n.1 path.0 path.1)) (c.entry_of.ensures p d n.0 node class n.2 path.0 path.2)
+    subst (λ (r : Result Link ℕ). IsOkAnd (at_place d.item.at r) (IsEntryOf p c.in_ok-entry.entry)) (sym (link_is p d n.0 n.1 path.0 path.1)) (c.in_ok-entry.ensures p d n.0 node class n.2 path.0 path.2)

@@ -1,5 +1,5 @@
 use Rattle.std.proofs.Common.{◌≡◌, Some, ap, ◌∙◌}
-use Rattle.index_model.specs.Faults.{first_fault}
+use Rattle.index_model.specs.LawsCore.{early_fault}
 use Rattle.stage_core.specs.declared.build.Build.{Build}
 use Rattle.stage_core.proofs.CoreLaws.{refused_machine, refused_seen, refused_is_sound}
 use Rattle.stage_core.proofs.machine.Core.refused.Goals as goal
@@ -7,8 +7,8 @@ use Rattle.stage_core.proofs.machine.Core.refused.Goals as goal
 pub invariant_of-result : goal.invariant_of-result
 invariant_of-result c =
     let b : Build = c.refused.result in
-    let first : first_fault b.file.now ≡ Some c.args.fault = rw c.refused.ensures.file c.requires in
-    record { fits = c.refused.ensures.fits; reached = refused_is_sound b c.args.fault first c.refused.ensures.state }
+    let early : early_fault b.file.now ≡ Some c.args.fault = rw c.refused.ensures.file c.requires in
+    record { fits = c.refused.ensures.fits; reached = refused_is_sound b c.args.fault early c.refused.ensures.runs c.refused.ensures.state }
 
 pub returns : goal.returns
 returns c =
