@@ -38,33 +38,33 @@ module _ (file : List ℕ) (wait : ℕ) (s u : Option (List ℕ)) (i j : ℕ) (o
   h = record { left_old = s; left_new = u; faults_old = i; faults_new = j }
 
   -- all of the input was answered
-  all_served : (taken : List ℕ) → TakesUntil s u true taken → Answers old new a c (lines_of taken) → (most : ℕ) → HasMost most new.pass.floor → Writes a c (Serves file wait most h)
-  all_served taken takes answers most has =
+  all_served : (taken : List ℕ) → TakesUntil s u true taken → length taken < 2 ^ 32 → All IsShort (lines_of taken) → Answers old new a c (lines_of taken) → (most : ℕ) → HasMost most new.pass.floor → Writes a c (Serves file wait most h)
+  all_served taken takes few short answers most has =
       let said = said_whole file old new over wait reached low a c most has (lines_of taken) answers in
-      (said.0, record { taken = taken; takes = takes.takes; end = takes.end refl; says = said.1 }, said.2)
+      (said.0, record { taken = taken; takes = takes.takes; end = takes.end refl; few = few; short = short; says = said.1 }, said.2)
 
   stop_served : (fault : SessionFault) → SessionStops s u i j old new a c k n fault → Wrote (SaysServe file wait h) (status_of fault) a c
   stop_served faults.ReadFault (rose, w) =
       let said = said_whole file old new over wait reached low a c stopped (any refl) (whole_lines_of w.taken) w.answers in
-      (said.0, (rose, record { taken = w.taken; takes = w.takes; says = said.1 }), said.2)
+      (said.0, (rose, record { taken = w.taken; takes = w.takes; few = w.few; short = w.short; says = said.1 }), said.2)
   stop_served faults.LineTooLong (w, long) =
       let said = said_whole file old new over wait reached low a c stopped (any refl) (whole_lines_of w.taken) w.answers in
-      (said.0, record { whole = record { taken = w.taken; takes = w.takes; says = said.1 }; long = inl long }, said.2)
+      (said.0, record { whole = record { taken = w.taken; takes = w.takes; few = w.few; short = w.short; says = said.1 }; long = inl long }, said.2)
   stop_served faults.InputTooLong (w, much) =
       let said = said_whole file old new over wait reached low a c stopped (any refl) (whole_lines_of w.taken) w.answers in
-      (said.0, record { whole = record { taken = w.taken; takes = w.takes; says = said.1 }; long = inr much }, said.2)
+      (said.0, record { whole = record { taken = w.taken; takes = w.takes; few = w.few; short = w.short; says = said.1 }; long = inr much }, said.2)
   stop_served faults.WriteFault stop =
       let within = stop.stops.1 in
       let said = said_in_part file old new over wait reached low a c stopped (any refl) within.lines within.answers in
-      (Stopped, said.0, record { taken = stop.taken; ended = stop.ended; takes = stop.takes; lines = within.lines; rest = within.rest; front = within.front; says = said.1 }, said.2)
+      (Stopped, said.0, record { taken = stop.taken; ended = stop.ended; takes = stop.takes; few = stop.few; short = stop.short; lines = within.lines; rest = within.rest; front = within.front; says = said.1 }, said.2)
   stop_served faults.NoMemory stop =
       let before = stop.stops in
       let said = said_before file old new over wait reached low a c before.lines before.line before.answers in
-      (said.0, record { taken = stop.taken; ended = stop.ended; takes = stop.takes; lines = before.lines; rest = before.line ∷ before.rest; front = before.front; says = said.1 }, appends-prefix a c said.0 said.2)
+      (said.0, record { taken = stop.taken; ended = stop.ended; takes = stop.takes; few = stop.few; short = stop.short; lines = before.lines; rest = before.line ∷ before.rest; front = before.front; says = said.1 }, appends-prefix a c said.0 said.2)
 
   -- what the session says
   pub heard_lines : {X : Type 0} (r : Result X SessionFault) → OnOk r ((taken : List ℕ) × TakesUntil s u true taken × (length taken < 2 ^ 32) × All IsShort (lines_of taken) × Answers old new a c (lines_of taken)) → IfErr r (λ fault. SessionStops s u i j old new a c k n fault) → Listened file wait h a c new.pass.floor r
-  heard_lines (Ok x) all stops = all_served all.0 all.1 all.4
+  heard_lines (Ok x) all stops = all_served all.0 all.1 all.2 all.3 all.4
   heard_lines (Err fault) all stops = stop_served fault stops
 
 -- the cause of its status, and its board
@@ -108,6 +108,8 @@ module _ (file : List ℕ) (wait : ℕ) (h : Heard) (a c : Option (List ℕ)) wh
     taken = served.taken;
     ended = true;
     takes = record { takes = served.takes; end = λ _. served.end };
+    few = let lt = served.few in omega (arith, lt);
+    short = served.short;
     lines = lines_of served.taken;
     rest = [];
     front = append-nil (lines_of served.taken);
@@ -149,6 +151,8 @@ nothing_served file wait left i j a = (
     taken = [];
     ended = false;
     takes = record { takes = takes_none left; end = λ f. absurd (cc f) };
+    few = omega arith;
+    short = All-nil IsShort;
     lines = [];
     rest = [];
     front = refl;

@@ -13,14 +13,15 @@ use Rattle.index_model.specs.Transcripts.{lines_of, texts_at, transcript_of}
 use Rattle.index_model.proofs.StageLaws.{closure}
 use Rattle.stage_core.specs.Machines.{FitsFile}
 use Rattle.stage_lock.specs.Seen.{Lock}
+use Rattle.index_board.specs.Marks.{AreMarks, floor_after}
+use Rattle.index_board.proofs.MarkLaws.{marks_lead}
 use Rattle.index_pool.specs.Ends.{stage_at_end, IsLast}
 use Rattle.index_pool.proofs.EndLaws.{high as at_end}
 use Rattle.index_pool.specs.declared.ended.Ended.{Ended}
 use Rattle.index_pool.specs.declared.ended.Ended.TheVariants as ends
 use Rattle.query_text.specs.declared.fault.SessionFault.{SessionFault}
 use Rattle.query_text.specs.declared.fault.SessionFault.TheVariants as faults
-use Rattle.query_text.specs.Gains.{AreMarks, floor_after}
-use Rattle.query_text.specs.Sessions.{transcript}
+use Rattle.query_text.specs.Sessions.{transcript, IsShort}
 use Rattle.query_text.proofs.LongLines.{no_long_line}
 use Rattle.session_commands.specs.Floors.{HasMost, any, until, IsOver}
 use Rattle.session_commands.specs.Listens.{status_at}
@@ -39,11 +40,6 @@ use Rattle.session_commands.proofs.SessionTexts.{in_range, transcript_is}
 
 on : (a b c : ℕ) → IsReachable a b → IsReachable b c → IsReachable a c
 on = closure.onwards
-
--- marks lead from a floor to the one behind them
-marks_lead : (s : Subject) (floor : ℕ) (marks : List ℕ) → AreMarks s floor marks → IsReachable floor (floor_after floor marks)
-marks_lead s floor [] each = same
-marks_lead s floor (m ∷ ms) each = on floor m (floor_after m ms) each.0 (marks_lead s m ms each.3)
 
 -- the marks behind one floor and then those behind another, to which it leads
 digits_joined : (s : Subject) (start floor next : ℕ) (ms ns : List ℕ) → IsReachable start floor → AreMarks s floor ms → IsReachable (floor_after floor ms) next → AreMarks s next ns → AreDigits s.file start (ms ++ ns)
@@ -161,8 +157,8 @@ status_told false ends.Stopped = tt
 
 module _ (s : Subject) (script head : List ℕ) (start end : ℕ) (bytes : List ℕ) where
   -- one that answered the whole script
-  tells_whole : (r : Result (Unit {0}) SessionFault) → is_long (fate_of r) ≡ false → is_lost (fate_of r) ≡ false → TellsBy s script head start end r bytes → Tells s head start end (lines_of script) bytes
-  tells_whole (Ok x) long not_lost t = t.1
+  tells_whole : (r : Result (Unit {0}) SessionFault) → is_long (fate_of r) ≡ false → is_lost (fate_of r) ≡ false → TellsBy s script head start end r bytes → AreAll script (lines_of script) × Tells s head start end (lines_of script) bytes
+  tells_whole (Ok x) long not_lost t = t
   tells_whole (Err faults.LineTooLong) long not_lost t = absurd (cc long)
   tells_whole (Err faults.ReadFault) long not_lost t = absurd t
   tells_whole (Err faults.InputTooLong) long not_lost t = absurd t
@@ -171,7 +167,7 @@ module _ (s : Subject) (script head : List ℕ) (start end : ℕ) (bytes : List 
 
   -- where a line is too long, each stopped there
   tells_long : (lines : List (List ℕ)) → AreBeforeLong script lines → (r : Result (Unit {0}) SessionFault) → is_lost (fate_of r) ≡ false → TellsBy s script head start end r bytes → (ls : List (List ℕ)) × AreBeforeLong script ls × Tells s head start end ls bytes
-  tells_long lines w (Ok x) not_lost t = absurd (no_long_line script w.taken w.rest w.front t.0 w.long)
+  tells_long lines w (Ok x) not_lost t = absurd (no_long_line script w.taken w.rest w.front t.0.short w.long)
   tells_long lines w (Err faults.LineTooLong) not_lost t = t
   tells_long lines w (Err faults.ReadFault) not_lost t = absurd t
   tells_long lines w (Err faults.InputTooLong) not_lost t = absurd t
@@ -219,17 +215,17 @@ says_weaker file most Lines Others f t w = record {
 }
 
 all_first : (script : List ℕ) (ls : List (List ℕ)) → AreAll script ls → AreFirst script ls
-all_first script ls is = record { rest = []; front = append-nil ls ∙ is }
+all_first script ls are = record { rest = []; front = append-nil ls ∙ are.all; short = are.short }
 
 -- a reader that answered no line
 nothing_said : (file script : List ℕ) → SaysTwice file stopped (AreFirst script) (record { during = []; after = [] })
 unfolding transcript_of texts_at
 nothing_said file script = record {
   first_lines = [];
-  first_are = record { rest = lines_of script; front = refl };
+  first_are = record { rest = lines_of script; front = refl; short = All-nil IsShort };
   first = record { digits = []; count = refl; each = tt; range = All-nil (λ digit. (initial ≤ digit) × (digit ≤ stopped)); text_is = refl };
   second_lines = [];
-  second_are = record { rest = lines_of script; front = refl };
+  second_are = record { rest = lines_of script; front = refl; short = All-nil IsShort };
   second = record { digits = []; count = refl; each = tt; range = All-nil (λ digit. (cache_written ≤ digit) × (digit ≤ stopped)); text_is = refl };
   rises = tt;
 }
@@ -265,10 +261,10 @@ module _ (board : Lock Subject) (script : List ℕ) (runners : List Runner) (end
         let first = tells_whole board.subject script (head_of During i) w.start w.end r.during.text.bytes r.during.ended (or_left (is_long (fate_of r.during.ended)) (is_long (fate_of r.after.ended)) long) (or_left (is_lost (fate_of r.during.ended)) (is_lost (fate_of r.after.ended)) not_lost) w.first in
         let second = tells_whole board.subject script (head_of After i) w.next r.reader.pass.floor r.after.text.bytes r.after.ended (or_right (is_long (fate_of r.during.ended)) (is_long (fate_of r.after.ended)) long) (or_right (is_lost (fate_of r.during.ended)) (is_lost (fate_of r.after.ended)) not_lost) w.second in
         record {
-          texts = record { during = transcript board.subject (lines_of script) first.marks; after = transcript board.subject (lines_of script) second.marks };
-          says = twice file board.subject over most (stage_at_end ended) has h.last high (AreAll script) w.start w.end w.next r.reader.pass.floor w.started w.reach w.told (head_of During i) (head_of After i) r.during.text.bytes r.after.text.bytes (lines_of script) (lines_of script) first second refl refl;
-          during = first.text_is;
-          after = second.text_is;
+          texts = record { during = transcript board.subject (lines_of script) first.1.marks; after = transcript board.subject (lines_of script) second.1.marks };
+          says = twice file board.subject over most (stage_at_end ended) has h.last high (AreAll script) w.start w.end w.next r.reader.pass.floor w.started w.reach w.told (head_of During i) (head_of After i) r.during.text.bytes r.after.text.bytes (lines_of script) (lines_of script) first.1 second.1 first.0 second.0;
+          during = first.1.text_is;
+          after = second.1.text_is;
         })
 
     -- one is, and all sessions stopped at it

@@ -18,6 +18,7 @@ use Rattle.query_text.specs.declared.fault.SessionFault.TheVariants as faults
 use Rattle.query_text.specs.Sessions.{Answers, IsShort, SessionStops, TakesUntil}
 use Rattle.query_text.specs.WholeLines.{whole_lines_of}
 use Rattle.query_text.proofs.SendingLaws.{prefix_of_text}
+use Rattle.session_commands.specs.Races.{AreAll}
 use Rattle.session_commands.specs.Runners.{head_of, AllAnswered, AllTold, EachAt, IsFresh, IsHeld, Tells, TellsBy, WasHeld, WasHeldTwice}
 use Rattle.session_commands.specs.declared.runner.Round.TheVariants.{During, After}
 use Rattle.session_commands.specs.declared.runner.Runner.{Runner}
@@ -36,10 +37,10 @@ module _ (script rest head bytes : List ℕ) (old new : Reader) (k n : ℕ) wher
   tells_of : (lines : List (List ℕ)) → Answers old new (Some head) (Some bytes) lines → Tells old.board.subject head old.pass.floor new.pass.floor lines bytes
   tells_of lines a = record { marks = a.marks; each = a.gained.each; floor = a.gained.floor; count = a.count; text_is = a.text }
 
-  all_told : (taken : List ℕ) → TakesUntil (Some script) (Some rest) true taken → All IsShort (lines_of taken) → Answers old new (Some head) (Some bytes) (lines_of taken) → All IsShort (lines_of script) × Tells old.board.subject head old.pass.floor new.pass.floor (lines_of script) bytes
-  all_told taken takes short answers =
+  all_told : (taken : List ℕ) → TakesUntil (Some script) (Some rest) true taken → length taken < 2 ^ 32 → All IsShort (lines_of taken) → Answers old new (Some head) (Some bytes) (lines_of taken) → AreAll script (lines_of script) × Tells old.board.subject head old.pass.floor new.pass.floor (lines_of script) bytes
+  all_told taken takes few short answers =
       let whole = all_taken script taken rest takes.takes (takes.end refl) in
-      (subst (λ (t : List ℕ). All IsShort (lines_of t)) whole short, subst (λ (t : List ℕ). Tells old.board.subject head old.pass.floor new.pass.floor (lines_of t) bytes) whole (tells_of (lines_of taken) answers))
+      (record { all = refl; few = subst (λ (t : List ℕ). length t < 2 ^ 32) whole few; short = subst (λ (t : List ℕ). All IsShort (lines_of t)) whole short }, subst (λ (t : List ℕ). Tells old.board.subject head old.pass.floor new.pass.floor (lines_of t) bytes) whole (tells_of (lines_of taken) answers))
 
   too_many : (taken : List ℕ) → script ≡ taken ++ rest → length script ≤ 1048576 → length taken ≡ 2 ^ 32 → ⊥
   too_many taken is few many = omega (arith, ap length is, length-append taken rest, few, many)
@@ -48,7 +49,7 @@ module _ (script rest head bytes : List ℕ) (old new : Reader) (k n : ℕ) wher
   stop_told faults.ReadFault few (rose, w) = never 0 rose refl
   stop_told faults.LineTooLong few (w, long) = (
     whole_lines_of w.taken,
-    record { taken = w.taken; rest = rest; front = w.takes; long = long; whole = refl },
+    record { taken = w.taken; rest = rest; front = w.takes; few = w.few; long = long; whole = refl; short = w.short },
     tells_of (whole_lines_of w.taken) w.answers,
   )
   stop_told faults.InputTooLong few (w, much) = too_many w.taken w.takes few much
@@ -57,7 +58,7 @@ module _ (script rest head bytes : List ℕ) (old new : Reader) (k n : ℕ) wher
 
   pub session_told : (r : Result (Unit {0}) SessionFault) → length script ≤ 1048576 → OnOk r ((taken : List ℕ) × TakesUntil (Some script) (Some rest) true taken × (length taken < 2 ^ 32) × All IsShort (lines_of taken) × Answers old new (Some head) (Some bytes) (lines_of taken)) →
       IfErr r (λ fault. SessionStops (Some script) (Some rest) 0 0 old new (Some head) (Some bytes) k n fault) → TellsBy old.board.subject script head old.pass.floor new.pass.floor r bytes
-  session_told (Ok x) few all stops = all_told all.0 all.1 all.3 all.4
+  session_told (Ok x) few all stops = all_told all.0 all.1 all.2 all.3 all.4
   session_told (Err fault) few all stops = stop_told fault few stops
 
 -- a call that didn't fail

@@ -10,8 +10,9 @@ use Rattle.index_model.specs.Outputs.{Subject}
 use Rattle.index_model.specs.Stages.{initial, stopped, IsReachable}
 use Rattle.index_model.specs.Transcripts.{transcript_of}
 use Rattle.index_model.proofs.StageLaws.{closure, order}
+use Rattle.index_board.specs.Marks.{AreMarks, floor_after}
 use Rattle.index_board.specs.Readers.{Reader}
-use Rattle.query_text.specs.Gains.{AreMarks, floor_after, Gains}
+use Rattle.query_text.specs.Gains.{Gains}
 use Rattle.query_text.specs.Sessions.{Answers, AnswersInPart, AnswersBefore, look_ups, transcript}
 use Rattle.session_commands.specs.Floors.{HasMost, any, until, IsOver}
 use Rattle.session_commands.specs.Sessions.{AreDigits, IsTranscript}

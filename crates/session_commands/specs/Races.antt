@@ -1,10 +1,10 @@
 -- What the sessions of `race` write: those of each reader over a script, one while the index of a file is built and one after it.
-use Rattle.std.specs.Prelude.{◌≡◌, ℕ, ◌+◌, List, [], ◌∷◌, ◌++◌, length, map, All, codes, decimal, IsSome}
+use Rattle.std.specs.Prelude.{◌≡◌, ◌<◌, ◌≤◌, ℕ, ◌+◌, ◌^◌, List, [], ◌∷◌, ◌++◌, length, map, All, codes, decimal, IsSome}
 use Rattle.index_model.specs.Faults.{first_fault, IsAccepted}
 use Rattle.index_model.specs.Stages.{initial, cache_written, refused, stopped}
 use Rattle.index_model.specs.Texts.{line}
 use Rattle.index_model.specs.Transcripts.{lines_of}
-use Rattle.query_text.specs.Sessions.{HasLongLine}
+use Rattle.query_text.specs.Sessions.{HasLongLine, IsShort}
 use Rattle.query_text.specs.WholeLines.{whole_lines_of}
 use Rattle.session_commands.specs.Sessions.{AreDigits, IsTranscript}
 use Rattle.command_base.specs.declared.status.Status.{Status}
@@ -12,22 +12,27 @@ use Rattle.command_base.specs.declared.status.Status.TheVariants.{Answered, Refu
 
 -- ---- the lines of a script that a session answers
 
--- all of them
-abbrev pub AreAll : List ℕ → List (List ℕ) → Type 0
-AreAll script lines = lines ≡ lines_of script
+-- all of them, none of which is too long
+pub record AreAll (script : List ℕ) (lines : List (List ℕ)) : Type 0 where
+  pub all : lines ≡ lines_of script
+  pub few : length script < 2 ^ 32
+  pub short : All IsShort lines
 
--- those that are whole before one that is too long
+-- those that are whole before the first that is too long
 pub record AreBeforeLong (script : List ℕ) (lines : List (List ℕ)) : Type 0 where
   pub taken : List ℕ
   pub rest : List ℕ
   pub front : script ≡ taken ++ rest
+  pub few : length taken ≤ 2 ^ 32
   pub long : HasLongLine taken
   pub whole : lines ≡ whole_lines_of taken
+  pub short : All IsShort lines
 
--- the first of them
+-- the first of them, none of which is too long
 pub record AreFirst (script : List ℕ) (lines : List (List ℕ)) : Type 0 where
   pub rest : List (List ℕ)
   pub front : lines ++ rest ≡ lines_of script
+  pub short : All IsShort lines
 
 -- ---- both sessions of a reader
 

@@ -5,11 +5,11 @@ use Rattle.index_model.specs.Stages.{initial, IsReachable}
 use Rattle.index_model.specs.Texts.{line}
 use Rattle.index_model.specs.Transcripts.{lines_of}
 use Rattle.stage_lock.specs.Seen.{Lock}
+use Rattle.index_board.specs.Marks.{AreMarks, floor_after}
 use Rattle.query_text.specs.declared.fault.SessionFault.{SessionFault}
 use Rattle.query_text.specs.declared.fault.SessionFault.TheVariants as faults
-use Rattle.query_text.specs.Gains.{AreMarks, floor_after}
-use Rattle.query_text.specs.Sessions.{look_ups, transcript, IsShort}
-use Rattle.session_commands.specs.Races.{AreBeforeLong}
+use Rattle.query_text.specs.Sessions.{look_ups, transcript}
+use Rattle.session_commands.specs.Races.{AreAll, AreBeforeLong}
 use Rattle.session_commands.specs.declared.runner.Round.{Round}
 use Rattle.session_commands.specs.declared.runner.Round.TheVariants.{During, After}
 use Rattle.session_commands.specs.declared.runner.Runner.{Runner}
@@ -37,7 +37,7 @@ pub record Tells (s : Subject) (head : List ℕ) (start end : ℕ) (lines : List
 -- What a session over a script tells, by how it ended. A script can be read and isn't too long, and where memory was refused
 -- nothing is said.
 abbrev pub TellsBy : {X : Type 0} → Subject → List ℕ → List ℕ → ℕ → ℕ → Result X SessionFault → List ℕ → Type 0
-TellsBy s script head start end (Ok x) bytes = All IsShort (lines_of script) × Tells s head start end (lines_of script) bytes
+TellsBy s script head start end (Ok x) bytes = AreAll script (lines_of script) × Tells s head start end (lines_of script) bytes
 TellsBy s script head start end (Err faults.LineTooLong) bytes = (lines : List (List ℕ)) × AreBeforeLong script lines × Tells s head start end lines bytes
 TellsBy s script head start end (Err faults.NoMemory) bytes = ⊤
 TellsBy s script head start end (Err faults.WriteFault) bytes = ⊤

@@ -1,12 +1,12 @@
 -- What the session of `serve` writes while the index of a file is built.
-use Rattle.std.specs.Prelude.{◌≡◌, ◌≤◌, ◌⊎◌, ◌^◌, ℕ, List, [], ◌∷◌, ◌++◌, length, Bool, All, IsSome}
+use Rattle.std.specs.Prelude.{◌≡◌, ◌≤◌, ◌<◌, ◌⊎◌, ◌^◌, ℕ, List, [], ◌∷◌, ◌++◌, length, Bool, All, IsSome}
 use Rattle.outside.specs.Taken.{Takes, IsAtEnd}
 use Rattle.index_model.specs.declared.job.CacheKind.TheVariants.{Gdb8}
 use Rattle.index_model.specs.Cache.{size_in}
 use Rattle.index_model.specs.Faults.{built_of, first_fault, IsAccepted}
 use Rattle.index_model.specs.Stages.{initial, stopped, IsReachable}
 use Rattle.index_model.specs.Transcripts.{lines_of, transcript_of}
-use Rattle.query_text.specs.Sessions.{look_ups, HasLongLine, TakesUntil}
+use Rattle.query_text.specs.Sessions.{look_ups, HasLongLine, IsShort, TakesUntil}
 use Rattle.query_text.specs.WholeLines.{known_lines, whole_lines_of}
 use Rattle.session_commands.specs.Heard.{Heard}
 
@@ -33,17 +33,21 @@ pub record IsTranscript (file : List ℕ) (least most : ℕ) (lines : List (List
 
 -- ---- `serve`
 
--- the input was read to its end, and the text answers all of its lines
+-- the input was read to its end, and the text answers all of its lines, none of which is too long
 pub record Serves (file : List ℕ) (least most : ℕ) (heard : Heard) (text : List ℕ) : Type 0 where
   pub taken : List ℕ
   pub takes : Takes heard.left_old heard.left_new taken
   pub end : IsAtEnd heard.left_new
+  pub few : length taken < 2 ^ 32
+  pub short : All IsShort (lines_of taken)
   pub says : IsTranscript file least most (lines_of taken) text
 
--- the text answers the lines of what was taken that are whole
+-- the text answers the lines of what was taken that are whole, none of which is too long
 pub record ServesWhole (file : List ℕ) (least : ℕ) (heard : Heard) (text : List ℕ) : Type 0 where
   pub taken : List ℕ
   pub takes : Takes heard.left_old heard.left_new taken
+  pub few : length taken ≤ 2 ^ 32
+  pub short : All IsShort (whole_lines_of taken)
   pub says : IsTranscript file least stopped (whole_lines_of taken) text
 
 -- the same, behind which stands a line that is longer than the longest, or so many bytes that no more are taken
@@ -51,11 +55,13 @@ pub record ServesLong (file : List ℕ) (least : ℕ) (heard : Heard) (text : Li
   pub whole : ServesWhole file least heard text
   pub long : HasLongLine whole.taken ⊎ (length whole.taken ≡ 2 ^ 32)
 
--- the text answers the first lines of what was taken
+-- the text answers the first lines of what was taken, none of which is too long
 pub record ServesPart (file : List ℕ) (least : ℕ) (heard : Heard) (text : List ℕ) : Type 0 where
   pub taken : List ℕ
   pub ended : Bool
   pub takes : TakesUntil heard.left_old heard.left_new ended taken
+  pub few : length taken ≤ 2 ^ 32
+  pub short : All IsShort (known_lines ended taken)
   pub lines : List (List ℕ)
   pub rest : List (List ℕ)
   pub front : lines ++ rest ≡ known_lines ended taken
