@@ -99,7 +99,7 @@ module _ (a : Adder) (strings : List ℕ) (one : length a.addition.sections ≡ 
   pub last_many : with_strings a strings ≡ Err adds.TooMany → lacks_strings a.file a.sections ≡ true
   last_many h = (many_gives false (lacks_strings a.file a.sections) filled (sym last_is ∙ h)).1
 
-  pub strings_stop : (new : Adder) (stop : AddStop) → AddsAs (Err stop) a new (with_strings a strings) → StringsStop a.file a.sections (reason stop)
-  strings_stop new adds.Present h = last_present h.1
-  strings_stop new adds.TooMany h = last_many h.1
-  strings_stop new adds.Memory h = tt
+  pub strings_stop : (new : Adder) (stop : AddStop) → (stop ≡ adds.Memory → ⊥) → AddsAs (Err stop) a new (with_strings a strings) → StringsStop a.file a.sections (reason stop)
+  strings_stop new adds.Present taken h = last_present h.1
+  strings_stop new adds.TooMany taken h = last_many h.1
+  strings_stop new adds.Memory taken h = taken refl

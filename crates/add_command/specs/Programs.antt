@@ -86,7 +86,7 @@ abbrev pub StringsStop : List ℕ → List Section → Stop → Type 0
 StringsStop file sections stops.Present = ⊥
 StringsStop file sections stops.TooMany = lacks_strings file sections ≡ true
 StringsStop file sections stops.TooLarge = ⊥
-StringsStop file sections stops.Memory = ⊤
+StringsStop file sections stops.Memory = ⊥
 
 -- the sections of the program forbid it
 abbrev pub FillStops : CacheKind → List ℕ → List Section → Stop → Type 0
@@ -95,12 +95,12 @@ FillStops kind file sections stops.TooMany = (is_indexed kind sections ≡ false
 FillStops kind file sections stops.TooLarge = ⊥
 FillStops kind file sections stops.Memory = ⊤
 
--- the format can't hold the index
+-- the format can't hold the index; memory is taken where it can
 abbrev pub FinishStops : Cache → Stop → Type 0
 FinishStops cache stops.Present = ⊥
 FinishStops cache stops.TooMany = ⊥
 FinishStops cache stops.TooLarge = cache ≡ DoesNotFit
-FinishStops cache stops.Memory = ⊤
+FinishStops cache stops.Memory = cache ≡ DoesNotFit → ⊥
 
 -- the program forbids it
 abbrev pub AddStops : List ℕ → CacheKind → Stop → Type 0

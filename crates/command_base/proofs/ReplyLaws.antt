@@ -1,5 +1,5 @@
 -- A reply is written.
-use Rattle.std.proofs.Common.{◌≡◌, ℕ, List, Option, Result, Ok, Err, refl, sym, subst, inl, inr}
+use Rattle.std.proofs.Common.{◌≡◌, ℕ, List, Option, Result, Ok, Err, refl, sym, subst, inl, inr, ◌∙◌}
 use Rattle.std.specs.Prelude.{OnOk, OnErr}
 use mathlib.Core.Logic.{◌⊎◌}
 use Rattle.ix_base.specs.declared.fault.Fault.{Fault}
@@ -7,7 +7,7 @@ use Rattle.index_model.specs.Answers.{Answer, Reply, Answered as Replied, Refuse
 use Rattle.index_model.specs.Texts.{text_of_fault, text_of_reply}
 use Rattle.outside.specs.declared.shelf.Failed.{Failed}
 use Rattle.outside.specs.Written.{Appends, AppendsPrefix}
-use Rattle.command_base.specs.Replies.{SaysReply, Wrote, status_after}
+use Rattle.command_base.specs.Replies.{SaysReply, Wrote, status_after, status_of_reply}
 use Rattle.command_base.specs.declared.status.Status.{Status}
 use Rattle.command_base.specs.declared.status.Table.{Table}
 use Rattle.command_base.specs.declared.status.Status.TheVariants.{Answered, Refused, Usage, ReadFault, StoreFault, WriteFault, NoMemory, IndexRefused, TableRefused, IndexTooLarge, FileTooBig, AlreadyIndexed, TooManySections, InputFault, InputTooLong, Stopped}
@@ -32,6 +32,11 @@ wrote_weaker Says More f IndexTooLarge old new w = w
 wrote_weaker Says More f FileTooBig old new w = w
 wrote_weaker Says More f AlreadyIndexed old new w = w
 wrote_weaker Says More f TooManySections old new w = w
+
+-- the status is that of the reply, or the write failed
+pub after_reply : (written : Result (Unit {0}) Failed) (reply : Reply) (result status : Status) → result ≡ status_after written status → status ≡ status_of_reply reply → (result ≡ status_of_reply reply) ⊎ (result ≡ WriteFault)
+after_reply (Ok x) reply result status is same = inl (is ∙ same)
+after_reply (Err e) reply result status is same = inr is
 
 -- ---- a reply is written
 

@@ -58,6 +58,12 @@ abbrev pub status_after : {X : Type 0} → Result X Failed → Status → Status
 status_after (Ok x) status = status
 status_after (Err e) status = WriteFault
 
+-- the status of a reply that is written whole; a build that gave none was refused memory
+abbrev pub status_of_reply : Reply → Status
+status_of_reply (Replied a) = Answered
+status_of_reply (Refuses f) = Refused
+status_of_reply other = NoMemory
+
 -- what was appended before a status's own line: the text of a result, a prefix of one, or nothing
 abbrev pub Wrote : (Status → List ℕ → Type 0) → Status → Option (List ℕ) → Option (List ℕ) → Type 0
 Wrote Says Answered old new = Writes old new (Says Answered)

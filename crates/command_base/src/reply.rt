@@ -1,11 +1,12 @@
 //! The reply that is the result of a command.
 
-ghost use Rattle.std.specs.Prelude.{◌≡◌, ◌≤◌};
+ghost use Rattle.std.specs.Prelude.{◌≡◌, ◌≤◌, ◌⊎◌};
 ghost use Rattle.outside.specs.Counts.{Rose};
 ghost use Rattle.index_model.specs.Answers.{Refused as Refuses};
 ghost use Rattle.index_model.specs.Seen.{reply_seen};
 ghost use Rattle.query_text.specs.Places.{PlacesFit};
-ghost use Rattle.command_base.specs.Replies.{CausesOfResult, SaysReply, Wrote, status_after};
+ghost use Rattle.command_base.specs.Replies.{CausesOfResult, SaysReply, Wrote, status_after, status_of_reply};
+ghost use Rattle.command_base.specs.declared.status.Status.TheVariants as statuses;
 
 use crate::status::Status;
 use index_model::Reply;
@@ -13,8 +14,9 @@ use ix_base::Fault;
 use outside::{Failed, Sink};
 use query_text::write_reply;
 
-/// Writes the first fault of a file.
+/// Writes the first fault of a file. Takes no memory.
 pub fn refuse<K: Sink>(out: &mut K, fault: Fault) -> Status
+    ensures status { (result ≡ statuses.Refused) ⊎ (result ≡ statuses.WriteFault) }
     ensures wrote { Wrote (SaysReply (Refuses fault)) result (K.written out.old) (K.written out.new) }
     ensures causes { CausesOfResult (Rose (K.write_faults out.old) (K.write_faults out.new)) result }
     ensures counts { K.write_faults out.old ≤ K.write_faults out.new }
@@ -22,9 +24,10 @@ pub fn refuse<K: Sink>(out: &mut K, fault: Fault) -> Status
     write(out, &Reply::Refused(fault))
 }
 
-/// Writes a reply that is a result.
+/// Writes a reply that is a result. Takes no memory: it says that memory was refused where a build gave no reply.
 pub fn write<K: Sink>(out: &mut K, reply: &Reply<'_>) -> Status
     requires { PlacesFit (reply_seen reply.now) }
+    ensures status { (result ≡ status_of_reply (reply_seen reply.now)) ⊎ (result ≡ statuses.WriteFault) }
     ensures wrote { Wrote (SaysReply (reply_seen reply.now)) result (K.written out.old) (K.written out.new) }
     ensures causes { CausesOfResult (Rose (K.write_faults out.old) (K.write_faults out.new)) result }
     ensures counts { K.write_faults out.old ≤ K.write_faults out.new }

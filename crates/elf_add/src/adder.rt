@@ -1,6 +1,6 @@
 //! The adder.
 
-ghost use Rattle.std.specs.Prelude.{◌≡◌, ◌≤◌, ◌==◌, false, [], bytes_eq, ◌++◌, length, map, option_map, unwrap_or, IfOk};
+ghost use Rattle.std.specs.Prelude.{◌≡◌, ◌≤◌, ◌==◌, false, [], Err, bytes_eq, ◌++◌, length, map, option_map, unwrap_or, IfOk};
 ghost use Rattle.std.specs.List.{list_any, AllByRecursion as AllOf};
 ghost use Rattle.index_model.specs.Gives.{Gives};
 ghost use Rattle.index_model.specs.Sections.{section_bytes};
@@ -8,6 +8,7 @@ ghost use Rattle.reach_model.specs.Added.{added, debug_str, names_start, new_sec
 ghost use Rattle.reach_model.specs.AddedSections.{HavePlaces};
 ghost use Rattle.elf_add.specs.Adders.{adder_of, has_section, is_full, with_section, with_strings, AddsAs};
 ghost use Rattle.elf_add.specs.Held.{is_alone};
+ghost use Rattle.elf_add.specs.declared.adder.AddStop.TheVariants as stops;
 ghost use Rattle.elf_add.specs.Parts.{IsStrings};
 ghost use Rattle.elf_add.specs.Pieces.{section_of};
 
@@ -97,9 +98,11 @@ impl<'f> Adder<'f> {
     }
 
     /// Bytes behind those of `.debug_str`, which is added as the last section where the file has none. Present exactly where this
-    /// adder has such bytes, and else TooMany exactly where the section must be added and there would be more than 65,279.
+    /// adder has such bytes, and else TooMany exactly where the section must be added and there would be more than 65,279. Takes no
+    /// memory.
     pub fn extend(&mut self, bytes: &'f [u8]) -> Result<(), AddStop>
-        ensures { AddsAs result self.old self.new (with_strings self.old bytes.now) }
+        ensures adds { AddsAs result self.old self.new (with_strings self.old bytes.now) }
+        ensures memory { result ≡ Err stops.Memory → ⊥ }
     {
         if self.strings.is_some() {
             return Err(AddStop::Present);

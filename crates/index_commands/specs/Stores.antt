@@ -49,10 +49,15 @@ StoreLeaves old new name cache Answered = Keeps old new name cache
 StoreLeaves old new name cache StoreFault = KeepsPart old new name cache
 StoreLeaves old new name cache other = SameFiles old new
 
+-- memory is taken for the name under which the strings of a `.debug_names` are stored, and for nothing else
+abbrev pub TakesMemory : Cache → Type 0
+TakesMemory (NameBytes names strings) = ⊤
+TakesMemory other = ⊥
+
 -- the cause of a status, where an index was to be stored
 abbrev pub CausesOfStore : Type 0 → Cache → Status → Type 0
 CausesOfStore stores cache Answered = ⊤
-CausesOfStore stores cache NoMemory = ⊤
+CausesOfStore stores cache NoMemory = TakesMemory cache
 CausesOfStore stores cache StoreFault = stores
 CausesOfStore stores cache IndexTooLarge = IsTooLarge cache
 CausesOfStore stores cache other = ⊥
