@@ -17,7 +17,7 @@ use std::thread::Threads;
 use std::time::Duration;
 
 // How many microseconds a worker rests for whom there is no job. Each rest in a row is twice as long as the one before, so what
-// it may lose when new jobs come is no more than what it has rested already.
+// it may lose when new jobs come is about what it has rested already.
 const LEAST_REST: u64 = 50;
 
 const MOST_REST: u64 = 800;
