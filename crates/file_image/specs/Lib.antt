@@ -4,3 +4,4 @@ pub mod Front
 pub mod Heads
 pub mod Images
 pub mod Inside
+pub mod Resolved

@@ -44,7 +44,7 @@ impl<'f> Image<'f> {
         let units = units(alloc, &sections)?;
         Ok(Image {
             file,
-            info: sections.get(b".debug_info"),
+            info: sections.debug_info(),
             types: sections.get(b".debug_types"),
             sections,
             units,

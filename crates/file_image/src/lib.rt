@@ -10,6 +10,7 @@ mod compressed;
 mod found;
 mod ident;
 mod image;
+mod resolved;
 mod section_header;
 mod section_table;
 mod sections;

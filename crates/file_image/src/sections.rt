@@ -1,12 +1,13 @@
 //! The sections of a program file.
 
-ghost use Rattle.std.specs.Prelude.{◌≡◌, ◌≤◌, length};
+ghost use Rattle.std.specs.Prelude.{◌≡◌, ◌≤◌, codes, length};
 ghost use Rattle.index_model.specs.Gives.{Gives};
 ghost use Rattle.index_model.specs.Sections.{index_named, section_bytes, sections_of};
 
 use crate::compressed::check_compressed;
-use crate::found::{Found, first_named, index_named, sections_of_table, table_fault};
+use crate::found::{Found, index_named, sections_of_table, table_fault};
 use crate::ident::check_ident;
+use crate::resolved::{Resolved, content_of};
 use crate::table::Table;
 use ix_base::{Fault, MAX_FILE_BYTES, Stop, code};
 use std::alloc::Global;
@@ -16,18 +17,20 @@ use std::marker::Model;
 #[derive(Drop)]
 pub struct Sections<'f> {
     found: Vec<Found<'f>>,
+    resolved: Resolved<'f>,
 }
 
 impl<'f> Model for Sections<'f> {
     ghost use Rattle.std.specs.Prelude.{◌≤◌, List, length, map};
     ghost use Rattle.index_model.specs.Sections.{Section};
     ghost use Rattle.file_image.specs.Found.{section, AreSmall};
+    ghost use Rattle.file_image.specs.Resolved.{AreFound};
 
     ghost Value = { List Section };
 
     ghost view = { λ s. map section s.found.items };
 
-    ghost invariant = { λ s. AreSmall s.found.items };
+    ghost invariant = { λ s. AreSmall s.found.items × AreFound (map section s.found.items) s.resolved };
 }
 
 impl<'f> Sections<'f> {
@@ -45,14 +48,14 @@ impl<'f> Sections<'f> {
         };
         let found = sections_of_table(alloc, file, &table)?;
         check_compressed(&found)?;
-        let sections = Sections { found };
-        if sections.get(b".debug_info").is_empty() {
+        let resolved = Resolved::of(&found);
+        if resolved.info.is_empty() {
             return Err(Stop::Fault(Fault {
                 code: code::NO_DEBUG_INFO,
                 at: 0,
             }));
         }
-        Ok(sections)
+        Ok(Sections { found, resolved })
     }
 
     /// The bytes of the first section of this name; none, where there is no such section.
@@ -60,10 +63,71 @@ impl<'f> Sections<'f> {
         ensures value { result.now ≡ section_bytes self.now name.now }
         ensures small { length result.now ≤ MAX_FILE_BYTES }
     {
-        match first_named(&self.found, name) {
-            Some(section) => section.content,
-            None => &[],
-        }
+        content_of(&self.found, name)
+    }
+
+    /// The bytes of `.debug_info`, as `get` gives them.
+    pub fn debug_info(&self) -> &'f [u8]
+        ensures value { result.now ≡ section_bytes self.now (codes ".debug_info") }
+        ensures small { length result.now ≤ MAX_FILE_BYTES }
+    {
+        self.resolved.info
+    }
+
+    /// The bytes of `.debug_abbrev`, as `get` gives them.
+    pub fn debug_abbrev(&self) -> &'f [u8]
+        ensures value { result.now ≡ section_bytes self.now (codes ".debug_abbrev") }
+        ensures small { length result.now ≤ MAX_FILE_BYTES }
+    {
+        self.resolved.abbrev
+    }
+
+    /// The bytes of `.debug_str`, as `get` gives them.
+    pub fn debug_str(&self) -> &'f [u8]
+        ensures value { result.now ≡ section_bytes self.now (codes ".debug_str") }
+        ensures small { length result.now ≤ MAX_FILE_BYTES }
+    {
+        self.resolved.str
+    }
+
+    /// The bytes of `.debug_line_str`, as `get` gives them.
+    pub fn debug_line_str(&self) -> &'f [u8]
+        ensures value { result.now ≡ section_bytes self.now (codes ".debug_line_str") }
+        ensures small { length result.now ≤ MAX_FILE_BYTES }
+    {
+        self.resolved.line_str
+    }
+
+    /// The bytes of `.debug_str_offsets`, as `get` gives them.
+    pub fn debug_str_offsets(&self) -> &'f [u8]
+        ensures value { result.now ≡ section_bytes self.now (codes ".debug_str_offsets") }
+        ensures small { length result.now ≤ MAX_FILE_BYTES }
+    {
+        self.resolved.str_offsets
+    }
+
+    /// The bytes of `.debug_addr`, as `get` gives them.
+    pub fn debug_addr(&self) -> &'f [u8]
+        ensures value { result.now ≡ section_bytes self.now (codes ".debug_addr") }
+        ensures small { length result.now ≤ MAX_FILE_BYTES }
+    {
+        self.resolved.addr
+    }
+
+    /// The bytes of `.debug_rnglists`, as `get` gives them.
+    pub fn debug_rnglists(&self) -> &'f [u8]
+        ensures value { result.now ≡ section_bytes self.now (codes ".debug_rnglists") }
+        ensures small { length result.now ≤ MAX_FILE_BYTES }
+    {
+        self.resolved.rnglists
+    }
+
+    /// The bytes of `.debug_ranges`, as `get` gives them.
+    pub fn debug_ranges(&self) -> &'f [u8]
+        ensures value { result.now ≡ section_bytes self.now (codes ".debug_ranges") }
+        ensures small { length result.now ≤ MAX_FILE_BYTES }
+    {
+        self.resolved.ranges
     }
 
     /// The index of the first section of this name among all headers, of which that of section 0 is the first; None where there

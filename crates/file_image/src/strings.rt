@@ -56,7 +56,7 @@ fn indexed_offset(
     let size = if wide { 8 } else { 4 };
     let at = base.saturating_add(index.saturating_mul(size));
     Ok(
-        cursor_at(sections.get(b".debug_str_offsets"), at)
+        cursor_at(sections.debug_str_offsets(), at)
             .offset(wide)
             .ok_or(BAD_STRING)?,
     )
@@ -79,11 +79,11 @@ pub fn text<'f>(
 {
     match *value {
         Value::Inline(text) => within_limit(text),
-        Value::Str(at) => string_in(sections.get(b".debug_str"), at),
-        Value::LineStr(at) => string_in(sections.get(b".debug_line_str"), at),
+        Value::Str(at) => string_in(sections.debug_str(), at),
+        Value::LineStr(at) => string_in(sections.debug_line_str(), at),
         Value::StrIndex(index) => {
             let at = indexed_offset(sections, base, wide, index)?;
-            string_in(sections.get(b".debug_str"), at)
+            string_in(sections.debug_str(), at)
         }
         _ => Ok(None),
     }

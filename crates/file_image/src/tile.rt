@@ -25,7 +25,7 @@ pub fn units(alloc: Global, sections: &Sections<'_>) -> Result<Vec<Unit>, Stop>
     ensures few { IfOk result (λ v. length v.items ≤ MAX_UNITS) }
     ensures inside { IfOk result (λ v. LieInSections sections.now v.items) }
 {
-    let info = sections.get(b".debug_info");
+    let info = sections.debug_info();
     let types = sections.get(b".debug_types");
     let mut units = Vec::new(alloc);
     add_units(&mut units, Part::Info, 0, info)?;

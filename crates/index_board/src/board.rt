@@ -25,6 +25,7 @@ use stage_lock::StageLock;
 use std::alloc::Global;
 use std::marker::Model;
 use std::sync::Wait;
+use std::time::Duration;
 
 /// The right of one thread to step on a board. It has no bytes.
 pub type Pass<'f> = stage_lock::Pass<Core<'f>>;
@@ -144,6 +145,11 @@ impl<'f> Board<'f> {
         ensures holding { IsTrue pass.old.holding → IfSome pass.old.value_out (λ taken. stage_of taken ≡ result) }
     {
         self.lock.mark(pass)
+    }
+
+    /// Rests while the stage is this one, for so long at most, as `StageLock::rest` does.
+    pub fn rest<R: Wait>(&self, rt: &R, stage: u8, most: Duration) {
+        self.lock.rest(rt, stage, most);
     }
 
     /// A new pass, which begins where this one is. Each has half of the share that this one had.

@@ -13,7 +13,14 @@ use index_board::{Board, Pass};
 use outside::Gate;
 use std::alloc::Global;
 use std::sync::Wait;
-use std::thread::{Threads, yield_now};
+use std::thread::Threads;
+use std::time::Duration;
+
+// How many microseconds a worker rests for whom there is no job. Each rest in a row is twice as long as the one before, so what
+// it may lose when new jobs come is about what it has rested already.
+const LEAST_REST: u64 = 50;
+
+const MOST_REST: u64 = 800;
 
 /// Draws, does and finishes jobs of a build until it has ended. May wait. The gate is told of each job.
 ///
@@ -35,12 +42,17 @@ pub fn work<'f, R: Threads + Wait + Sync, G: Gate + Sync>(
     ensures last { IsLast pass.new.floor }
     ensures fits { FitsFile board.now.subject pass.new.floor }
 {
+    let mut rest = LEAST_REST;
     for _ in rt.forever() {
-        if let Some(ended) = end_at(board.mark(pass)) {
+        let stage = board.mark(pass);
+        if let Some(ended) = end_at(stage) {
             return ended;
         }
-        if !help(rt, alloc, board, pass, gate) {
-            yield_now();
+        if help(rt, alloc, board, pass, gate) {
+            rest = LEAST_REST;
+        } else {
+            board.rest(rt, stage, Duration::from_micros(rest));
+            rest = MOST_REST.min(rest.saturating_mul(2));
         }
     }
     unreachable!()

@@ -46,7 +46,7 @@ impl<'f> Home<'f> {
         let base = self.addr_base.ok_or(NO_BASE)?;
         let at = base.saturating_add(index.saturating_mul(ADDRESS_SIZE));
         Ok(
-            cursor_at(self.sections.get(b".debug_addr"), at)
+            cursor_at(self.sections.debug_addr(), at)
                 .u64()
                 .ok_or(BAD_RANGE)?,
         )

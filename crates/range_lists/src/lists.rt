@@ -108,7 +108,7 @@ impl Home<'_> {
         let base = self.rnglists_base.ok_or(NO_BASE)?;
         let size = offset_size(self.header.wide);
         let at = base.saturating_add(index.saturating_mul(size));
-        let offset = cursor_at(self.sections.get(b".debug_rnglists"), at)
+        let offset = cursor_at(self.sections.debug_rnglists(), at)
             .offset(self.header.wide)
             .ok_or(BAD_RANGE)?;
         Ok(base.saturating_add(offset))
@@ -127,15 +127,15 @@ impl Home<'_> {
         match list {
             Raw::RangeIndex(index) => {
                 let place = self.list_place(index)?;
-                let lists = self.sections.get(b".debug_rnglists");
+                let lists = self.sections.debug_rnglists();
                 self.add_list_at(ranges, Format::Kinds, first_base, lists, place)
             }
             Raw::Offset(place) => {
                 if self.header.version == 5 {
-                    let lists = self.sections.get(b".debug_rnglists");
+                    let lists = self.sections.debug_rnglists();
                     self.add_list_at(ranges, Format::Kinds, first_base, lists, place)
                 } else {
-                    let lists = self.sections.get(b".debug_ranges");
+                    let lists = self.sections.debug_ranges();
                     self.add_list_at(ranges, Format::Pairs, first_base, lists, place)
                 }
             }

@@ -94,7 +94,7 @@ impl<'s, 'f> Entries<'s, 'f> {
         // The units are those of the image's file, and the span's is one of them.
         let _units = self.image.units();
         let home = Home::of(self.image, span.unit);
-        let section = self.image.sections().get(b".debug_abbrev");
+        let section = self.image.sections().debug_abbrev();
         let table = Table::of_sound(alloc, section, &home.unit, self.at_hand.take())?;
         let table = self.at_hand.insert(table);
         Ok(home.node_within(&table.abbrevs, span, offset))

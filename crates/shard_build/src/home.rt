@@ -145,7 +145,7 @@ impl<'s, 'f> Home<'s, 'f> {
     fn in_info(&self, target: u64) -> Option<u64>
         ensures { result ≡ (if nat_lt target (length (section_bytes self.now.sections.now (codes ".debug_info"))) then Some target else None) }
     {
-        if target < self.sections.get(b".debug_info").len() as u64 {
+        if target < self.sections.debug_info().len() as u64 {
             Some(target)
         } else {
             None

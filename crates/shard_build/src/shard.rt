@@ -53,7 +53,7 @@ fn add_unit<'f>(
     ensures hand { ForSome at_hand.new (IsAtOffset (section_bytes image.now.sections (codes ".debug_abbrev"))) }
 {
     let home = Home::of(image, number);
-    let section = image.sections().get(b".debug_abbrev");
+    let section = image.sections().debug_abbrev();
     let table = Table::of(alloc, section, &home.unit, at_hand.take())?;
     run.unit(&home, &at_hand.insert(table).abbrevs)
 }

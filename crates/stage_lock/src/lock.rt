@@ -16,6 +16,7 @@ use std::alloc::Global;
 use std::marker::Model;
 use std::snapshot::Snapshot;
 use std::sync::Wait;
+use std::time::Duration;
 
 // The words of the lock: 0 where nobody has the turn and 1 where somebody has it; and the stage of the value.
 const TURN: usize = 0;
@@ -100,11 +101,23 @@ impl<V: Staged> StageLock<V> {
     {
         let shared = &self.table.shared;
         let stage = u64::from(value.stage());
+        let before = shared.peek(STAGE);
         let was = shared.exchange(&mut pass.seat, VALUE, Some(value));
         let None = was else { unreachable!() };
         shared.store::<Publish>(&mut pass.seat, STAGE, stage);
         shared.store::<Unlock>(&mut pass.seat, TURN, FREE);
         shared.wake_one(TURN);
+        if stage != before {
+            shared.wake_all(STAGE);
+        }
+    }
+
+    /// Rests while the stage is this one, for so long at most. A change of the stage ends it, and it may also end for no reason.
+    /// It makes no step of any pass.
+    pub fn rest<R: Wait>(&self, rt: &R, stage: u8, most: Duration) {
+        self.table
+            .shared
+            .park_timeout(rt, STAGE, u32::from(stage), most);
     }
 
     /// The stage, by one load. It waits for nobody and takes no memory. While the pass holds the value, it is the stage of the

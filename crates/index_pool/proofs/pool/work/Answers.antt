@@ -9,23 +9,23 @@ pub loop-init : goal.loop-init
 loop-init g c = (c.requires.own, c.requires.idle, same)
 
 pub returns-in-Some-end_at-clause-reach : goal.returns-in-Some-end_at-clause-reach
-returns-in-Some-end_at-clause-reach g c = by_mark c.args.pass.now.floor c.loop.pass c.mark.new.pass c.mark.result c.loop.invariant.2 c.mark.ensures.reach c.mark.ensures.pass
+returns-in-Some-end_at-clause-reach g c = by_mark c.args.pass.now.floor c.loop.pass c.mark-stage.new.pass c.mark-stage.result c.loop.invariant.2 c.mark-stage.ensures.reach c.mark-stage.ensures.pass
 
 pub returns-in-Some-end_at-clause-last : goal.returns-in-Some-end_at-clause-last
-returns-in-Some-end_at-clause-last g c = end_is_last c.in-Some-end_at.ended c.mark.new.pass.floor (ap (λ p. p.floor) c.mark.ensures.pass ∙ c.in-Some-end_at.ensures.ended)
+returns-in-Some-end_at-clause-last g c = end_is_last c.in-Some-end_at.ended c.mark-stage.new.pass.floor (ap (λ p. p.floor) c.mark-stage.ensures.pass ∙ c.in-Some-end_at.ensures.ended)
 
-pub loop-preserved-then-not-help : goal.loop-preserved-then-not-help
-loop-preserved-then-not-help g c = (
+pub loop-preserved-then-help : goal.loop-preserved-then-help
+loop-preserved-then-help g c = (
   c.help.ensures.own,
   c.help.ensures.idle,
-  closure.onwards c.args.pass.now.floor c.mark.new.pass.floor c.help.new.pass.floor
-      (by_mark c.args.pass.now.floor c.loop.pass c.mark.new.pass c.mark.result c.loop.invariant.2 c.mark.ensures.reach c.mark.ensures.pass) c.help.ensures.reach,
+  closure.onwards c.args.pass.now.floor c.mark-stage.new.pass.floor c.help.new.pass.floor
+      (by_mark c.args.pass.now.floor c.loop.pass c.mark-stage.new.pass c.mark-stage.result c.loop.invariant.2 c.mark-stage.ensures.reach c.mark-stage.ensures.pass) c.help.ensures.reach,
 )
 
 pub loop-preserved : goal.loop-preserved
 loop-preserved g c = (
   c.help.ensures.own,
   c.help.ensures.idle,
-  closure.onwards c.args.pass.now.floor c.mark.new.pass.floor c.help.new.pass.floor
-      (by_mark c.args.pass.now.floor c.loop.pass c.mark.new.pass c.mark.result c.loop.invariant.2 c.mark.ensures.reach c.mark.ensures.pass) c.help.ensures.reach,
+  closure.onwards c.args.pass.now.floor c.mark-stage.new.pass.floor c.help.new.pass.floor
+      (by_mark c.args.pass.now.floor c.loop.pass c.mark-stage.new.pass c.mark-stage.result c.loop.invariant.2 c.mark-stage.ensures.reach c.mark-stage.ensures.pass) c.help.ensures.reach,
 )

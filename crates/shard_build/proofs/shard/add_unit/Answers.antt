@@ -12,7 +12,7 @@ use Rattle.shard_build.proofs.shard.add_unit.Goals as goal
 
 pub of-requires : goal.of-requires
 of-requires c =
-    let section : c.get-section.result.now ≡ section_bytes c.args.image.now.sections (codes ".debug_abbrev") = c.get-section.ensures.value ∙ ap (λ (ss : List Section). section_bytes ss (codes ".debug_abbrev")) c.sections.ensures in
+    let section : c.debug_abbrev-section.result.now ≡ section_bytes c.args.image.now.sections (codes ".debug_abbrev") = c.debug_abbrev-section.ensures.value ∙ ap (λ (ss : List Section). section_bytes ss (codes ".debug_abbrev")) c.sections.ensures in
     λ t e. subst (λ (bytes : List ℕ). IsAtOffset bytes t) (sym section) (c.requires.hand t (sym c.take.ensures.value ∙ e))
 
 pub returns-in_err-table-clause-value : goal.returns-in_err-table-clause-value
@@ -20,9 +20,9 @@ returns-in_err-table-clause-value c u is =
     let ss = c.args.image.now.sections in
     let unit = c.of-home.result.unit in
     let stop = c.in_err-table.field-0.0 in
-    let section : c.get-section.result.now ≡ section_bytes ss (codes ".debug_abbrev") = c.get-section.ensures.value ∙ ap (λ (xs : List Section). section_bytes xs (codes ".debug_abbrev")) c.sections.ensures in
+    let section : c.debug_abbrev-section.result.now ≡ section_bytes ss (codes ".debug_abbrev") = c.debug_abbrev-section.ensures.value ∙ ap (λ (xs : List Section). section_bytes xs (codes ".debug_abbrev")) c.sections.ensures in
     let here : ℕ × UnitHeader = (c.args.number, unit) in
-    let stops : StopsAs stop (scanned ss here) = table_stops ss here c.get-section.result.now stop section c.in_err-table.ensures.value in
+    let stops : StopsAs stop (scanned ss here) = table_stops ss here c.debug_abbrev-section.result.now stop section c.in_err-table.ensures.value in
     let same : unit ≡ u = same_Some unit u (sym c.of-home.ensures.unit ∙ is) in
     let p = err_from_is_err_and c.from_residual.result c.from_residual.ensures.1 in
     rw (p.1, p.2) (subst (λ (x : UnitHeader). StopsAs stop (scanned ss (c.args.number, x))) same stops)
@@ -31,12 +31,12 @@ pub returns : goal.returns
 returns c =
     let im = c.args.image.now in
     let own = c.of-home.result.unit in
-    let section : c.get-section.result.now ≡ section_bytes im.sections (codes ".debug_abbrev") = c.get-section.ensures.value ∙ ap (λ (ss : List Section). section_bytes ss (codes ".debug_abbrev")) c.sections.ensures in
+    let section : c.debug_abbrev-section.result.now ≡ section_bytes im.sections (codes ".debug_abbrev") = c.debug_abbrev-section.ensures.value ∙ ap (λ (ss : List Section). section_bytes ss (codes ".debug_abbrev")) c.sections.ensures in
     record {
       value = λ u is.
           let same : own ≡ u = same_Some own u (sym c.of-home.ensures.unit ∙ is) in
           let at_number = subst (λ (k : ℕ). GivesFor (λ _ w. HoldsOneMore c.of-home.result.sections.now c.args.run.now c.unit.new.self w) c.unit.result (scanned c.of-home.result.sections.now (k, own))) c.of-home.ensures.number c.unit.ensures in
           let here = subst (λ (ss : List Section). GivesFor (λ _ w. HoldsOneMore ss c.args.run.now c.unit.new.self w) c.unit.result (scanned ss (c.args.number, own))) c.of-home.ensures.sections at_number in
           subst (λ (x : UnitHeader). GivesFor (λ _ w. HoldsOneMore im.sections c.args.run.now c.unit.new.self w) c.unit.result (scanned im.sections (c.args.number, x))) same here;
-      hand = λ x e. subst (λ (bytes : List ℕ). IsAtOffset bytes x) section (subst (IsAtOffset c.get-section.result.now) (sym c.insert.ensures.value ∙ same_Some c.insert.result.now x e) c.in_ok-table.ensures.place);
+      hand = λ x e. subst (λ (bytes : List ℕ). IsAtOffset bytes x) section (subst (IsAtOffset c.debug_abbrev-section.result.now) (sym c.insert.ensures.value ∙ same_Some c.insert.result.now x e) c.in_ok-table.ensures.place);
     }

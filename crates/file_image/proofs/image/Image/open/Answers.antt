@@ -18,10 +18,10 @@ returns c = opened c.args.file.now c.in_ok-sections.sections c.in_ok-sections.en
 pub invariant_of-result : goal.invariant_of-result
 invariant_of-result c = record {
   of_file = opened c.args.file.now c.in_ok-sections.sections c.in_ok-sections.ensures c.in_ok-units.units.items c.in_ok-units.ensures.value;
-  of_info = c.get.ensures.value;
-  of_types = c.get-2.ensures.value;
-  small_info = c.get.ensures.small;
-  small_types = c.get-2.ensures.small;
-  inside = rw (c.get.ensures.value, c.get-2.ensures.value) c.in_ok-units.ensures.inside;
+  of_info = c.debug_info.ensures.value;
+  of_types = c.get.ensures.value;
+  small_info = c.debug_info.ensures.small;
+  small_types = c.get.ensures.small;
+  inside = rw (c.debug_info.ensures.value, c.get.ensures.value) c.in_ok-units.ensures.inside;
   few = c.in_ok-units.ensures.few;
 }

@@ -30,13 +30,13 @@ pub returns-then-is_empty : goal.returns-then-is_empty
 returns-then-is_empty c =
     let file = c.args.file.now in
     let ss = map section c.in_ok-found.found.items in
-    let none = eqb-true (length c.get.result.now) 0 (sym c.is_empty.ensures ∙ c.if-is_empty.true) in
-    at_info file c.in_ok-check_ident.ensures.value c.in-Some.ensures.fits ss (rw (c.in-Some.ensures.count) at c.in_ok-found.ensures.value) (rw (c.deref.ensures.value) at c.in_ok-check_compressed.ensures) (rw c.get.ensures.value at none)
+    let none = eqb-true (length c.of-resolved.result.info.now) 0 (sym c.is_empty.ensures ∙ c.if-is_empty.true) in
+    at_info file c.in_ok-check_ident.ensures.value c.in-Some.ensures.fits ss (rw (c.in-Some.ensures.count) at c.in_ok-found.ensures.value) (rw (c.deref.ensures.value) at c.in_ok-check_compressed.ensures) (rw c.deref-2.ensures.value at (rw c.of-resolved.ensures.info.value at none))
 
 pub returns : goal.returns
 returns c =
     let file = c.args.file.now in
     let ss = map section c.in_ok-found.found.items in
-    let some = eqb-false (length c.get.result.now) 0 (sym c.is_empty.ensures ∙ c.if-is_empty.false) in
-    let more : 0 < length c.get.result.now = omega (arith, some) in
-    opened file c.in_ok-check_ident.ensures.value c.in-Some.ensures.fits ss (rw (c.in-Some.ensures.count) at c.in_ok-found.ensures.value) (rw (c.deref.ensures.value) at c.in_ok-check_compressed.ensures) (rw c.get.ensures.value at more)
+    let some = eqb-false (length c.of-resolved.result.info.now) 0 (sym c.is_empty.ensures ∙ c.if-is_empty.false) in
+    let more : 0 < length c.of-resolved.result.info.now = omega (arith, some) in
+    opened file c.in_ok-check_ident.ensures.value c.in-Some.ensures.fits ss (rw (c.in-Some.ensures.count) at c.in_ok-found.ensures.value) (rw (c.deref.ensures.value) at c.in_ok-check_compressed.ensures) (rw c.deref-2.ensures.value at (rw c.of-resolved.ensures.info.value at more))

@@ -36,8 +36,8 @@ of_sound-requires-clause-sound c =
     let number : c.args.span.now.unit ≡ h.home.number = span_number h.home c.args.span.now h.span in
     let home = c.of-home.result in
     let unit = subst (λ (n : ℕ). slice_get im.units n ≡ Some home.unit) number c.of-home.ensures.unit in
-    let section : c.get-section.result.now ≡ section_bytes im.sections (codes ".debug_abbrev") = c.get-section.ensures.value ∙ ap (λ (ss : List Section). section_bytes ss (codes ".debug_abbrev")) c.sections.ensures in
-    some_table im image p is h.home h.unit home c.of-home.ensures.sections (c.of-home.ensures.number ∙ number) unit c.get-section.result.now section
+    let section : c.debug_abbrev-section.result.now ≡ section_bytes im.sections (codes ".debug_abbrev") = c.debug_abbrev-section.ensures.value ∙ ap (λ (ss : List Section). section_bytes ss (codes ".debug_abbrev")) c.sections.ensures in
+    some_table im image p is h.home h.unit home c.of-home.ensures.sections (c.of-home.ensures.number ∙ number) unit c.debug_abbrev-section.result.now section
 
 pub node_within-requires-clause-sound : goal.node_within-requires-clause-sound
 node_within-requires-clause-sound c =
@@ -51,11 +51,11 @@ node_within-requires-clause-sound c =
     let number : c.args.span.now.unit ≡ h.home.number = span_number h.home c.args.span.now h.span in
     let home = c.of-home.result in
     let unit = subst (λ (n : ℕ). slice_get im.units n ≡ Some home.unit) number c.of-home.ensures.unit in
-    let section : c.get-section.result.now ≡ section_bytes im.sections (codes ".debug_abbrev") = c.get-section.ensures.value ∙ ap (λ (ss : List Section). section_bytes ss (codes ".debug_abbrev")) c.sections.ensures in
+    let section : c.debug_abbrev-section.result.now ≡ section_bytes im.sections (codes ".debug_abbrev") = c.debug_abbrev-section.ensures.value ∙ ap (λ (ss : List Section). section_bytes ss (codes ".debug_abbrev")) c.sections.ensures in
     let own : home.bytes.now ≡ unit_bytes home.sections.now home.unit = c.of-home.ensures.own ∙ ap (λ (ss : List Section). unit_bytes ss home.unit) (sym c.of-home.ensures.sections) in
     let t = c.insert-table.result.now in
-    let read = subst (λ (x : Table). table c.get-section.result.now home.unit.«abbrev» ≡ Some x.abbrevs) (sym c.insert-table.ensures.value) c.in_ok-table.ensures.value in
-    sound im image p is h.home h.unit home c.of-home.ensures.sections (c.of-home.ensures.number ∙ number) unit own c.of-home.ensures.header c.get-section.result.now section t.abbrevs read
+    let read = subst (λ (x : Table). table c.debug_abbrev-section.result.now home.unit.«abbrev» ≡ Some x.abbrevs) (sym c.insert-table.ensures.value) c.in_ok-table.ensures.value in
+    sound im image p is h.home h.unit home c.of-home.ensures.sections (c.of-home.ensures.number ∙ number) unit own c.of-home.ensures.header c.debug_abbrev-section.result.now section t.abbrevs read
 
 pub node_within-requires-clause-span : goal.node_within-requires-clause-span
 node_within-requires-clause-span c =
@@ -69,11 +69,11 @@ node_within-requires-clause-span c =
     let number : c.args.span.now.unit ≡ h.home.number = span_number h.home c.args.span.now h.span in
     let home = c.of-home.result in
     let unit = subst (λ (n : ℕ). slice_get im.units n ≡ Some home.unit) number c.of-home.ensures.unit in
-    let section : c.get-section.result.now ≡ section_bytes im.sections (codes ".debug_abbrev") = c.get-section.ensures.value ∙ ap (λ (ss : List Section). section_bytes ss (codes ".debug_abbrev")) c.sections.ensures in
+    let section : c.debug_abbrev-section.result.now ≡ section_bytes im.sections (codes ".debug_abbrev") = c.debug_abbrev-section.ensures.value ∙ ap (λ (ss : List Section). section_bytes ss (codes ".debug_abbrev")) c.sections.ensures in
     let own : home.bytes.now ≡ unit_bytes home.sections.now home.unit = c.of-home.ensures.own ∙ ap (λ (ss : List Section). unit_bytes ss home.unit) (sym c.of-home.ensures.sections) in
     let t = c.insert-table.result.now in
-    let read = subst (λ (x : Table). table c.get-section.result.now home.unit.«abbrev» ≡ Some x.abbrevs) (sym c.insert-table.ensures.value) c.in_ok-table.ensures.value in
-    in_spans im image p is h.home h.unit home c.of-home.ensures.sections (c.of-home.ensures.number ∙ number) unit own c.of-home.ensures.header c.get-section.result.now section t.abbrevs read c.args.span.now h.span
+    let read = subst (λ (x : Table). table c.debug_abbrev-section.result.now home.unit.«abbrev» ≡ Some x.abbrevs) (sym c.insert-table.ensures.value) c.in_ok-table.ensures.value in
+    in_spans im image p is h.home h.unit home c.of-home.ensures.sections (c.of-home.ensures.number ∙ number) unit own c.of-home.ensures.header c.debug_abbrev-section.result.now section t.abbrevs read c.args.span.now h.span
 
 pub node_within-requires-clause-parent : goal.node_within-requires-clause-parent
 node_within-requires-clause-parent c =
@@ -87,11 +87,11 @@ node_within-requires-clause-parent c =
     let number : c.args.span.now.unit ≡ h.home.number = span_number h.home c.args.span.now h.span in
     let home = c.of-home.result in
     let unit = subst (λ (n : ℕ). slice_get im.units n ≡ Some home.unit) number c.of-home.ensures.unit in
-    let section : c.get-section.result.now ≡ section_bytes im.sections (codes ".debug_abbrev") = c.get-section.ensures.value ∙ ap (λ (ss : List Section). section_bytes ss (codes ".debug_abbrev")) c.sections.ensures in
+    let section : c.debug_abbrev-section.result.now ≡ section_bytes im.sections (codes ".debug_abbrev") = c.debug_abbrev-section.ensures.value ∙ ap (λ (ss : List Section). section_bytes ss (codes ".debug_abbrev")) c.sections.ensures in
     let own : home.bytes.now ≡ unit_bytes home.sections.now home.unit = c.of-home.ensures.own ∙ ap (λ (ss : List Section). unit_bytes ss home.unit) (sym c.of-home.ensures.sections) in
     let t = c.insert-table.result.now in
-    let read = subst (λ (x : Table). table c.get-section.result.now home.unit.«abbrev» ≡ Some x.abbrevs) (sym c.insert-table.ensures.value) c.in_ok-table.ensures.value in
-    span_of_parent im image p is h.home h.unit home c.of-home.ensures.sections (c.of-home.ensures.number ∙ number) unit own c.of-home.ensures.header c.get-section.result.now section t.abbrevs read c.args.span.now c.args.offset h.parent
+    let read = subst (λ (x : Table). table c.debug_abbrev-section.result.now home.unit.«abbrev» ≡ Some x.abbrevs) (sym c.insert-table.ensures.value) c.in_ok-table.ensures.value in
+    span_of_parent im image p is h.home h.unit home c.of-home.ensures.sections (c.of-home.ensures.number ∙ number) unit own c.of-home.ensures.header c.debug_abbrev-section.result.now section t.abbrevs read c.args.span.now c.args.offset h.parent
 
 pub returns-clause-value : goal.returns-clause-value
 returns-clause-value c p given =
@@ -103,8 +103,8 @@ returns-clause-value c p given =
     let number : c.args.span.now.unit ≡ h.home.number = span_number h.home c.args.span.now h.span in
     let home = c.of-home.result in
     let unit = subst (λ (n : ℕ). slice_get im.units n ≡ Some home.unit) number c.of-home.ensures.unit in
-    let section : c.get-section.result.now ≡ section_bytes im.sections (codes ".debug_abbrev") = c.get-section.ensures.value ∙ ap (λ (ss : List Section). section_bytes ss (codes ".debug_abbrev")) c.sections.ensures in
+    let section : c.debug_abbrev-section.result.now ≡ section_bytes im.sections (codes ".debug_abbrev") = c.debug_abbrev-section.ensures.value ∙ ap (λ (ss : List Section). section_bytes ss (codes ".debug_abbrev")) c.sections.ensures in
     let own : home.bytes.now ≡ unit_bytes home.sections.now home.unit = c.of-home.ensures.own ∙ ap (λ (ss : List Section). unit_bytes ss home.unit) (sym c.of-home.ensures.sections) in
     let t = c.insert-table.result.now in
-    let read = subst (λ (x : Table). table c.get-section.result.now home.unit.«abbrev» ≡ Some x.abbrevs) (sym c.insert-table.ensures.value) c.in_ok-table.ensures.value in
-    node_there im image p is h.home h.unit home c.of-home.ensures.sections (c.of-home.ensures.number ∙ number) unit own c.of-home.ensures.header c.get-section.result.now section t.abbrevs read c.args.span.now c.args.offset h.same c.node_within.result c.node_within.ensures
+    let read = subst (λ (x : Table). table c.debug_abbrev-section.result.now home.unit.«abbrev» ≡ Some x.abbrevs) (sym c.insert-table.ensures.value) c.in_ok-table.ensures.value in
+    node_there im image p is h.home h.unit home c.of-home.ensures.sections (c.of-home.ensures.number ∙ number) unit own c.of-home.ensures.header c.debug_abbrev-section.result.now section t.abbrevs read c.args.span.now c.args.offset h.same c.node_within.result c.node_within.ensures
