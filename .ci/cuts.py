@@ -10,7 +10,7 @@ import subprocess
 import sys
 import tempfile
 
-ROWS = os.path.join(os.path.dirname(os.path.dirname(os.path.abspath(__file__))), "tools", "rows")
+ROWS = os.path.join(os.path.dirname(os.path.dirname(os.path.abspath(__file__))), "rows", "vectors")
 ANSWER = "found 1\n0 1e 2e function global name main\n"
 
 # Lengths, first and last, with what is refused then.

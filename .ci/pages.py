@@ -13,7 +13,7 @@ import subprocess
 import sys
 
 TOP = os.path.dirname(os.path.dirname(os.path.abspath(__file__)))
-PAGES = ["README.md", "CONTRIBUTING.md", "CHANGELOG.md", "SECURITY.md", *sorted(glob.glob("docs/*.md", root_dir=TOP))]
+PAGES = ["README.md", "CONTRIBUTING.md", "CHANGELOG.md", "SECURITY.md", "rows/README.md", *sorted(glob.glob("docs/*.md", root_dir=TOP))]
 NAME = r"[A-Za-z_]\w*"
 # How a name is declared, in Rattle and in antt.
 DECLARED = (
@@ -81,7 +81,7 @@ def links(page):
     """What a page leads to: the targets of its links, and paths in its text."""
     text = read(page)
     yield from (target for target in re.findall(r"\]\(([^)#]+)[^)]*\)", text) if "://" not in target)
-    for path in re.findall(r"(?<![\w/.~-])((?:docs|crates|tools|man|completions|\.ci)/[\w./*-]*\w)", text):
+    for path in re.findall(r"(?<![\w/.~-])((?:docs|crates|tools|rows|man|completions|\.ci)/[\w./*-]*\w)", text):
         yield os.path.relpath(path, os.path.dirname(page) or ".")
 
 

@@ -13,7 +13,7 @@ import sys
 import tempfile
 
 HERE = os.path.dirname(os.path.abspath(__file__))
-ROWS = os.path.join(os.path.dirname(HERE), "tools", "rows")
+ROWS = os.path.join(os.path.dirname(HERE), "rows", "vectors")
 # Commands, with what stands in their input. The first words name files of FILES; OUT is one that is stored.
 COMMANDS = [
     (["ask", "FILE", "name", "main"], b""),

@@ -1,7 +1,7 @@
 #!/usr/bin/env python3
 """python3 rows.py PROGRAM
 
-Runs PROGRAM over the rows of tools/rows and .ci/rows, each in a folder with copies of the row's files, with the row's `stdin` as
+Runs PROGRAM over the rows in rows/, each in a folder with copies of the row's files, with the row's `stdin` as
 its input, and compares what it writes, its status and the files that it stores with what the row says. The folders that a row names
 in `dirs` are made first. A row that could name a number of workers and doesn't is run again with 1, 2, 8 and 64: none of them may change a byte. The last line is
 'rows: N passed, M failed'."""
@@ -12,7 +12,7 @@ import sys
 import tempfile
 
 HERE = os.path.dirname(os.path.abspath(__file__))
-FOLDERS = (os.path.join(os.path.dirname(HERE), "tools", "rows"), os.path.join(HERE, "rows"))
+FOLDERS = tuple(os.path.join(os.path.dirname(HERE), "rows", kind) for kind in ("vectors", "program"))
 # What lies in a row's folder beside the files that the program reads.
 TOLD = {"args", "stdin", "stdout", "status", "expect", "dirs"}
 # How many words stand before the option of the number of workers.

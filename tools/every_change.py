@@ -1,7 +1,7 @@
 #!/usr/bin/env python3
 """python3 tools/every_change.py PROGRAM [--files N] [--jobs J] [--match PREFIX] [--seconds T]
 
-Takes the worked programs and indexes of tools/rows, the small ones first, and makes of each every cut (each proper prefix) and
+Takes the worked programs and indexes of rows/vectors, the small ones first, and makes of each every cut (each proper prefix) and
 every change of one bit. The status of PROGRAM on each of them, what it writes and what it stores have to be those of the reading in
 tools/reading. The last line is 'every change: N passed, M failed'."""
 import argparse

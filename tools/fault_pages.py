@@ -2,7 +2,7 @@
 """fault_pages.py            writes docs/FAULTS.md from the tables of crates/fault_words
 fault_pages.py --check    says what differs from it
 
-The tables stand once, in the crate (src/fault.rt, src/end.rt). Beside each code stands a row of tools/rows or .ci/rows that gives it."""
+The tables stand once, in the crate (src/fault.rt, src/end.rt). Beside each code stands a row in rows/vectors or rows/program that gives it."""
 import os
 import re
 import sys
@@ -10,7 +10,7 @@ import sys
 TOP = os.path.dirname(os.path.dirname(os.path.abspath(__file__)))
 CRATE = os.path.join(TOP, "crates", "fault_words", "src")
 PAGE = os.path.join(TOP, "docs", "FAULTS.md")
-ROWS = ("tools/rows", ".ci/rows")
+ROWS = ("rows/vectors", "rows/program")
 FAULT_LINE = re.compile(rb"^(?:\d )?(?:(?:index |aranges |files )?refused|stale) (\d+) ([0-9a-f]+)$", re.M)
 TEXT = r'"((?:[^"\\]|\\.)*)"'
 # What a place is, by the word of its row.

@@ -4,10 +4,10 @@
     gen_vectors.py           writes its modules anew
     gen_vectors.py --check   says which of them are not what it would write; status 1 where there are some
     gen_vectors.py --opened  writes proofs/Opened.antt alone, after the definitions have changed
-    gen_vectors.py --take FOLDER   copies the rows that rows.txt names from the folder into tools/rows
+    gen_vectors.py --take FOLDER   copies the rows that vectors.txt names from the folder into rows/vectors
 
 A row is a folder: the words of a command in `args`, what it must write in `stdout`, its `status`, and the files that it reads
-by their own names.  What it must store lies in `expect`.  The rows and their groups are listed in rows.txt.  Nothing expected
+by their own names.  What it must store lies in `expect`.  The rows and their groups are listed in vectors.txt.  Nothing expected
 is computed here: it is what the row's own files say.
 
 The words that the statements are made of (Prints, WritesGdb8, ..) stand in specs/Says.antt, which is written by hand."""
@@ -21,8 +21,8 @@ from vector_parts import PART, homes_of, joined, share
 TOOLS = os.path.dirname(os.path.abspath(__file__))
 CRATES = os.path.join(os.path.dirname(TOOLS), 'crates')
 CRATE = os.path.join(CRATES, 'index_vectors')
-ROWS = os.path.join(TOOLS, 'rows')
-LIST = os.path.join(TOOLS, 'rows.txt')
+ROWS = os.path.join(os.path.dirname(TOOLS), 'rows', 'vectors')
+LIST = os.path.join(os.path.dirname(TOOLS), 'rows', 'vectors.txt')
 WRITTEN = 'Written by tools/gen_vectors.py; not to be changed by hand.'
 # the crates whose definitions a computation opens, as far as the statements use them
 OPENED = ('ix_base', 'index_model', 'reach_model', 'index_vectors')
@@ -37,7 +37,7 @@ def read(path):
 
 
 def groups():
-    """(name, doc, rows) of each group of rows.txt."""
+    """(name, doc, rows) of each group of vectors.txt."""
     found = []
     for line in read(LIST).decode().split('\n'):
         if not line.strip() or line.startswith('#'):
@@ -55,7 +55,7 @@ def groups():
 
 
 def missing(found):
-    """The listed rows that tools/rows doesn't have, and those of tools/rows that aren't listed."""
+    """The listed rows that rows/vectors doesn't have, and those of rows/vectors that aren't listed."""
     wanted, have = {row for _, _, rows in found for row in rows}, set(os.listdir(ROWS)) if os.path.isdir(ROWS) else set()
     return sorted(wanted - have), sorted(have - wanted)
 
@@ -243,7 +243,7 @@ returns c = record {{
 LIB = '''// {written}
 //! What the definitions of `index_model` give for whole small files, computed by the checker.
 //!
-//! Each function does nothing. Its contract is a group of facts, one for each row of `tools/rows`: what a file prints for a
+//! Each function does nothing. Its contract is a group of facts, one for each row in `rows/vectors`: what a file prints for a
 //! query, the bytes of an index, or what a look-up in an index prints. The rows say what is expected, and the checker computes
 //! the definitions on the bytes until both are the same.
 #![tactic(auto)]
@@ -371,7 +371,7 @@ def modules():
     found, files = groups(), {}
     absent, unlisted = missing(found)
     if absent or unlisted:
-        sys.exit('rows without a folder: %s; folders that rows.txt does not list: %s' % (absent, unlisted))
+        sys.exit('rows without a folder: %s; folders that vectors.txt does not list: %s' % (absent, unlisted))
     all_stated = list(stated(found))
     items, parts = share({(camel(name), file): data for name, _, group, _ in all_stated for data, file in group.files.items()})
     homes = homes_of(parts)
@@ -403,7 +403,7 @@ def check(files):
     for name in other:
         print('%s is not what the script writes' % name)
     for name in left:
-        print('%s is no group of rows.txt' % name)
+        print('%s is no group of vectors.txt' % name)
     return 1 if other or left else 0
 
 

@@ -4,7 +4,7 @@
     test_files.py           writes them anew
     test_files.py --check   says which of them are not what it would write; status 1 where there are some
 
-A program or an index is that of a row of tools/rows (gen_vectors.py says what a row is), whose `stdout` says what is to be found in
+A program or an index is that of a row in rows/vectors (gen_vectors.py says what a row is), whose `stdout` says what is to be found in
 it. A generated file is what generated.py writes of a seed and a number of units."""
 import os
 import re

@@ -1,7 +1,7 @@
 #!/usr/bin/env python3
 """python3 tools/reading/check_rows.py [FOLDER ..]
 
-Reads the rows of tools/rows and .ci/rows, or those of the folders, and compares what the reading says with what they say: what is
+Reads the rows in rows/, or those of the folders, and compares what the reading says with what they say: what is
 written, the status and what is stored. Rows of `serve`, `race` and `drill` are left out, but for those whose words aren't in the
 grammar. The last line is 'rows read: N passed, M failed'."""
 import os
@@ -13,7 +13,7 @@ sys.path.insert(0, TOOLS)
 from reading.commands import Unread, run      # noqa: E402
 from reading.shelves import MemoryShelf       # noqa: E402
 
-FOLDERS = (os.path.join(TOOLS, "rows"), os.path.join(os.path.dirname(TOOLS), ".ci", "rows"))
+FOLDERS = tuple(os.path.join(os.path.dirname(TOOLS), "rows", kind) for kind in ("vectors", "program"))
 TOLD = {"args", "stdin", "stdout", "status", "expect", "dirs", "sink", "stdin_fails", "about"}
 
 

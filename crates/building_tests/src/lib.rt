@@ -1,6 +1,6 @@
 //! Tests of the crates that make an index of what was read.
 //!
-//! One happy path of each public call, over programs of tools/rows. Faults and rare cases are rows of their own there.
+//! One happy path of each public call, over programs of rows/. Faults and rare cases are rows of their own there.
 #![tactic(auto)]
 
 #[cfg(test)]

@@ -1,5 +1,5 @@
 //! outside and index_cmd: each call of each device fails in turn, until a run has no failure. What a command gives where none fails is
-//! that of its row in tools/rows.
+//! that of its row in rows/vectors.
 
 use crate::cases::{Case, Device};
 use std::alloc::Global;

@@ -1,4 +1,4 @@
-//! elf_add: what a small program says to sections that are to be added. What is made of them is a row of tools/rows.
+//! elf_add: what a small program says to sections that are to be added. What is made of them is a row in rows/vectors.
 
 use elf_add::{AddStop, Adder};
 use std::test::Fail;

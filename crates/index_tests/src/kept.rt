@@ -1,4 +1,4 @@
-//! index_cache: the index of one small program, kept by its build-id. Faults are rows of tools/rows.
+//! index_cache: the index of one small program, kept by its build-id. Faults are rows in rows/vectors.
 
 use file_image::Sections;
 use index_cache::{build_id, cache_name, make, open};

@@ -1,7 +1,7 @@
 // Written by tools/gen_vectors.py; not to be changed by hand.
 //! What the definitions of `index_model` give for whole small files, computed by the checker.
 //!
-//! Each function does nothing. Its contract is a group of facts, one for each row of `tools/rows`: what a file prints for a
+//! Each function does nothing. Its contract is a group of facts, one for each row in `rows/vectors`: what a file prints for a
 //! query, the bytes of an index, or what a look-up in an index prints. The rows say what is expected, and the checker computes
 //! the definitions on the bytes until both are the same.
 #![tactic(auto)]

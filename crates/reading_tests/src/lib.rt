@@ -1,7 +1,7 @@
 //! Tests of the crates that read programs.
 //!
 //! One happy path of each public call, whose values come from the standards, from readelf or from what a file was written as. Faults
-//! and rare cases are rows of tools/rows.
+//! and rare cases are rows in rows/vectors.
 #![tactic(auto)]
 
 #[cfg(test)]
