@@ -1,16 +1,21 @@
 -- A file with an image, and one without.
-use Rattle.std.proofs.Common.{◌≡◌, ℕ, List, Some, Result, Ok, Err, refl}
+use Rattle.std.proofs.Common.{◌≡◌, ℕ, List, Some, Result, Ok, Err, refl, sym, subst}
+use Rattle.std.specs.Prelude.{IfOk}
+use Rattle.std.specs.List.{enumerate_from}
 use Rattle.ix_base.specs.declared.fault.Fault.{Fault}
 use Rattle.index_model.specs.declared.unit.Unit.{Unit as UnitHeader}
 use Rattle.index_model.specs.Faults.{first_fault}
 use Rattle.index_model.specs.LawsCore.{early_fault}
 use Rattle.index_model.specs.Meaning.{◌>>=◌}
 use Rattle.index_model.specs.Sections.{Section, sections_of}
+use Rattle.index_model.specs.Machine.{IsCut}
+use Rattle.index_model.specs.Outputs.{Subject}
 use Rattle.index_model.specs.Units.{units_of}
 use Rattle.index_model.proofs.CoreRight.{early_is_first}
 use Rattle.stage_core.specs.Cut.{HasUnits}
 use Rattle.file_image.specs.Images.{Image, image_of}
 use Rattle.file_image.proofs.Images.{parts_of}
+use Rattle.index_board.specs.Boards.{IsCutOf}
 
 module _ (file : List ℕ) (f : Fault) where
   abbrev made : List Section → List UnitHeader → Image
@@ -39,3 +44,11 @@ module _ (file : List ℕ) (f : Fault) where
 -- an image has the units of its file
 pub has_units : (file : List ℕ) (image : Image) → image_of file ≡ Ok image → HasUnits file image.units
 has_units file image is = let p = parts_of file image is in record { sections = image.sections; sections_are = p.sections; units_are = p.units }
+
+-- a board over a core of these units has the cut of the file's units
+pub cut_by : {B E : Type 0} (made : Result B E) (subject : B → Subject) (s : Subject) (file : List ℕ) (image : Image) (units : List UnitHeader) (shards : ℕ) → image_of file ≡ Ok image → units ≡ image.units → IsCut (enumerate_from 0 units) shards s.runs → IfOk made (λ m. subject m ≡ s) → IfOk made (λ m. IsCutOf (image_of file) shards (subject m).runs)
+cut_by (Ok m) subject s file image units shards is same cut by =
+    let over : IsCut (enumerate_from 0 image.units) shards s.runs = subst (λ (us : List UnitHeader). IsCut (enumerate_from 0 us) shards s.runs) same cut in
+    let kept : IsCut (enumerate_from 0 image.units) shards (subject m).runs = subst (λ (x : Subject). IsCut (enumerate_from 0 image.units) shards x.runs) (sym by) over in
+    subst (λ (r : Result Image Fault). IsCutOf r shards (subject m).runs) (sym is) kept
+cut_by (Err e) subject s file image units shards is same cut by = tt
