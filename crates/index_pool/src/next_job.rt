@@ -17,7 +17,8 @@ use std::alloc::Global;
 use std::sync::Wait;
 use std::thread::Threads;
 
-/// Draws the next job, does it and finishes it. May wait. The gate is told before and after. Answers whether there was one.
+/// Draws the next job, does it and finishes it. May wait. The gate is told of the job's begin before the job is done, and of its
+/// end after it is finished, so that what it made is published then. Answers whether there was one.
 pub(crate) fn do_next<'f, R: Threads + Wait + Sync, G: Gate>(
     rt: &R,
     alloc: Global,
