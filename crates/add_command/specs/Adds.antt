@@ -8,8 +8,7 @@ use Rattle.index_model.specs.Faults.{Built, built_of, first_fault}
 use Rattle.reach_model.specs.Added.{Addition, added}
 use Rattle.reach_model.specs.AddedIndex.{addition_of, is_crowded, is_indexed}
 use Rattle.outside.specs.Files.{Files, SameFiles, Stored, StoredOrPrefix}
-use Rattle.command_base.specs.FilesRead.{Holds}
-use Rattle.command_base.specs.Replies.{IsRefusalOf}
+use Rattle.command_base.specs.Replies.{IsRefusalOf, OfFileBytes}
 use Rattle.command_base.specs.declared.status.Status.{Status}
 use Rattle.command_base.specs.declared.status.Status.TheVariants.{Answered, Refused, StoreFault, WriteFault, NoMemory, IndexRefused, IndexTooLarge, AlreadyIndexed, TooManySections}
 
@@ -23,7 +22,7 @@ pub record ForProgram (file : List ℕ) (kind : CacheKind) (P : List ℕ → Lis
 
 -- what holds of the program with this name; where files aren't told, of some bytes
 abbrev pub ForNamedProgram : Option Files → List ℕ → CacheKind → (List ℕ → List Section → Cache → Type 0) → Type 0
-ForNamedProgram told name kind P = (bytes : List ℕ) × Holds told name bytes × ForProgram bytes kind P
+ForNamedProgram told name kind P = OfFileBytes told name (λ bytes. ForProgram bytes kind P)
 
 -- the program has a section for an index of this kind
 abbrev pub HasIndex : CacheKind → List ℕ → List Section → Cache → Type 0

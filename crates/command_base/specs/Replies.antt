@@ -1,6 +1,7 @@
 -- What a command writes, and when each status comes.
 use Rattle.std.specs.Prelude.{◌≡◌, ◌⊎◌, ℕ, ◌≤◌, List, [], ◌∷◌, length, codes, Option, Some, None, Result, Ok, Err, ⊤}
 use Rattle.ix_base.specs.declared.fault.Fault.{Fault}
+use Rattle.ix_base.specs.declared.limits.TheConstants.{MAX_FILE_BYTES}
 use Rattle.index_model.specs.declared.job.CacheKind.TheVariants.{Gdb8}
 use Rattle.index_model.specs.Answers.{Reply, Answered as Replied, Refused as Refuses, answer_to}
 use Rattle.index_model.specs.Cache.{Cache, DoesNotFit, size_in}
@@ -28,9 +29,13 @@ pub record IsRefusalOf (file text : List ℕ) : Type 0 where
   pub first : first_fault file ≡ Some fault
   pub text_is : text ≡ text_of_fault fault
 
--- the file with this name holds such bytes; where files aren't told there are such bytes
+-- the file with this name holds such bytes, at most so many; where files aren't told there are such bytes
+abbrev pub OfBytesUpTo : ℕ → Option Files → List ℕ → (List ℕ → Type 0) → Type 0
+OfBytesUpTo most told file P = (bytes : List ℕ) × Holds told file bytes × (length bytes ≤ most) × P bytes
+
+-- the same, within the limit of a program, of an index and of its strings
 abbrev pub OfFileBytes : Option Files → List ℕ → (List ℕ → Type 0) → Type 0
-OfFileBytes told file P = (bytes : List ℕ) × Holds told file bytes × P bytes
+OfFileBytes told file P = OfBytesUpTo MAX_FILE_BYTES told file P
 
 -- ---- results
 

@@ -1,5 +1,5 @@
 -- A second file is read behind the first.
-use Rattle.std.proofs.Common.{◌≡◌, ℕ, List, Option, refl}
+use Rattle.std.proofs.Common.{◌≡◌, ℕ, ◌≤◌, List, length, Option, refl}
 use Rattle.outside.specs.Files.{Files}
 use Rattle.outside.proofs.WrittenLaws.{appends_none}
 use Rattle.command_base.specs.FilesRead.{Holds, HoldsMore}
@@ -14,8 +14,8 @@ use Rattle.session_commands.specs.RaceEnds.{CausesOfRace}
 use Rattle.index_cmd.specs.Doings.{CausesBeside, SaysBeside}
 
 -- what is said of its bytes
-pub wrote_beside : (told : Option Files) (file held : List ℕ) (Meaning : List ℕ → Status → List ℕ → Type 0) → Holds told file held → (status : Status) (old new : Option (List ℕ)) → Wrote (Meaning held) status old new → Wrote (SaysBeside told file Meaning) status old new
-wrote_beside told file held Meaning holds status old new w = wrote_weaker (Meaning held) (SaysBeside told file Meaning) (λ s text says. (held, holds, says)) status old new w
+pub wrote_beside : (told : Option Files) (file held : List ℕ) (most : ℕ) (Meaning : List ℕ → Status → List ℕ → Type 0) → Holds told file held → length held ≤ most → (status : Status) (old new : Option (List ℕ)) → Wrote (Meaning held) status old new → Wrote (SaysBeside told file most Meaning) status old new
+wrote_beside told file held most Meaning holds small status old new w = wrote_weaker (Meaning held) (SaysBeside told file most Meaning) (λ s text says. (held, holds, small, says)) status old new w
 
 -- where it wasn't read, nothing is written
 pub wrote_stopped : (Says : Status → List ℕ → Type 0) (out : Option (List ℕ)) (stop : ReadStop) → Wrote Says (stop_status stop) out out

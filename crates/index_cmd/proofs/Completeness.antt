@@ -110,10 +110,10 @@ module _ (files : Files) (reads stores writes : Type 0) (old new : Option (List 
     meant : (status : Status) → Plain asked (Some files) reads stores writes old new status → IsMeant bytes (status_code status)
     meant status (answers w) = record {
       answered = λ _. inl refl;
-      refused = λ f first. let same = same_bytes (files file) w.1.0 bytes w.1.1 holds in absurd (none_some f (sym (accepted_built w.1.0 w.1.2.built w.1.2.accepted) ∙ ap first_fault same ∙ first));
+      refused = λ f first. let same = same_bytes (files file) w.1.0 bytes w.1.1 holds in absurd (none_some f (sym (accepted_built w.1.0 w.1.3.built w.1.3.accepted) ∙ ap first_fault same ∙ first));
     }
     meant status (refuses w) = record {
-      answered = λ accepted. let same = same_bytes (files file) w.1.0 bytes w.1.1 holds in absurd (none_some w.1.2.fault (sym accepted ∙ ap first_fault (sym same) ∙ w.1.2.first));
+      answered = λ accepted. let same = same_bytes (files file) w.1.0 bytes w.1.1 holds in absurd (none_some w.1.3.fault (sym accepted ∙ ap first_fault (sym same) ∙ w.1.3.first));
       refused = λ f first. inl refl;
     }
     meant status (table_refuses table w) = absurd w.1
@@ -151,10 +151,10 @@ module _ (files : Files) (reads stores writes : Type 0) (old new : Option (List 
     look_meant : (status : Status) → Plain looked (Some files) reads stores writes old new status → IsLookMeant bytes (status_code status)
     look_meant status (answers w) = record {
       answered = λ index is. inl refl;
-      refused = λ f is. let same = same_bytes (files file) w.1.0 bytes w.1.1 holds in absurd (both w.1.2.index f (ap gdb_index (sym same) ∙ w.1.2.accepted) is);
+      refused = λ f is. let same = same_bytes (files file) w.1.0 bytes w.1.1 holds in absurd (both w.1.3.index f (ap gdb_index (sym same) ∙ w.1.3.accepted) is);
     }
     look_meant status (index_refuses w) = record {
-      answered = λ index is. let same = same_bytes (files file) w.1.0 bytes w.1.1 holds in absurd (both index w.1.2.fault is (ap gdb_index (sym same) ∙ w.1.2.first));
+      answered = λ index is. let same = same_bytes (files file) w.1.0 bytes w.1.1 holds in absurd (both index w.1.3.fault is (ap gdb_index (sym same) ∙ w.1.3.first));
       refused = λ f is. inl refl;
     }
     look_meant status (refuses w) = absurd w.1
@@ -183,9 +183,9 @@ module _ (files : Files) (reads stores writes : Type 0) (old new : Option (List 
     by_line : (status : Status) (text : List ℕ) → line_of status ≡ Some text → Causes stored (Some files) reads stores writes status → IsIndexMeant bytes kind (status_code status)
     by_line NoMemory text is c = record { stored = λ b e fit. inr refl; too_large = λ b e large. inr refl; refused = λ f first. inr refl }
     by_line IndexTooLarge text is c = record {
-      stored = λ b e fit. absurd (fit (ap (cache_in kind) (sym (one_built c.2.built b c.0 c.1 c.2.accepted e)) ∙ c.2.holds));
+      stored = λ b e fit. absurd (fit (ap (cache_in kind) (sym (one_built c.3.built b c.0 c.1 c.3.accepted e)) ∙ c.3.holds));
       too_large = λ b e large. inl refl;
-      refused = λ f first. absurd (no_fault c.2.built c.0 f c.1 c.2.accepted first);
+      refused = λ f first. absurd (no_fault c.3.built c.0 f c.1 c.3.accepted first);
     }
     by_line Usage text is c = absurd (cc c)
     by_line ReadFault text is c = absurd (no_read c)
@@ -205,11 +205,11 @@ module _ (files : Files) (reads stores writes : Type 0) (old new : Option (List 
     index_meant : (status : Status) → Plain stored (Some files) reads stores writes old new status → LeavesAtEnd stored (Some files) shelf status → IsIndexMeant bytes kind (status_code status)
     index_meant status (answers w) left = record {
       stored = λ b e fit. inl refl;
-      too_large = λ b e large. absurd (kept_fits (cache_in kind left.2.built) left.2.holds (ap (cache_in kind) (one_built left.2.built b left.0 left.1 left.2.accepted e) ∙ large));
-      refused = λ f first. absurd (no_fault left.2.built left.0 f left.1 left.2.accepted first);
+      too_large = λ b e large. absurd (kept_fits (cache_in kind left.3.built) left.3.holds (ap (cache_in kind) (one_built left.3.built b left.0 left.1 left.3.accepted e) ∙ large));
+      refused = λ f first. absurd (no_fault left.3.built left.0 f left.1 left.3.accepted first);
     }
     index_meant status (refuses w) left =
-        let none : (b : Built) → built_of bytes ≡ Ok b → ⊥ = λ b e. no_fault b bytes w.1.2.fault holds e (ap first_fault (sym (same_bytes (files file) w.1.0 bytes w.1.1 holds)) ∙ w.1.2.first) in
+        let none : (b : Built) → built_of bytes ≡ Ok b → ⊥ = λ b e. no_fault b bytes w.1.3.fault holds e (ap first_fault (sym (same_bytes (files file) w.1.0 bytes w.1.1 holds)) ∙ w.1.3.first) in
         record { stored = λ b e fit. absurd (none b e); too_large = λ b e large. absurd (none b e); refused = λ f first. inl refl }
     index_meant status (table_refuses table w) left = absurd w.1
     index_meant status (index_refuses w) left = absurd w.1
@@ -224,7 +224,7 @@ module _ (files : Files) (reads stores writes : Type 0) (old new : Option (List 
 
     -- what holds of the program with this name holds of these bytes
     of_these : (P : List ℕ → List Section → Cache → Type 0) → ForNamedProgram (Some files) file kind P → ForProgram bytes kind P
-    of_these P h = subst (λ (own : List ℕ). ForProgram own kind P) (same_bytes (files file) h.0 bytes h.1 holds) h.2
+    of_these P h = subst (λ (own : List ℕ). ForProgram own kind P) (same_bytes (files file) h.0 bytes h.1 holds) h.3
 
     add_line : (status : Status) (text : List ℕ) → line_of status ≡ Some text → Causes with_index (Some files) reads stores writes status → IsAddMeant bytes kind (status_code status)
     add_line NoMemory text is c = short_of_memory bytes kind
@@ -246,7 +246,7 @@ module _ (files : Files) (reads stores writes : Type 0) (old new : Option (List 
 
     add_meant : (status : Status) → Plain with_index (Some files) reads stores writes old new status → LeavesAtEnd with_index (Some files) shelf status → IsAddMeant bytes kind (status_code status)
     add_meant status (answers w) left = when_stored bytes kind (Stored (Some files) shelf out) (of_these (OfAdded kind (Stored (Some files) shelf out)) left)
-    add_meant status (refuses w) left = when_refused bytes kind w.1.2.fault (ap first_fault (sym (same_bytes (files file) w.1.0 bytes w.1.1 holds)) ∙ w.1.2.first)
+    add_meant status (refuses w) left = when_refused bytes kind w.1.3.fault (ap first_fault (sym (same_bytes (files file) w.1.0 bytes w.1.1 holds)) ∙ w.1.3.first)
     add_meant status (table_refuses table w) left = absurd w.1
     add_meant status (index_refuses w) left = absurd w.1
     add_meant status (plain_lines text is c) left = add_line status text is c
@@ -294,11 +294,11 @@ module _ (files : Files) (reads stores writes : Type 0) (old new : Option (List 
   names_meant : (status : Status) → Plain names (Some files) reads stores writes old new status → IsNamesMeant bytes held base (status_code status)
   names_meant status (answers w) = record {
     answered = λ read is. inl refl;
-    refused = λ f is. absurd (not_both w.1.2.2.index f (own_bytes w.1.0 w.1.2.0 w.1.1 w.1.2.1 ∙ w.1.2.2.accepted) is);
+    refused = λ f is. absurd (not_both w.1.3.3.index f (own_bytes w.1.0 w.1.3.0 w.1.1 w.1.3.1 ∙ w.1.3.3.accepted) is);
   }
   names_meant status (table_refuses table w) = absurd w.1
   names_meant status (index_refuses w) = record {
-    answered = λ read is. absurd (not_both read w.1.2.2.fault is (own_bytes w.1.0 w.1.2.0 w.1.1 w.1.2.1 ∙ w.1.2.2.first));
+    answered = λ read is. absurd (not_both read w.1.3.3.fault is (own_bytes w.1.0 w.1.3.0 w.1.1 w.1.3.1 ∙ w.1.3.3.first));
     refused = λ f is. inl refl;
   }
   names_meant status (refuses w) = absurd w.1
@@ -466,19 +466,19 @@ complete (Some (OfNames base index strings name)) (Some files) shelf heard reads
 complete (Some (OfAranges file)) None shelf heard reads stores writes old new status o left = tt
 complete (Some (OfAranges file)) (Some files) shelf heard reads stores writes old new status o left = λ bytes holds small no_read no_write.
     let line = session_line (Some (OfAranges file)) files heard reads stores writes old new file bytes holds no_read (λ h. h) (fits MAX_FILE_BYTES (files file) bytes holds small) (λ h. h) (λ h. h) (λ h. h) (λ e. cc e) no_write in
-    table_meant files reads stores writes old new file bytes holds no_write sets_of (Some (OfAranges file)) line 14 (λ text h. (h.0, h.1, (h.2.built, h.2.accepted, (h.2.holds.0, h.2.holds.1)))) (λ text h. h) (by_aranges files file) (λ text h. h) status (plain (Some (OfAranges file)) (Some files) reads stores writes old new heard (λ _ _ h. h) status o)
+    table_meant files reads stores writes old new file bytes holds no_write sets_of (Some (OfAranges file)) line 14 (λ text h. (h.0, h.1, (h.3.built, h.3.accepted, (h.3.holds.0, h.3.holds.1)))) (λ text h. (h.0, h.1, h.3)) (by_aranges files file) (λ text h. h) status (plain (Some (OfAranges file)) (Some files) reads stores writes old new heard (λ _ _ h. h) status o)
 complete (Some (OfFiles file name)) None shelf heard reads stores writes old new status o left = tt
 complete (Some (OfFiles file name)) (Some files) shelf heard reads stores writes old new status o left = λ bytes holds small no_read no_write.
     let line = session_line (Some (OfFiles file name)) files heard reads stores writes old new file bytes holds no_read (λ h. h) (fits MAX_FILE_BYTES (files file) bytes holds small) (λ h. h) (λ h. h) (λ h. h) (λ e. cc e) no_write in
-    table_meant files reads stores writes old new file bytes holds no_write (found_by name) (Some (OfFiles file name)) line 15 (λ text h. (h.0, h.1, (h.2.built, h.2.accepted, (h.2.holds.0, h.2.holds.1)))) (λ text h. h) (by_lines files file name) (λ text h. h) status (plain (Some (OfFiles file name)) (Some files) reads stores writes old new heard (λ _ _ h. h) status o)
+    table_meant files reads stores writes old new file bytes holds no_write (found_by name) (Some (OfFiles file name)) line 15 (λ text h. (h.0, h.1, (h.3.built, h.3.accepted, (h.3.holds.0, h.3.holds.1)))) (λ text h. (h.0, h.1, h.3)) (by_lines files file name) (λ text h. h) status (plain (Some (OfFiles file name)) (Some files) reads stores writes old new heard (λ _ _ h. h) status o)
 complete (Some (OfCached file store q)) None shelf heard reads stores writes old new status o left = tt
 complete (Some (OfCached file store q)) (Some files) shelf heard reads stores writes old new status o left = λ bytes holds small no_read no_write. cached_meant files reads stores writes old new file bytes store q holds (fits MAX_FILE_BYTES (files file) bytes holds small) no_read no_write status (plain (Some (OfCached file store q)) (Some files) reads stores writes old new heard (λ _ _ h. h) status o)
 complete (Some (OfServe wait file)) None shelf heard reads stores writes old new status o left = tt
 complete (Some (OfServe wait file)) (Some files) shelf heard reads stores writes old new status o left = λ bytes holds small no_read no_write no_input.
     session_meant (Some (OfServe wait file)) files heard reads stores writes old new file bytes holds no_read (λ h. h) (fits MAX_FILE_BYTES (files file) bytes holds small) (λ h. h) (λ h. h) (λ h. h) (λ e. cc e) no_write
-    (λ text h. (h.0, h.1, h.2.0)) (λ text h. (h.0, h.1, h.2.0)) (λ text h. h.2) (λ kind text h. h.2) (λ text h. no_input h.2.0) status o
+    (λ text h. (h.0, h.1, h.3.0)) (λ text h. (h.0, h.1, h.3.0)) (λ text h. h.3) (λ kind text h. h.3) (λ text h. no_input h.3.0) status o
 complete (Some (OfRace readers file script)) None shelf heard reads stores writes old new status o left = tt
 complete (Some (OfRace readers file script)) (Some files) shelf heard reads stores writes old new status o left = λ bytes holds small no_read no_write held has_script small_script again_no_read again_no_write.
     session_meant (Some (OfRace readers file script)) files heard reads stores writes old new file bytes holds (⊎_elim no_read no_read) (λ h. h) (⊎_elim (fits MAX_FILE_BYTES (files file) bytes holds small) (fits MAX_SCRIPT_BYTES (files script) held has_script small_script)) (λ h. h) (λ h. h) (λ h. h) (λ e. cc e) no_write
-    (λ text h. (h.0, h.1, h.2.2.0)) (λ text h. (h.0, h.1, h.2.2.0)) (λ text h. h.2.2) (λ kind text h. h.2.2) (λ text h. h.2.2) status o
+    (λ text h. (h.0, h.1, h.3.3.0)) (λ text h. (h.0, h.1, h.3.3.0)) (λ text h. h.3.3) (λ kind text h. h.3.3) (λ text h. h.3.3) status o
 complete (Some (OfDrill seed units)) told shelf heard reads stores writes old new status o left = λ no_write. drill_meant seed units told heard reads stores writes old new no_write status o

@@ -180,8 +180,8 @@ module _ (told shelf : Option Files) (file bytes : List ℕ) (heard : Heard) (ol
 
   module _ (q : Query) where
     says_asked : (status : Status) (text : List ℕ) → SaysFile bytes q status text → Says (Some (OfFile file q)) told heard status text
-    says_asked Answered text h = (bytes, was.holds, h)
-    says_asked Refused text h = (bytes, was.holds, h)
+    says_asked Answered text h = (bytes, was.holds, was.small, h)
+    says_asked Refused text h = (bytes, was.holds, was.small, h)
     says_asked Usage text h = absurd h
     says_asked ReadFault text h = absurd h
     says_asked StoreFault text h = absurd h
@@ -203,14 +203,14 @@ module _ (told shelf : Option Files) (file bytes : List ℕ) (heard : Heard) (ol
     -- ---- `look gdb`
 
     says_looked : (status : Status) (text : List ℕ) → SaysGdb bytes q status text → Says (Some (OfGdb file q)) told heard status text
-    says_looked Answered text h = (bytes, was.holds, h)
+    says_looked Answered text h = (bytes, was.holds, was.small, h)
     says_looked Refused text h = absurd h
     says_looked Usage text h = absurd h
     says_looked ReadFault text h = absurd h
     says_looked StoreFault text h = absurd h
     says_looked WriteFault text h = absurd h
     says_looked NoMemory text h = absurd h
-    says_looked IndexRefused text h = (bytes, was.holds, h)
+    says_looked IndexRefused text h = (bytes, was.holds, was.small, h)
     says_looked (TableRefused table) text h = absurd h
     says_looked IndexTooLarge text h = absurd h
     says_looked FileTooBig text h = absurd h
@@ -244,9 +244,9 @@ module _ (told shelf : Option Files) (file bytes : List ℕ) (heard : Heard) (ol
   causes_of_table request Stopped c = absurd c
 
   says_compared : (status : Status) (text : List ℕ) → SaysAranges bytes status text → Says (Some (OfAranges file)) told heard status text
-  says_compared Answered text h = (bytes, was.holds, h)
-  says_compared Refused text h = (bytes, was.holds, h)
-  says_compared (TableRefused Addresses) text h = (bytes, was.holds, h)
+  says_compared Answered text h = (bytes, was.holds, was.small, h)
+  says_compared Refused text h = (bytes, was.holds, was.small, h)
+  says_compared (TableRefused Addresses) text h = (bytes, was.holds, was.small, h)
   says_compared (TableRefused Lines) text h = absurd h
   says_compared Usage text h = absurd h
   says_compared ReadFault text h = absurd h
@@ -267,9 +267,9 @@ module _ (told shelf : Option Files) (file bytes : List ℕ) (heard : Heard) (ol
 
   module _ (name : List ℕ) where
     says_listed : (status : Status) (text : List ℕ) → SaysFiles bytes name status text → Says (Some (OfFiles file name)) told heard status text
-    says_listed Answered text h = (bytes, was.holds, h)
-    says_listed Refused text h = (bytes, was.holds, h)
-    says_listed (TableRefused Lines) text h = (bytes, was.holds, h)
+    says_listed Answered text h = (bytes, was.holds, was.small, h)
+    says_listed Refused text h = (bytes, was.holds, was.small, h)
+    says_listed (TableRefused Lines) text h = (bytes, was.holds, was.small, h)
     says_listed (TableRefused Addresses) text h = absurd h
     says_listed Usage text h = absurd h
     says_listed ReadFault text h = absurd h
@@ -292,8 +292,8 @@ module _ (told shelf : Option Files) (file bytes : List ℕ) (heard : Heard) (ol
 
   module _ (store : List ℕ) (q : Query) where
     says_cached : (status : Status) (text : List ℕ) → SaysCached shelf bytes store q status text → Says (Some (OfCached file store q)) told heard status text
-    says_cached Answered text h = (bytes, was.holds, (h.0, cached_from told shelf was.same h.0 bytes store q ⊤ ⊤ ⊤ ⊤ (λ k. k) (λ s. s) text h.1))
-    says_cached Refused text h = (bytes, was.holds, h)
+    says_cached Answered text h = (bytes, was.holds, was.small, (h.0, cached_from told shelf was.same h.0 bytes store q ⊤ ⊤ ⊤ ⊤ (λ k. k) (λ s. s) text h.1))
+    says_cached Refused text h = (bytes, was.holds, was.small, h)
     says_cached Usage text h = absurd h
     says_cached ReadFault text h = absurd h
     says_cached StoreFault text h = absurd h
@@ -319,7 +319,7 @@ module _ (told shelf : Option Files) (file bytes : List ℕ) (heard : Heard) (ol
     causes_cached NoMemory c = tt
     causes_cached IndexRefused c = absurd c
     causes_cached (TableRefused table) c = absurd c
-    causes_cached IndexTooLarge c = (bytes, was.holds, c)
+    causes_cached IndexTooLarge c = (bytes, was.holds, was.small, c)
     causes_cached FileTooBig c = absurd c
     causes_cached AlreadyIndexed c = absurd c
     causes_cached TooManySections c = absurd c
@@ -328,8 +328,8 @@ module _ (told shelf : Option Files) (file bytes : List ℕ) (heard : Heard) (ol
     causes_cached Stopped c = absurd c
 
     cached_leaves : (after : Option Files) (status : Status) → CausesOfCached bytes writes status → LeavesCached bytes store shelf after status → Leaves (Some (OfCached file store q)) told after status
-    cached_leaves after Answered c h = (bytes, was.holds, may_from told shelf was.same after bytes store h)
-    cached_leaves after WriteFault c h = (bytes, was.holds, may_from told shelf was.same after bytes store h)
+    cached_leaves after Answered c h = (bytes, was.holds, was.small, may_from told shelf was.same after bytes store h)
+    cached_leaves after WriteFault c h = (bytes, was.holds, was.small, may_from told shelf was.same after bytes store h)
     cached_leaves after StoreFault c h = absurd c
     cached_leaves after Refused c h = same_files-trans told shelf after was.same h
     cached_leaves after Usage c h = same_files-trans told shelf after was.same h
@@ -351,27 +351,27 @@ module _ (told shelf : Option Files) (file bytes : List ℕ) (heard : Heard) (ol
   -- ---- `look names`
 
   module _ (base : ℕ) (strings name : List ℕ) where
-    says_names : (status : Status) (text : List ℕ) → SaysBeside shelf strings (λ held. SaysNames bytes held base name) status text → Says (Some (OfNames base file strings name)) told heard status text
-    says_names Answered text h = (bytes, was.holds, (h.0, same_whole strings h.0 told shelf was.same h.1, h.2))
-    says_names Refused text h = absurd h.2
-    says_names Usage text h = absurd h.2
-    says_names ReadFault text h = absurd h.2
-    says_names StoreFault text h = absurd h.2
-    says_names WriteFault text h = absurd h.2
-    says_names NoMemory text h = absurd h.2
-    says_names IndexRefused text h = (bytes, was.holds, (h.0, same_whole strings h.0 told shelf was.same h.1, h.2))
-    says_names (TableRefused table) text h = absurd h.2
-    says_names IndexTooLarge text h = absurd h.2
-    says_names FileTooBig text h = absurd h.2
-    says_names AlreadyIndexed text h = absurd h.2
-    says_names TooManySections text h = absurd h.2
-    says_names InputFault text h = absurd h.2
-    says_names InputTooLong text h = absurd h.2
-    says_names Stopped text h = absurd h.2
+    says_names : (status : Status) (text : List ℕ) → SaysBeside shelf strings MAX_FILE_BYTES (λ held. SaysNames bytes held base name) status text → Says (Some (OfNames base file strings name)) told heard status text
+    says_names Answered text h = (bytes, was.holds, was.small, (h.0, same_whole strings h.0 told shelf was.same h.1, h.2, h.3))
+    says_names Refused text h = absurd h.3
+    says_names Usage text h = absurd h.3
+    says_names ReadFault text h = absurd h.3
+    says_names StoreFault text h = absurd h.3
+    says_names WriteFault text h = absurd h.3
+    says_names NoMemory text h = absurd h.3
+    says_names IndexRefused text h = (bytes, was.holds, was.small, (h.0, same_whole strings h.0 told shelf was.same h.1, h.2, h.3))
+    says_names (TableRefused table) text h = absurd h.3
+    says_names IndexTooLarge text h = absurd h.3
+    says_names FileTooBig text h = absurd h.3
+    says_names AlreadyIndexed text h = absurd h.3
+    says_names TooManySections text h = absurd h.3
+    says_names InputFault text h = absurd h.3
+    says_names InputTooLong text h = absurd h.3
+    says_names Stopped text h = absurd h.3
 
-    pub looked_names : (after : Option Files) → SameFiles shelf after → (status : Status) → Wrote (SaysBeside shelf strings (λ held. SaysNames bytes held base name)) status old new → CausesBeside shelf strings MAX_FILE_BYTES later_reads writes status → Does (Some (OfNames base file strings name)) told after heard reads stores writes old new status
+    pub looked_names : (after : Option Files) → SameFiles shelf after → (status : Status) → Wrote (SaysBeside shelf strings MAX_FILE_BYTES (λ held. SaysNames bytes held base name)) status old new → CausesBeside shelf strings MAX_FILE_BYTES later_reads writes status → Does (Some (OfNames base file strings name)) told after heard reads stores writes old new status
     looked_names after kept status w c = does (OfNames base file strings name) tt after kept status
-        (wrote_weaker (SaysBeside shelf strings (λ held. SaysNames bytes held base name)) (Says (Some (OfNames base file strings name)) told heard) says_names status old new w)
+        (wrote_weaker (SaysBeside shelf strings MAX_FILE_BYTES (λ held. SaysNames bytes held base name)) (Says (Some (OfNames base file strings name)) told heard) says_names status old new w)
         (causes_beside (OfNames base file strings name) strings MAX_FILE_BYTES (λ P p. inr p) status c)
 
   -- ---- `serve`
@@ -395,13 +395,13 @@ module _ (told shelf : Option Files) (file bytes : List ℕ) (heard : Heard) (ol
   causes_served wait Stopped c = tt
 
   pub served : (wait : ℕ) (status : Status) → Wrote (SaysServe bytes wait heard) status old new → CausesOfSession writes status → Does (Some (OfServe wait file)) told shelf heard reads stores writes old new status
-  served wait status w c = does (OfServe wait file) tt shelf (same_files-refl shelf) status (wrote_weaker (SaysServe bytes wait heard) (Says (Some (OfServe wait file)) told heard) (λ s text says. (bytes, was.holds, says)) status old new w) (causes_served wait status c)
+  served wait status w c = does (OfServe wait file) tt shelf (same_files-refl shelf) status (wrote_weaker (SaysServe bytes wait heard) (Says (Some (OfServe wait file)) told heard) (λ s text says. (bytes, was.holds, was.small, says)) status old new w) (causes_served wait status c)
 
   -- ---- `race`
 
-  pub raced : (readers : ℕ) (script : List ℕ) (after : Option Files) → SameFiles shelf after → (status : Status) → Wrote (SaysBeside shelf script (SaysRace bytes readers)) status old new → CausesBeside shelf script MAX_SCRIPT_BYTES later_reads writes status → Does (Some (OfRace readers file script)) told after heard reads stores writes old new status
+  pub raced : (readers : ℕ) (script : List ℕ) (after : Option Files) → SameFiles shelf after → (status : Status) → Wrote (SaysBeside shelf script MAX_SCRIPT_BYTES (SaysRace bytes readers)) status old new → CausesBeside shelf script MAX_SCRIPT_BYTES later_reads writes status → Does (Some (OfRace readers file script)) told after heard reads stores writes old new status
   raced readers script after kept status w c = does (OfRace readers file script) tt after kept status
-      (wrote_weaker (SaysBeside shelf script (SaysRace bytes readers)) (Says (Some (OfRace readers file script)) told heard) (λ s text says. (bytes, was.holds, (says.0, same_whole script says.0 told shelf was.same says.1, says.2))) status old new w)
+      (wrote_weaker (SaysBeside shelf script MAX_SCRIPT_BYTES (SaysRace bytes readers)) (Says (Some (OfRace readers file script)) told heard) (λ s text says. (bytes, was.holds, was.small, (says.0, same_whole script says.0 told shelf was.same says.1, says.2, says.3))) status old new w)
       (causes_beside (OfRace readers file script) script MAX_SCRIPT_BYTES (λ P p. inr p) status c)
 
   -- ---- `index`
@@ -412,7 +412,7 @@ module _ (told shelf : Option Files) (file bytes : List ℕ) (heard : Heard) (ol
 
     says_index : (status : Status) (text : List ℕ) → SaysIndex bytes status text → Says stored told heard status text
     says_index Answered text h = h
-    says_index Refused text h = (bytes, was.holds, h)
+    says_index Refused text h = (bytes, was.holds, was.small, h)
     says_index Usage text h = absurd h
     says_index ReadFault text h = absurd h
     says_index StoreFault text h = absurd h
@@ -438,7 +438,7 @@ module _ (told shelf : Option Files) (file bytes : List ℕ) (heard : Heard) (ol
     index_causes NoMemory c = tt
     index_causes IndexRefused c = tt
     index_causes (TableRefused table) c = absurd c
-    index_causes IndexTooLarge c = (bytes, was.holds, c)
+    index_causes IndexTooLarge c = (bytes, was.holds, was.small, c)
     index_causes FileTooBig c = absurd c
     index_causes AlreadyIndexed c = absurd c
     index_causes TooManySections c = absurd c
@@ -447,11 +447,11 @@ module _ (told shelf : Option Files) (file bytes : List ℕ) (heard : Heard) (ol
     index_causes Stopped c = absurd c
 
     index_leaves : (after : Option Files) (status : Status) → CausesOfIndex bytes kind later_stores writes status → LeavesIndex bytes kind shelf after out status → Leaves stored told after status
-    index_leaves after Answered c h = (bytes, was.holds, record { built = h.built; accepted = h.accepted; holds = keeps_from out told shelf after was.same (cache_in kind h.built) h.holds })
+    index_leaves after Answered c h = (bytes, was.holds, was.small, record { built = h.built; accepted = h.accepted; holds = keeps_from out told shelf after was.same (cache_in kind h.built) h.holds })
     index_leaves after Refused c h = same_files-trans told shelf after was.same h
     index_leaves after Usage c h = absurd c
     index_leaves after ReadFault c h = absurd c
-    index_leaves after StoreFault c h = (bytes, was.holds, record { built = h.built; accepted = h.accepted; holds = keeps_part_from out told shelf after was.same (cache_in kind h.built) h.holds })
+    index_leaves after StoreFault c h = (bytes, was.holds, was.small, record { built = h.built; accepted = h.accepted; holds = keeps_part_from out told shelf after was.same (cache_in kind h.built) h.holds })
     index_leaves after WriteFault c h = same_files-trans told shelf after was.same h
     index_leaves after NoMemory c h = same_files-trans told shelf after was.same h
     index_leaves after IndexRefused c h = same_files-trans told shelf after was.same h
@@ -479,7 +479,7 @@ module _ (told shelf : Option Files) (file bytes : List ℕ) (heard : Heard) (ol
 
     says_add : (status : Status) (text : List ℕ) → SaysAdd bytes status text → Says with_index told heard status text
     says_add Answered text h = h
-    says_add Refused text h = (bytes, was.holds, h)
+    says_add Refused text h = (bytes, was.holds, was.small, h)
     says_add Usage text h = absurd h
     says_add ReadFault text h = absurd h
     says_add StoreFault text h = absurd h
@@ -505,20 +505,20 @@ module _ (told shelf : Option Files) (file bytes : List ℕ) (heard : Heard) (ol
     add_causes NoMemory c = tt
     add_causes IndexRefused c = tt
     add_causes (TableRefused table) c = absurd c
-    add_causes IndexTooLarge c = (bytes, was.holds, c)
+    add_causes IndexTooLarge c = (bytes, was.holds, was.small, c)
     add_causes FileTooBig c = absurd c
-    add_causes AlreadyIndexed c = (bytes, was.holds, c)
-    add_causes TooManySections c = (bytes, was.holds, c)
+    add_causes AlreadyIndexed c = (bytes, was.holds, was.small, c)
+    add_causes TooManySections c = (bytes, was.holds, was.small, c)
     add_causes InputFault c = absurd c
     add_causes InputTooLong c = absurd c
     add_causes Stopped c = absurd c
 
     add_leaves : (after : Option Files) (status : Status) → CausesOfAdd bytes kind later_stores writes status → LeavesAdd bytes kind shelf after out status → Leaves with_index told after status
-    add_leaves after Answered c h = (bytes, was.holds, of_added bytes kind (Stored shelf after out) (Stored told after out) (λ program. stored_from out program told shelf after was.same) h)
+    add_leaves after Answered c h = (bytes, was.holds, was.small, of_added bytes kind (Stored shelf after out) (Stored told after out) (λ program. stored_from out program told shelf after was.same) h)
     add_leaves after Refused c h = same_files-trans told shelf after was.same h
     add_leaves after Usage c h = absurd c
     add_leaves after ReadFault c h = absurd c
-    add_leaves after StoreFault c h = (bytes, was.holds, of_added bytes kind (StoredOrPrefix shelf after out) (StoredOrPrefix told after out) (λ program. part_from out program told shelf after was.same) h)
+    add_leaves after StoreFault c h = (bytes, was.holds, was.small, of_added bytes kind (StoredOrPrefix shelf after out) (StoredOrPrefix told after out) (λ program. part_from out program told shelf after was.same) h)
     add_leaves after WriteFault c h = same_files-trans told shelf after was.same h
     add_leaves after NoMemory c h = same_files-trans told shelf after was.same h
     add_leaves after IndexRefused c h = same_files-trans told shelf after was.same h

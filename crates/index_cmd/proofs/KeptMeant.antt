@@ -60,7 +60,7 @@ module _ (files : Files) (reads stores writes : Type 0) (old new : Option (List 
   -- the line of a status can be that of want of memory, or of an index that is too large
   cached_line : (status : Status) (text : List ℕ) → line_of status ≡ Some text → Causes asked (Some files) reads stores writes status → (status_code status ≡ 7) ⊎ ((status_code status ≡ 9) × IsTooLarge bytes)
   cached_line NoMemory text is c = inl refl
-  cached_line IndexTooLarge text is c = inr (refl, subst IsTooLarge (same_bytes (files file) c.0 bytes c.1 holds) c.2)
+  cached_line IndexTooLarge text is c = inr (refl, subst IsTooLarge (same_bytes (files file) c.0 bytes c.1 holds) c.3)
   cached_line Usage text is c = absurd (cc c)
   cached_line ReadFault text is c = absurd (no_read c)
   cached_line StoreFault text is c = absurd c
@@ -87,7 +87,7 @@ module _ (files : Files) (reads stores writes : Type 0) (old new : Option (List 
 
   pub cached_meant : (status : Status) → Plain asked (Some files) reads stores writes old new status → IsCachedMeant bytes (status_code status)
   cached_meant status (answers w) =
-      let own = of_cached (Some files) w.1.2.0 w.1.0 store q _ _ w.0 w.1.2.1 in
+      let own = of_cached (Some files) w.1.3.0 w.1.0 store q _ _ w.0 w.1.3.1 in
       let same = same_bytes (files file) w.1.0 bytes w.1.1 holds in
       record {
         fits = λ b index. inl refl;
@@ -96,10 +96,10 @@ module _ (files : Files) (reads stores writes : Type 0) (old new : Option (List 
         refused_late = λ f first. inl refl;
       }
   cached_meant status (refuses w) =
-      let faulty : first_fault bytes ≡ Some w.1.2.fault = ap first_fault (sym (same_bytes (files file) w.1.0 bytes w.1.1 holds)) ∙ w.1.2.first in
+      let faulty : first_fault bytes ≡ Some w.1.3.fault = ap first_fault (sym (same_bytes (files file) w.1.0 bytes w.1.1 holds)) ∙ w.1.3.first in
       record {
-        fits = λ b index. absurd (no_fault bytes index.built w.1.2.fault index.accepted faulty);
-        too_large = λ large. absurd (no_fault bytes large.built w.1.2.fault large.accepted faulty);
+        fits = λ b index. absurd (no_fault bytes index.built w.1.3.fault index.accepted faulty);
+        too_large = λ large. absurd (no_fault bytes large.built w.1.3.fault large.accepted faulty);
         refused_early = λ f early. inl refl;
         refused_late = λ f first. inr (inl refl);
       }

@@ -1,6 +1,7 @@
 -- Which requests and statuses say something of an index that may be kept.
-use Rattle.std.proofs.Common.{◌≡◌, ◌⊎◌, ℕ, List, Option, Some, None, refl, subst}
+use Rattle.std.proofs.Common.{◌≡◌, ◌⊎◌, ℕ, ◌≤◌, List, length, Option, Some, None, refl, subst}
 use Rattle.std.specs.Prelude.{⊤}
+use Rattle.ix_base.specs.declared.limits.TheConstants.{MAX_FILE_BYTES}
 use Rattle.outside.specs.Files.{Files, SameFiles}
 use Rattle.outside.specs.Written.{Appends}
 use Rattle.index_model.specs.Queries.{Query}
@@ -99,11 +100,11 @@ module _ (told shelf : Option Files) (kept_reads stores : Type 0) (old new : Opt
 
 -- ---- the command
 
-module _ (told shelf after : Option Files) (same : SameFiles told shelf) (file bytes store : List ℕ) (q : Query) (holds : Holds told file bytes) (kept_reads stores : Type 0) (old new : Option (List ℕ)) where
+module _ (told shelf after : Option Files) (same : SameFiles told shelf) (file bytes store : List ℕ) (q : Query) (holds : Holds told file bytes) (small : length bytes ≤ MAX_FILE_BYTES) (kept_reads stores : Type 0) (old new : Option (List ℕ)) where
   pub uses : (status : Status) → (status ≡ Answered → (text : List ℕ) × IsCached shelf after bytes store q kept_reads stores text × Appends old new text) → LooksFirst shelf bytes store kept_reads status → UsesKept (Some (OfCached file store q)) told after kept_reads stores old new status
-  uses Answered tied first = let t = tied refl in (t.0, (bytes, holds, cached_from told shelf same after bytes store q kept_reads stores kept_reads stores (λ k. k) (λ s. s) t.0 t.1), t.2)
-  uses Refused tied first = (bytes, holds, looks_from told shelf same bytes store kept_reads first)
-  uses IndexTooLarge tied first = (bytes, holds, looks_large_from told shelf same bytes store kept_reads first)
+  uses Answered tied first = let t = tied refl in (t.0, (bytes, holds, small, cached_from told shelf same after bytes store q kept_reads stores kept_reads stores (λ k. k) (λ s. s) t.0 t.1), t.2)
+  uses Refused tied first = (bytes, holds, small, looks_from told shelf same bytes store kept_reads first)
+  uses IndexTooLarge tied first = (bytes, holds, small, looks_large_from told shelf same bytes store kept_reads first)
   uses Usage tied first = tt
   uses ReadFault tied first = tt
   uses StoreFault tied first = tt

@@ -66,9 +66,9 @@ module _ {X : Type 0} (files : Files) (reads stores writes : Type 0) (old new : 
 
 -- the fault of an address table, and that of a line table
 pub by_aranges : (files : Files) (file : List ℕ) (table : Table) (text : List ℕ) → IsTableRefusal (Some (OfAranges file)) table (Some files) text → (status_code (TableRefused table) ≡ 14) × ((f : Fault) × ((own : List ℕ) × (files file ≡ Some own) × ((b : Built) × (built_of own ≡ Ok b) × (sets_of b ≡ Err f))))
-by_aranges files file Addresses text h = (refl, (h.2.holds.0, (h.0, h.1, (h.2.built, h.2.accepted, h.2.holds.1))))
+by_aranges files file Addresses text h = (refl, (h.3.holds.0, (h.0, h.1, (h.3.built, h.3.accepted, h.3.holds.1))))
 by_aranges files file Lines text h = absurd h
 
 pub by_lines : (files : Files) (file name : List ℕ) (table : Table) (text : List ℕ) → IsTableRefusal (Some (OfFiles file name)) table (Some files) text → (status_code (TableRefused table) ≡ 15) × ((f : Fault) × ((own : List ℕ) × (files file ≡ Some own) × ((b : Built) × (built_of own ≡ Ok b) × (found_by name b ≡ Err f))))
-by_lines files file name Lines text h = (refl, (h.2.holds.0, (h.0, h.1, (h.2.built, h.2.accepted, h.2.holds.1))))
+by_lines files file name Lines text h = (refl, (h.3.holds.0, (h.0, h.1, (h.3.built, h.3.accepted, h.3.holds.1))))
 by_lines files file name Addresses text h = absurd h

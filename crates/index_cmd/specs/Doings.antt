@@ -1,8 +1,9 @@
 -- What a command did before the line of its status.
-use Rattle.std.specs.Prelude.{◌≡◌, ◌≤◌, ℕ, List, Option, ⊤}
+use Rattle.std.specs.Prelude.{◌≡◌, ◌≤◌, ℕ, List, length, Option, ⊤}
+use Rattle.ix_base.specs.declared.limits.TheConstants.{MAX_FILE_BYTES}
 use Rattle.outside.specs.Files.{Files, SameFiles}
 use Rattle.command_base.specs.FilesRead.{Holds, HoldsMore}
-use Rattle.command_base.specs.Replies.{OfFileBytes, Wrote}
+use Rattle.command_base.specs.Replies.{OfBytesUpTo, Wrote}
 use Rattle.command_base.specs.declared.status.Status.{Status}
 use Rattle.command_base.specs.declared.status.Status.TheVariants.{Answered, Refused, ReadFault, WriteFault, NoMemory, IndexRefused, FileTooBig, InputTooLong, Stopped}
 use Rattle.session_commands.specs.Heard.{Heard}
@@ -17,18 +18,19 @@ pub record Does (request : Option Request) (told shelf : Option Files) (heard : 
   pub causes : Causes request told reads stores writes status
   pub leaves : Leaves request told shelf status
 
--- The file with this name was read and holds these bytes, the shelf holds what it held before, and no count of faults fell.
+-- The file with this name was read and holds these bytes, which are within its limit; the shelf holds what it held before, and no count of faults fell.
 pub record WasRead (told shelf : Option Files) (file bytes : List ℕ) (old_reads reads old_stores stores : ℕ) : Type 0 where
   pub same : SameFiles told shelf
   pub holds : Holds told file bytes
+  pub small : length bytes ≤ MAX_FILE_BYTES
   pub reads_on : old_reads ≤ reads
   pub stores_stay : stores ≡ old_stores
 
 -- ---- where a second file is read
 
--- what the text says of its bytes
-abbrev pub SaysBeside : Option Files → List ℕ → (List ℕ → Status → List ℕ → Type 0) → Status → List ℕ → Type 0
-SaysBeside told file Meaning status text = OfFileBytes told file (λ held. Meaning held status text)
+-- what the text says of its bytes, which are at most so many
+abbrev pub SaysBeside : Option Files → List ℕ → ℕ → (List ℕ → Status → List ℕ → Type 0) → Status → List ℕ → Type 0
+SaysBeside told file most Meaning status text = OfBytesUpTo most told file (λ held. Meaning held status text)
 
 -- the cause of a status, by the most bytes that it may have and whether a read or a write failed
 abbrev pub CausesBeside : Option Files → List ℕ → ℕ → Type 0 → Type 0 → Status → Type 0

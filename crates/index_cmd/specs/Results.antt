@@ -5,7 +5,7 @@ use Rattle.ix_base.specs.declared.limits.TheConstants.{MAX_FILE_BYTES}
 use Rattle.outside.specs.Counts.{Rose}
 use Rattle.outside.specs.Files.{Files}
 use Rattle.outside.specs.Written.{Appends, AppendsPrefix}
-use Rattle.command_base.specs.Replies.{OfFileBytes, OfWholeFile, line_of}
+use Rattle.command_base.specs.Replies.{OfBytesUpTo, OfFileBytes, OfWholeFile, line_of}
 use Rattle.command_base.specs.declared.status.Status.{Status}
 use Rattle.command_base.specs.declared.status.Status.TheVariants.{NoMemory, Stopped}
 use Rattle.session_commands.specs.declared.script.TheConstants.{MAX_SCRIPT_BYTES}
@@ -21,7 +21,7 @@ use Rattle.index_cmd.specs.Requests.{Request, OfServe, OfRace, OfDrill}
 -- what was asked
 abbrev pub Says : Option Request → Option Files → Heard → Status → List ℕ → Type 0
 Says (Some (OfServe wait file)) told heard status text = OfFileBytes told file (λ bytes. SaysServe bytes wait heard status text)
-Says (Some (OfRace readers file script)) told heard status text = OfFileBytes told file (λ bytes. OfFileBytes told script (λ held. SaysRace bytes readers held status text))
+Says (Some (OfRace readers file script)) told heard status text = OfFileBytes told file (λ bytes. OfBytesUpTo MAX_SCRIPT_BYTES told script (λ held. SaysRace bytes readers held status text))
 Says (Some (OfDrill seed units)) told heard status text = SaysDrill seed units status text
 Says request told heard status text = SaysRequest request told status text
 

@@ -126,7 +126,7 @@ fn read_strings<F: Shelf, K: Sink>(
     out: &mut K,
 ) -> Status
     requires { length bytes.now ≤ MAX_FILE_BYTES }
-    ensures wrote { Wrote (SaysBeside (F.files shelf.old) strings.now (λ held. SaysNames bytes.now held base name.now)) result (K.written out.old) (K.written out.new) }
+    ensures wrote { Wrote (SaysBeside (F.files shelf.old) strings.now MAX_FILE_BYTES (λ held. SaysNames bytes.now held base name.now)) result (K.written out.old) (K.written out.new) }
     ensures causes { CausesBeside (F.files shelf.old) strings.now MAX_FILE_BYTES (Rose (F.read_faults shelf.old) (F.read_faults shelf.new)) (Rose (K.write_faults out.old) (K.write_faults out.new)) result }
     ensures kept { SameFiles (F.files shelf.old) (F.files shelf.new) }
     ensures reads { F.read_faults shelf.old ≤ F.read_faults shelf.new }
@@ -152,7 +152,7 @@ fn read_script<R: Threads + Wait + Sync, F: Shelf, K: Sink, G: Gate + Sync>(
     requires few_workers { crew.now.workers ≤ 64 }
     requires one_reader { 0 < readers }
     requires few_readers { readers ≤ 16 }
-    ensures wrote { Wrote (SaysBeside (F.files shelf.old) script.now (SaysRace bytes.now readers)) result (K.written out.old) (K.written out.new) }
+    ensures wrote { Wrote (SaysBeside (F.files shelf.old) script.now MAX_SCRIPT_BYTES (SaysRace bytes.now readers)) result (K.written out.old) (K.written out.new) }
     ensures causes { CausesBeside (F.files shelf.old) script.now MAX_SCRIPT_BYTES (Rose (F.read_faults shelf.old) (F.read_faults shelf.new)) (Rose (K.write_faults out.old) (K.write_faults out.new)) result }
     ensures kept { SameFiles (F.files shelf.old) (F.files shelf.new) }
     ensures reads { F.read_faults shelf.old ≤ F.read_faults shelf.new }

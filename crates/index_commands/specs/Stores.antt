@@ -4,8 +4,7 @@ use Rattle.index_model.specs.declared.job.CacheKind.{CacheKind}
 use Rattle.index_model.specs.Cache.{Cache, GdbBytes, NameBytes, DoesNotFit, cache_in}
 use Rattle.index_model.specs.Faults.{Built, built_of}
 use Rattle.outside.specs.Files.{Files, SameFiles, Stored, StoredOrPrefix}
-use Rattle.command_base.specs.FilesRead.{Holds}
-use Rattle.command_base.specs.Replies.{IsTooLarge}
+use Rattle.command_base.specs.Replies.{IsTooLarge, OfFileBytes}
 use Rattle.command_base.specs.declared.status.Status.{Status}
 use Rattle.command_base.specs.declared.status.Status.TheVariants.{Answered, StoreFault, NoMemory, IndexTooLarge}
 
@@ -41,7 +40,7 @@ pub record ForIndexOf (file : List ℕ) (kind : CacheKind) (P : Cache → Type 0
 
 -- what holds of the index of the file with this name; where files aren't told, of that of some bytes
 abbrev pub ForIndex : Option Files → List ℕ → CacheKind → (Cache → Type 0) → Type 0
-ForIndex told file kind P = (bytes : List ℕ) × Holds told file bytes × ForIndexOf bytes kind P
+ForIndex told file kind P = OfFileBytes told file (λ bytes. ForIndexOf bytes kind P)
 
 -- what a store of this index leaves, by its status
 abbrev pub StoreLeaves : Option Files → Option Files → List ℕ → Cache → Status → Type 0

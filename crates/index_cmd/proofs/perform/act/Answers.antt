@@ -197,4 +197,4 @@ returns-in-Cached-clause-uses g c told file same holds =
     let old = g.K.Sink.written c.args.out.now in
     let new = g.K.Sink.written call.new.out in
     subst (λ (a : Action). UsesKept (Some (request_on file a)) told after kept stores old new call.result) (sym c.in-Cached.is)
-    (uses told (g.F.Shelf.files c.args.shelf.now) after same file c.args.bytes.now _ _ holds kept stores old new call.result call.ensures.tied call.ensures.looks_first)
+    (uses told (g.F.Shelf.files c.args.shelf.now) after same file c.args.bytes.now _ _ holds c.requires.small kept stores old new call.result call.ensures.tied call.ensures.looks_first)

@@ -1,4 +1,4 @@
-use Rattle.std.proofs.Common.{ℕ, Err, Some, sym, ap, subst}
+use Rattle.std.proofs.Common.{ℕ, length, Err, Some, sym, ap, subst, arith}
 use Rattle.outside.specs.Counts.{Rose}
 use Rattle.command_base.specs.FilesRead.{Holds}
 use Rattle.command_base.specs.declared.status.Status.{Status}
@@ -17,6 +17,7 @@ returns-in-Ok-clause-did g c =
     c.act.ensures.did told file (g.F.Shelf.read_faults c.args.shelf.now) (g.F.Shelf.store_faults c.args.shelf.now) (record {
       same = c.in-Ok.ensures.kept;
       holds = subst (Holds told file) (sym c.deref.ensures.value) c.in-Ok.ensures.whole;
+      small = omega (arith, c.in-Ok.ensures.bounded, ap length c.deref.ensures.value);
       reads_on = c.in-Ok.ensures.reads;
       stores_stay = c.in-Ok.ensures.stores;
     })
