@@ -273,13 +273,13 @@ def kill_all(child):
 def stopped(room):
     name = room.names(40)
     status, out, said = room.index_tree("stopped", "-j", "1", STOPS_AT=os.path.basename(name))
-    lines = read(room.path("stopped.run", "refused")).decode()
-    yield "no memory stops a run", differs((status, out, "stopped with status 7" in said, name + ": status 7" in lines), (7, "", True, True))
+    yield "no memory stops a run", differs((status, out, "stopped with status 7" in said, name + ": status 7" in said), (7, "", True, True))
     before = room.called()
     status = room.index_tree("stopped", "-j", "2")[0]
     after = room.called()
     yield "and it goes on", differs((status, sorted(files_below(room.path("stopped")).items())), (0, sorted(room.done.items())))
     yield "with the file that stopped it", differs(sorted(set(before) & set(after)), [name])
+    yield "which isn't named as refused", room.wrong_refusals(read(room.path("stopped.run", "refused")).decode())
     status, _, said = room.index_tree("other", "-j", "1", STOPS_AT=os.path.basename(name))
     other = room.index_tree("other", how=("--as", "names"))
     yield "other words don't go on with it", differs((status, other[0], "other words" in other[2]), (7, 2, True))
