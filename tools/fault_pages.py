@@ -2,7 +2,8 @@
 """fault_pages.py            writes docs/FAULTS.md from the tables of crates/fault_words
 fault_pages.py --check    says what differs from it
 
-The tables stand once, in the crate (src/fault.rt, src/end.rt). Beside each code stands a row in rows/vectors or rows/program that gives it."""
+The tables stand once, in the crate (src/fault.rt, src/end.rt). Beside each code stands a row in rows/ that gives it, or the script that
+makes a file which is too large for a row."""
 import os
 import re
 import sys
@@ -11,6 +12,7 @@ TOP = os.path.dirname(os.path.dirname(os.path.abspath(__file__)))
 CRATE = os.path.join(TOP, "crates", "fault_words", "src")
 PAGE = os.path.join(TOP, "docs", "FAULTS.md")
 ROWS = ("rows/vectors", "rows/program")
+LARGE = ".ci/too_large.py"
 FAULT_LINE = re.compile(rb"^(?:\d )?(?:(?:index |aranges |files )?refused|stale) (\d+) ([0-9a-f]+)$", re.M)
 TEXT = r'"((?:[^"\\]|\\.)*)"'
 # What a place is, by the word of its row.
@@ -40,7 +42,7 @@ Made by tools/fault_pages.py from the tables of crates/fault_words; don't edit i
 A run that fails says on standard error `gdbix: FILE: SENTENCE (PLACE); REMEDY`. On standard output stands a line for scripts, with a code
 in decimal and a place in hexadecimal. A unit or an entry is named by its offset in `.debug_info`, as readelf and llvm-dwarfdump print it;
 one of `.debug_types` by its offset there and the length of `.debug_info`. "Shown by" is a folder with a file that has the fault, the
-words that are run over it (args) and what they write (stdout); "no row of ours" where such a file is too large to be kept here.
+words that are run over it (args) and what they write (stdout), or a script that makes such a file and runs the program over it.
 """
 
 
@@ -86,16 +88,21 @@ def shown():
     return found
 
 
+def made():
+    """The codes of the files that are too large to be kept."""
+    table = read(TOP, LARGE).split("\nCASES = {", 1)[1].split("\n}", 1)[0]
+    return {int(code): LARGE for code in re.findall(r"^    (\d+): ", table, re.M)}
+
+
 def page():
-    rows, by = faults(), shown()
+    rows, by = faults(), {**made(), **shown()}
     lines = [HEAD]
     starts = [start for start, _, _ in GROUPS] + [256]
     for (start, title, said), end in zip(GROUPS, starts[1:]):
         lines.append(f"\n## {title}\n\n{said}\n\n| Code | Name | Sentence | Place | Remedy | Shown by |\n|---|---|---|---|---|---|")
         for code, name, place, sentence, remedy in rows:
             if start <= code < end:
-                example = by.get(code, "no row of ours")
-                lines.append(f"| {code} | {name} | {sentence} | {PLACES[place]} | {remedy} | {example} |")
+                lines.append(f"| {code} | {name} | {sentence} | {PLACES[place]} | {remedy} | {by[code]} |")
     lines.append("\n## Other ends\n\nWhat is said where no code says more; `man gdbix` has the lines on standard output.\n")
     lines.append("| Status | Sentence | Remedy |\n|---|---|---|")
     lines += [f"| {status} | {sentence} | {remedy} |" for status, sentence, remedy in ends()]

@@ -42,7 +42,7 @@ const LOOK_AT_SETS: &str = "see readelf --debug-dump=aranges";
 
 const LOOK_AT_LINES: &str = "see readelf --debug-dump=rawline";
 
-const KEPT: &str = "a new index is built and kept";
+const KEPT: &str = "a new index is built";
 
 // Rows of the table: the code, the name, what the place is, the sentence and the remedy.
 macro_rules! faults {

@@ -15,7 +15,29 @@ pub struct Message<'w> {
     pub file: &'w str,
     /// Another file that may be meant, empty where there is none.
     pub other: &'w str,
+    /// The name of the section that it speaks of, empty where that isn't known.
+    pub section_name: &'w str,
     pub problem: Problem<'w>,
+}
+
+impl<'w> Message<'w> {
+    /// The number of the section that it speaks of, where it speaks of one.
+    pub fn section(&self) -> Option<u64> {
+        match self.problem {
+            Problem::Fault(fault, at) if matches!(fault.place, Place::Section) && at > 0 => Some(
+                at,
+            ),
+            _ => None,
+        }
+    }
+
+    /// The same with the name of the section that it speaks of.
+    pub fn with_section(self, name: &'w str) -> Message<'w> {
+        Message {
+            section_name: name,
+            ..self
+        }
+    }
 }
 
 /// What is said.
@@ -37,6 +59,7 @@ pub fn message_for<'w>(status: u8, line: &[u8], words: &'w [String]) -> Option<M
         2 => Some(Message {
             file: "",
             other: "",
+            section_name: "",
             problem: Problem::Usage(usage_of(words), helped(words)),
         }),
         _ => Some(about(status, line, words)),
@@ -53,6 +76,7 @@ pub fn note_for<'w>(line: &[u8], words: &'w [String]) -> Option<Message<'w>> {
     Some(Message {
         file,
         other: "",
+        section_name: "",
         problem: Problem::Fault(fault, at),
     })
 }
@@ -74,6 +98,7 @@ fn about<'w>(status: u8, line: &[u8], words: &'w [String]) -> Message<'w> {
         return Message {
             file: first,
             other: "",
+            section_name: "",
             problem: Problem::Fault(fault, at),
         };
     }
@@ -87,6 +112,7 @@ fn about<'w>(status: u8, line: &[u8], words: &'w [String]) -> Message<'w> {
     Message {
         file,
         other,
+        section_name: "",
         problem: Problem::End(end),
     }
 }
@@ -148,7 +174,7 @@ impl fmt::Display for Message<'_> {
         match self.problem {
             Problem::Usage(usage, "") => write!(f, "usage: {usage}; try 'gdbix --help'"),
             Problem::Usage(usage, of) => write!(f, "usage: {usage}; try 'gdbix {of} --help'"),
-            Problem::Fault(fault, at) => write_fault(f, fault, at),
+            Problem::Fault(fault, at) => write_fault(f, fault, at, self.section_name),
             Problem::End(end) => {
                 let sentence = end.sentence;
                 let remedy = end.remedy;
@@ -159,7 +185,12 @@ impl fmt::Display for Message<'_> {
 }
 
 // The sentence of a fault, its place and its remedy.
-fn write_fault<W: fmt::Write>(f: &mut fmt::Formatter<W>, fault: &Fault, at: u64) -> fmt::Result {
+fn write_fault<W: fmt::Write>(
+    f: &mut fmt::Formatter<W>,
+    fault: &Fault,
+    at: u64,
+    name: &str,
+) -> fmt::Result {
     let sentence = fault.sentence;
     let remedy = fault.remedy;
     write!(f, "{sentence}")?;
@@ -167,7 +198,8 @@ fn write_fault<W: fmt::Write>(f: &mut fmt::Formatter<W>, fault: &Fault, at: u64)
         Place::Nowhere => {}
         Place::Byte => write!(f, " (byte {at:#x} of the file)")?,
         Place::Section if at == 0 => {}
-        Place::Section => write!(f, " (section [{at}])")?,
+        Place::Section if name.is_empty() => write!(f, " (section [{at}])")?,
+        Place::Section => write!(f, " (section [{at}] {name})")?,
         Place::Unit => write!(f, " (unit at {at:#x})")?,
         Place::Entry => write!(f, " (entry <{at:x}>)")?,
         Place::Info => write!(f, " (byte {at:#x} of .debug_info)")?,

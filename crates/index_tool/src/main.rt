@@ -1,14 +1,15 @@
 //! `gdbix`: the symbol index of a program with DWARF, on the command line.
 #![tactic(auto)]
 
-mod last_line;
+mod lines;
 mod said;
+mod section;
 mod streams;
 mod words;
 
 use fault_words::help_for;
 use index_cmd::run;
-use last_line::Remembering;
+use lines::Remembering;
 use outside::{FileShelf, NoGate, StreamSink, StreamSource};
 use said::{answer, say_end, stop};
 use std::process::ExitCode;

@@ -1,11 +1,12 @@
 //! What is said on standard error, beside the line and the status of a command. It changes neither, and may get lost.
 
-use crate::last_line::Remembering;
+use crate::lines::Remembering;
+use crate::section::{NAME, section_name};
 use crate::words::Stop;
 use command_base::Status;
-use fault_words::message_for;
+use fault_words::{Message, message_for, note_for};
 use outside::{
-    Failed, Failure, FileShelf, Sink, StreamSink, StreamSource, system_words, write_all,
+    Failed, Failure, FileShelf, Shelf, Sink, StreamSink, StreamSource, system_words, write_all,
 };
 use std::io::{self, Eprint, Read, Write};
 use std::rt::Files;
@@ -24,7 +25,9 @@ pub(crate) fn stop<R: Eprint, K: Sink>(rt: &R, why: Stop, out: &mut K) -> u8 {
             (Status::Usage, "usage\n")
         }
         Stop::NoMemory => {
-            say_status(rt, Status::NoMemory.code(), b"", &[]);
+            if let Some(message) = message_for(Status::NoMemory.code(), b"", &[]) {
+                say(rt, message);
+            }
             (Status::NoMemory, "no memory\n")
         }
     };
@@ -44,7 +47,7 @@ fn write<K: Sink>(out: &mut K, text: &str, status: Status) -> u8 {
 }
 
 /// Says why a command ended with this status: in the system's words, where a call on what lies outside failed, else by the last line
-/// that it wrote.
+/// that it wrote. Of a kept index that couldn't be used it says why, whatever the status is.
 pub(crate) fn say_end<R: Eprint, F: Files + Drop, T: Read + Drop, W: Write + Drop>(
     rt: &R,
     status: u8,
@@ -53,18 +56,33 @@ pub(crate) fn say_end<R: Eprint, F: Files + Drop, T: Read + Drop, W: Write + Dro
     input: StreamSource<T>,
     out: Remembering<StreamSink<W>>,
 ) {
+    if let Some(note) = note_for(out.first_line(), words) {
+        say(rt, note);
+    }
     match status {
         3 | 4 if let Some(failure) = shelf.failure() => say_failure(rt, failure),
         5 if let Some(error) = out.inner().error() => say_error(rt, "standard output", error),
         6 if let Some(error) = input.error() => say_error(rt, "standard input", error),
-        _ => say_status(rt, status, out.last_line(), words),
+        _ => {
+            if let Some(message) = message_for(status, out.last_line(), words) {
+                say_of_file(rt, message, shelf);
+            }
+        }
     }
 }
 
-fn say_status<R: Eprint>(rt: &R, status: u8, line: &[u8], words: &[String]) {
-    if let Some(message) = message_for(status, line, words) {
-        let _ = eprintln!(rt; "gdbix: {message}");
-    }
+// Says it with the name of the section that it speaks of.
+fn say_of_file<R: Eprint, S: Shelf + Drop>(rt: &R, message: Message<'_>, mut shelf: S) {
+    let mut room = [0; NAME];
+    let name = match message.section() {
+        Some(number) => section_name(&mut shelf, message.file, number, &mut room),
+        None => None,
+    };
+    say(rt, message.with_section(name.unwrap_or("")));
+}
+
+fn say<R: Eprint>(rt: &R, message: Message<'_>) {
+    let _ = eprintln!(rt; "gdbix: {message}");
 }
 
 fn say_failure<R: Eprint>(rt: &R, failure: &Failure) {

@@ -12,6 +12,12 @@ fn a_fault_comes_with_its_place_and_its_remedy(rt: HostRuntime) -> Result<(), Fa
         text.as_str(),
         "gdbix: app: a debug section is compressed (section [28]); run objcopy --decompress-debug-sections first"
     );
+    assert_eq!(rt; message.section(), Some(28));
+    let message = message.with_section(".debug_info");
+    let text = format!(in rt.alloc(); "{message}")?;
+    assert!(rt;
+        text.as_str().starts_with("app: a debug section is compressed (section [28] .debug_info); ")
+    );
     Ok(())
 }
 

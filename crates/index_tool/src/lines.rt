@@ -1,19 +1,22 @@
-//! An output that remembers the end of what it took.
+//! An output that remembers the first and the last line that it took.
 
 ghost use Rattle.std.specs.Prelude.{◌≡◌, ◌≤◌};
 
-use memchr::memrchr;
+use memchr::{memchr, memrchr};
 use outside::{Failed, Sink};
 
 /// More bytes than a line has that names a fault.
 const KEPT: usize = 64;
 
-/// An output that hands all on to another, and keeps the last bytes that it took.
+/// An output that hands all on to another, and keeps the first and the last bytes that it took.
 #[derive(Drop)]
 pub(crate) struct Remembering<K> {
     to: K,
+    first: [u8; KEPT],
+    first_len: usize,
     last: [u8; KEPT],
     len: usize,
+    ghost first_within: { first_len ≤ 64 },
     ghost within: { len ≤ 64 },
 }
 
@@ -23,6 +26,8 @@ impl<K: Sink> Remembering<K> {
     {
         Remembering {
             to,
+            first: [0; KEPT],
+            first_len: 0,
             last: [0; KEPT],
             len: 0,
         }
@@ -35,6 +40,15 @@ impl<K: Sink> Remembering<K> {
         &self.to
     }
 
+    /// The first line that was written, or the front of it.
+    pub(crate) fn first_line(&self) -> &[u8] {
+        let text = &self.first[..self.first_len];
+        match memchr(b'\n', text) {
+            Some(at) => &text[..at],
+            None => text,
+        }
+    }
+
     /// The last line that was written, or the end of it.
     pub(crate) fn last_line(&self) -> &[u8] {
         let text = &self.last[..self.len];
@@ -45,8 +59,17 @@ impl<K: Sink> Remembering<K> {
         }
     }
 
+    // Keeps the front of these bytes, as far as there is room behind what was kept.
+    fn keep_first(&mut self, piece: &[u8])
+        ensures { self.new.to ≡ self.old.to }
+    {
+        let count = piece.len().min(KEPT - self.first_len);
+        self.first[self.first_len..self.first_len + count].copy_from_slice(&piece[..count]);
+        self.first_len += count;
+    }
+
     // Keeps the end of what was kept and of these bytes.
-    fn keep(&mut self, piece: &[u8])
+    fn keep_last(&mut self, piece: &[u8])
         ensures { self.new.to ≡ self.old.to }
     {
         let fresh = &piece[piece.len() - piece.len().min(KEPT)..];
@@ -64,7 +87,8 @@ impl<K: Sink> Sink for Remembering<K> {
 
     fn write(&mut self, piece: &[u8]) -> Result<usize, Failed> {
         let count = self.to.write(piece)?;
-        self.keep(&piece[..count]);
+        self.keep_first(&piece[..count]);
+        self.keep_last(&piece[..count]);
         Ok(count)
     }
 }
