@@ -1,4 +1,4 @@
-//! outside and index_cmd: a store, an input and an output that fail as planned.
+//! outside and index_cmd: a store, an input and an output that fail as planned, and a file that is missing.
 
 use crate::called::Outside;
 use outside::{Leaves, MemShelf};
@@ -61,5 +61,17 @@ fn a_second_write_that_fails(rt: HostRuntime) -> Result<(), Fail> {
     plan_writes(&mut outside)?;
     let status = outside.run(&rt, rt.alloc(), &SERVE, &[])?;
     assert_eq!(rt; (status, outside.has_written(b"3 mai")), (5, true));
+    Ok(())
+}
+
+// Where the first file isn't there, the second isn't read.
+#[test]
+fn files_are_read_in_the_order_of_the_words(rt: HostRuntime) -> Result<(), Fail> {
+    let mut outside = Outside::new(rt.alloc(), &PLAIN, b"main\n", b"")?;
+    let words = ["look", "names", "A", "T", "name", "main"];
+    let status = outside.run(&rt, rt.alloc(), &words, &[])?;
+    assert_eq!(rt; (status, outside.shelf.reads()), (3, 1));
+    let status = outside.run(&rt, rt.alloc(), &["race", "A", "T"], &[])?;
+    assert_eq!(rt; (status, outside.shelf.reads()), (3, 2));
     Ok(())
 }
