@@ -24,6 +24,10 @@ FORTRAN = "module shapes\ncontains\ninteger function area(n)\ninteger :: n\narea
           "program hello\nuse shapes\nprint *, area(3)\nend program\n"
 
 
+# A row whose changes have many names of 16 MiB, for which the reading lacks the room that a run has.
+NO_SEEDS = {"qualified_name_of_16_mib_and_a_byte"}
+
+
 class Seed:
     """A file that is changed, what lies beside it, and the names and the addresses that are asked for."""
 
@@ -200,6 +204,8 @@ def row_seeds():
         if task is None or task.command not in COMMANDS or any(name not in files for name in task.files[:1]):
             continue
         about, data = os.path.basename(row), files[task.files[0]]
+        if about in NO_SEEDS:
+            continue
         if task.command == "look gdb":
             found.setdefault(data, lambda about=about, data=data: index_seed(about, data))
         elif task.command == "look names" and task.files[1] in files:
