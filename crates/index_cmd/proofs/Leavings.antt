@@ -1,5 +1,5 @@
 -- What the shelf holds, once a status's line is written.
-use Rattle.std.proofs.Common.{◌≡◌, ◌⊎◌, inl, inr, ℕ, List, Option, Some, None, refl, subst}
+use Rattle.std.proofs.Common.{◌≡◌, inl, inr, ℕ, List, Option, Some, None, refl, subst}
 use Rattle.outside.specs.Files.{Files, SameFiles}
 use Rattle.index_cmd.specs.Requests.{Request, TheHelp, TheVersion, OfFile, OfIndex, OfAdd, OfGdb, OfNames, OfServe, OfRace, OfDrill, OfAranges, OfFiles, OfCached, AsksIndex, StoresNothing}
 use Rattle.index_cmd.specs.Replies.{Causes, Ends, without_line, with_line, cut}
