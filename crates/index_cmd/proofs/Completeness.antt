@@ -202,7 +202,7 @@ module _ (files : Files) (reads stores writes : Type 0) (old new : Option (List 
     by_line InputTooLong text is c = absurd (cc is)
     by_line Stopped text is c = absurd (cc is)
 
-    index_meant : (status : Status) → Plain stored (Some files) reads stores writes old new status → LeavesAtEnd stored (Some files) shelf status → IsIndexMeant bytes kind (status_code status)
+    index_meant : (status : Status) → Plain stored (Some files) reads stores writes old new status → LeavesAtEnd stored (Some files) shelf stores status → IsIndexMeant bytes kind (status_code status)
     index_meant status (answers w) left = record {
       stored = λ b e fit. inl refl;
       too_large = λ b e large. absurd (kept_fits (cache_in kind left.3.built) left.3.holds (ap (cache_in kind) (one_built left.3.built b left.0 left.1 left.3.accepted e) ∙ large));
@@ -244,7 +244,7 @@ module _ (files : Files) (reads stores writes : Type 0) (old new : Option (List 
     add_line InputTooLong text is c = absurd (cc is)
     add_line Stopped text is c = absurd (cc is)
 
-    add_meant : (status : Status) → Plain with_index (Some files) reads stores writes old new status → LeavesAtEnd with_index (Some files) shelf status → IsAddMeant bytes kind (status_code status)
+    add_meant : (status : Status) → Plain with_index (Some files) reads stores writes old new status → LeavesAtEnd with_index (Some files) shelf stores status → IsAddMeant bytes kind (status_code status)
     add_meant status (answers w) left = when_stored bytes kind (Stored (Some files) shelf out) (of_these (OfAdded kind (Stored (Some files) shelf out)) left)
     add_meant status (refuses w) left = when_refused bytes kind w.1.3.fault (ap first_fault (sym (same_bytes (files file) w.1.0 bytes w.1.1 holds)) ∙ w.1.3.first)
     add_meant status (table_refuses table w) left = absurd w.1
@@ -448,7 +448,7 @@ module _ (seed units : ℕ) (told : Option Files) (heard : Heard) (reads stores 
   drill_meant status (lines text is c a) = drill_line status text is c
   drill_meant status (fails f p) = absurd (no_write f)
 
-pub complete : (request : Option Request) (told shelf : Option Files) (heard : Heard) (reads stores writes : Type 0) (old new : Option (List ℕ)) (status : Status) → Outcome request told heard reads stores writes old new status → LeavesAtEnd request told shelf status →
+pub complete : (request : Option Request) (told shelf : Option Files) (heard : Heard) (reads stores writes : Type 0) (old new : Option (List ℕ)) (status : Status) → Outcome request told heard reads stores writes old new status → LeavesAtEnd request told shelf stores status →
     Completes request told heard reads stores writes (status_code status)
 complete None told shelf heard reads stores writes old new status o left = nothing_asked told reads stores writes old new status (plain None told reads stores writes old new heard (λ _ _ h. h) status o)
 complete (Some TheHelp) told shelf heard reads stores writes old new status o left = λ none. own_text told reads stores writes old new TheHelp (λ P h. h) (λ P h. h) (λ P h. h) (λ h. h) (λ text h. h) (λ text kind h. h) (λ h. h) (λ h. h) none status (plain (Some TheHelp) told reads stores writes old new heard (λ _ _ h. h) status o)

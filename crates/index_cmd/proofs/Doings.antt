@@ -1,21 +1,16 @@
 -- What a command did, by what its call says.
 use Rattle.std.specs.Prelude.{⊤}
-use Rattle.std.proofs.Common.{◌≡◌, ◌⊎◌, inl, inr, ℕ, List, Option, Some, refl, sym, subst}
+use Rattle.std.proofs.Common.{inl, inr, ℕ, List, Option, Some, subst}
 use Rattle.ix_base.specs.declared.limits.TheConstants.{MAX_FILE_BYTES}
 use Rattle.index_model.specs.declared.job.CacheKind.{CacheKind}
 use Rattle.index_model.specs.Cache.{cache_in}
 use Rattle.index_model.specs.Queries.{Query}
 use Rattle.outside.specs.Counts.{Rose}
 use Rattle.outside.specs.Files.{Files, SameFiles, Stored, StoredOrPrefix}
-use Rattle.outside.specs.Written.{Appends, AppendsPrefix}
 use Rattle.outside.proofs.CountLaws.{then-rose}
 use Rattle.outside.proofs.FileLaws.{same_files-refl, same_files-trans}
-use Rattle.outside.proofs.WrittenLaws.{appends_none}
 use Rattle.command_base.specs.FilesRead.{HoldsMore}
 use Rattle.command_base.specs.Replies.{CausesOfResult, SaysFile, Wrote}
-use Rattle.command_base.specs.Stops.{stop_status}
-use Rattle.command_base.specs.declared.file.ReadStop.{ReadStop}
-use Rattle.command_base.specs.declared.file.ReadStop.TheVariants as stops
 use Rattle.command_base.specs.declared.status.Table.TheVariants.{Addresses, Lines}
 use Rattle.command_base.specs.declared.status.Status.{Status}
 use Rattle.command_base.specs.declared.status.Status.TheVariants.{Answered, Refused, Usage, ReadFault, StoreFault, WriteFault, NoMemory, IndexRefused, TableRefused, IndexTooLarge, FileTooBig, AlreadyIndexed, TooManySections, InputFault, InputTooLong, Stopped}
@@ -30,88 +25,18 @@ use Rattle.command_base.specs.GdbLooks.{SaysGdb}
 use Rattle.index_commands.specs.Indexes.{CausesOfIndex, LeavesIndex, SaysIndex}
 use Rattle.index_commands.specs.NamesLooks.{SaysNames}
 use Rattle.add_command.specs.Adds.{CausesOfAdd, LeavesAdd, SaysAdd}
-use Rattle.drill_command.specs.DrillResults.{CausesOfDrill, SaysDrill}
 use Rattle.command_base.specs.Tables.{CausesOfTable}
 use Rattle.aranges_command.specs.Comparisons.{SaysAranges}
 use Rattle.files_command.specs.Listings.{SaysFiles}
 use Rattle.cached_command.specs.Cached.{CausesOfCached, LeavesCached, SaysCached}
 use Rattle.index_cmd.proofs.Keeping.{cached_from, may_from}
 use Rattle.index_cmd.specs.Doings.{CausesBeside, Does, SaysBeside, WasRead}
-use Rattle.index_cmd.specs.Replies.{Causes, IsAnswer}
-use Rattle.index_cmd.specs.Requests.{Request, OfFile, OfIndex, OfAdd, OfGdb, OfNames, OfServe, OfRace, OfDrill, OfAranges, OfFiles, OfCached, AsksFile, StoresNothing}
+use Rattle.index_cmd.specs.Replies.{Causes}
+use Rattle.index_cmd.specs.Requests.{Request, OfFile, OfIndex, OfAdd, OfGdb, OfNames, OfServe, OfRace, OfAranges, OfFiles, OfCached, AsksFile, StoresNothing}
 use Rattle.index_cmd.specs.Results.{Says}
 use Rattle.index_cmd.specs.Stores.{Leaves}
-use Rattle.index_cmd.specs.Tasks.{request_on}
-use Rattle.index_cmd.specs.declared.task.Action.{Action}
-use Rattle.index_cmd.specs.declared.task.Action.TheVariants as actions
 use Rattle.index_cmd.proofs.Leavings.{leaves_same}
-use Rattle.index_cmd.proofs.Outcomes.{IsPlain, says_plain}
 use Rattle.index_cmd.proofs.Storings.{keeps_from, keeps_part_from, of_added, part_from, stored_from}
-
--- ---- the file wasn't read
-
-asks_first : (file : List ℕ) (action : Action) (P : List ℕ → ℕ → Type 0) → P file MAX_FILE_BYTES → AsksFile (Some (request_on file action)) P
-asks_first file (actions.Ask q) P p = p
-asks_first file (actions.Index kind out) P p = p
-asks_first file (actions.Add kind out) P p = p
-asks_first file (actions.LookGdb q) P p = p
-asks_first file (actions.LookNames base strings name) P p = inl p
-asks_first file (actions.Serve wait) P p = p
-asks_first file (actions.Race readers script) P p = inl p
-asks_first file actions.Aranges P p = p
-asks_first file (actions.Files name) P p = p
-asks_first file (actions.Cached store q) P p = p
-
-module _ (file : List ℕ) (action : Action) (told shelf : Option Files) (heard : Heard) (reads stores writes : Type 0) (out : Option (List ℕ)) (same : SameFiles told shelf) where
-  abbrev on_file : Option Request
-  on_file = Some (request_on file action)
-
-  pub stopped_reading : (stop : ReadStop) → (stop ≡ stops.Fault → reads) → (stop ≡ stops.TooBig → HoldsMore told file MAX_FILE_BYTES) → Does on_file told shelf heard reads stores writes out out (stop_status stop)
-  stopped_reading stops.Fault fault big = record { wrote = appends_none out; causes = asks_first file action (λ _ _. reads) (fault refl); leaves = same }
-  stopped_reading stops.TooBig fault big = record { wrote = appends_none out; causes = asks_first file action (HoldsMore told) (big refl); leaves = same }
-  stopped_reading stops.Memory fault big = record { wrote = appends_none out; causes = tt; leaves = same }
-
--- ---- a text of the program's own
-
-module _ (request : Request) (told : Option Files) (heard : Heard) (reads stores writes : Type 0) (old new : Option (List ℕ)) (text : List ℕ) where
-  pub own_text : IsPlain (Some request) → StoresNothing (Some request) → IsAnswer (Some request) told text → (result : Status) → (result ≡ Answered → Appends old new text) → (result ≡ Answered) ⊎ (result ≡ WriteFault) → (result ≡ WriteFault → writes) → (result ≡ WriteFault → AppendsPrefix old new text) →
-      Does (Some request) told told heard reads stores writes old new result
-  own_text plain nothing is result said (inl e) fault left = subst (Does (Some request) told told heard reads stores writes old new) (sym e) (record {
-    wrote = (text, says_plain (Some request) plain told heard Answered text is, said e);
-    causes = tt;
-    leaves = leaves_same (Some request) told told nothing told reads stores writes Answered tt (same_files-refl told);
-  })
-  own_text plain nothing is result said (inr e) fault left = subst (Does (Some request) told told heard reads stores writes old new) (sym e) (record {
-    wrote = (Answered, text, says_plain (Some request) plain told heard Answered text is, left e);
-    causes = fault e;
-    leaves = leaves_same (Some request) told told nothing told reads stores writes WriteFault (fault e) (same_files-refl told);
-  })
-
--- ---- `drill`
-
-module _ (seed units : ℕ) (told : Option Files) (heard : Heard) (reads stores writes : Type 0) (old new : Option (List ℕ)) where
-  causes_drilled : (status : Status) → CausesOfDrill seed units writes status → Causes (Some (OfDrill seed units)) told reads stores writes status
-  causes_drilled Answered c = tt
-  causes_drilled Refused c = tt
-  causes_drilled Usage c = absurd c
-  causes_drilled ReadFault c = absurd c
-  causes_drilled StoreFault c = absurd c
-  causes_drilled WriteFault c = c
-  causes_drilled NoMemory c = tt
-  causes_drilled IndexRefused c = absurd c
-  causes_drilled (TableRefused table) c = absurd c
-  causes_drilled IndexTooLarge c = c
-  causes_drilled FileTooBig c = absurd c
-  causes_drilled AlreadyIndexed c = absurd c
-  causes_drilled TooManySections c = absurd c
-  causes_drilled InputFault c = absurd c
-  causes_drilled InputTooLong c = absurd c
-  causes_drilled Stopped c = absurd c
-
-  pub drilled : (status : Status) → Wrote (SaysDrill seed units) status old new → CausesOfDrill seed units writes status → Does (Some (OfDrill seed units)) told told heard reads stores writes old new status
-  drilled status w c =
-      let causes = causes_drilled status c in
-      record { wrote = w; causes = causes; leaves = leaves_same (Some (OfDrill seed units)) told told tt told reads stores writes status causes (same_files-refl told) }
 
 -- ---- the bytes of a file are asked
 
@@ -329,7 +254,7 @@ module _ (told shelf : Option Files) (file bytes : List ℕ) (heard : Heard) (ol
 
     cached_leaves : (after : Option Files) (status : Status) → CausesOfCached bytes writes status → LeavesCached bytes store shelf after status → Leaves (Some (OfCached file store q)) told after status
     cached_leaves after Answered c h = (bytes, was.holds, was.small, may_from told shelf was.same after bytes store h)
-    cached_leaves after WriteFault c h = (bytes, was.holds, was.small, may_from told shelf was.same after bytes store h)
+    cached_leaves after WriteFault c h = inr (bytes, was.holds, was.small, may_from told shelf was.same after bytes store h)
     cached_leaves after StoreFault c h = absurd c
     cached_leaves after Refused c h = same_files-trans told shelf after was.same h
     cached_leaves after Usage c h = same_files-trans told shelf after was.same h
@@ -452,7 +377,7 @@ module _ (told shelf : Option Files) (file bytes : List ℕ) (heard : Heard) (ol
     index_leaves after Usage c h = absurd c
     index_leaves after ReadFault c h = absurd c
     index_leaves after StoreFault c h = (bytes, was.holds, was.small, record { built = h.built; accepted = h.accepted; holds = keeps_part_from out told shelf after was.same (cache_in kind h.built) h.holds })
-    index_leaves after WriteFault c h = same_files-trans told shelf after was.same h
+    index_leaves after WriteFault c h = inl (same_files-trans told shelf after was.same h)
     index_leaves after NoMemory c h = same_files-trans told shelf after was.same h
     index_leaves after IndexRefused c h = same_files-trans told shelf after was.same h
     index_leaves after (TableRefused table) c h = same_files-trans told shelf after was.same h
@@ -519,7 +444,7 @@ module _ (told shelf : Option Files) (file bytes : List ℕ) (heard : Heard) (ol
     add_leaves after Usage c h = absurd c
     add_leaves after ReadFault c h = absurd c
     add_leaves after StoreFault c h = (bytes, was.holds, was.small, of_added bytes kind (StoredOrPrefix shelf after out) (StoredOrPrefix told after out) (λ program. part_from out program told shelf after was.same) h)
-    add_leaves after WriteFault c h = same_files-trans told shelf after was.same h
+    add_leaves after WriteFault c h = inl (same_files-trans told shelf after was.same h)
     add_leaves after NoMemory c h = same_files-trans told shelf after was.same h
     add_leaves after IndexRefused c h = same_files-trans told shelf after was.same h
     add_leaves after (TableRefused table) c h = same_files-trans told shelf after was.same h

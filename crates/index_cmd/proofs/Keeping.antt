@@ -1,5 +1,5 @@
 -- What is kept and said behind a shelf that holds the same.
-use Rattle.std.proofs.Common.{◌≡◌, ◌⊎◌, inl, inr, ℕ, List, Option, Some, None}
+use Rattle.std.proofs.Common.{inl, inr, ℕ, List, Option}
 use Rattle.ix_base.specs.declared.fault.Fault.{Fault}
 use Rattle.ix_base.specs.declared.limits.TheConstants.{MAX_FILE_BYTES}
 use Rattle.index_model.specs.Queries.{Query}
@@ -8,10 +8,9 @@ use Rattle.outside.proofs.FileLaws.{same_files-trans}
 use Rattle.reach_model.specs.BuildIds.{cache_name}
 use Rattle.reach_model.specs.KeptIndexes.{kept_bytes}
 use Rattle.command_base.proofs.FileReads.{same_more, same_whole}
-use Rattle.command_base.specs.declared.status.Status.{Status}
 use Rattle.command_base.specs.declared.status.Status.TheVariants.{Refused, IndexTooLarge}
 use Rattle.cached_command.specs.Cached.{LooksFirst, MayKeep}
-use Rattle.cached_command.specs.Caches.{FaultsEarly, IsCached, hit, stored, unsaved, IsMissed, without_id, unread, stale, IsStale, refused, too_large, IsNotKept, nowhere, failed}
+use Rattle.cached_command.specs.Caches.{IsCached, hit, stored, unsaved, IsMissed, without_id, unread, stale, IsStale, refused, too_large, IsNotKept, nowhere, failed}
 use Rattle.index_cmd.proofs.Storings.{part_from, stored_from}
 
 module _ (told shelf : Option Files) (same : SameFiles told shelf) where

@@ -2,7 +2,7 @@
 use Rattle.std.proofs.Common.{◌≡◌, ◌⊎◌, inl, inr, ℕ, ◌<◌, List, length, Option, Some, None, Result, Ok, Err, refl, sym, ap, subst, ◌∙◌}
 use Rattle.ix_base.specs.declared.fault.Fault.{Fault}
 use Rattle.ix_base.specs.declared.limits.TheConstants.{MAX_FILE_BYTES}
-use Rattle.file_image.specs.Images.{Image, image_of}
+use Rattle.file_image.specs.Images.{Image}
 use Rattle.index_model.specs.declared.job.CacheKind.TheVariants.{Gdb9}
 use Rattle.index_model.specs.Cache.{GdbBytes, DoesNotFit, cache_in}
 use Rattle.index_model.specs.Faults.{Built, built_of, first_fault}

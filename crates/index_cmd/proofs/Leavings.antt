@@ -1,14 +1,14 @@
 -- What the shelf holds, once a status's line is written.
-use Rattle.std.proofs.Common.{◌≡◌, ◌⊎◌, inl, inr, ℕ, List, Option, Some, None, refl, subst}
+use Rattle.std.proofs.Common.{◌≡◌, inl, inr, ℕ, List, Option, Some, None, refl, subst}
 use Rattle.outside.specs.Files.{Files, SameFiles}
 use Rattle.index_cmd.specs.Requests.{Request, TheHelp, TheVersion, OfFile, OfIndex, OfAdd, OfGdb, OfNames, OfServe, OfRace, OfDrill, OfAranges, OfFiles, OfCached, AsksIndex, StoresNothing}
 use Rattle.index_cmd.specs.Replies.{Causes, Ends, without_line, with_line, cut}
 use Rattle.command_base.specs.Replies.{line_of}
 use Rattle.command_base.specs.Statuses.{status_code}
-use Rattle.index_cmd.specs.Stores.{IsCut, IsStored, IsPartStored, Leaves, LeavesAtEnd}
+use Rattle.index_cmd.specs.Stores.{IsMaybeKept, IsStored, IsPartStored, Leaves, LeavesAtEnd, LeavesCut}
 use Rattle.command_base.specs.declared.status.Status.{Status}
 use Rattle.command_base.specs.declared.status.Status.TheVariants.{Answered, Refused, Usage, ReadFault, StoreFault, WriteFault, NoMemory, IndexRefused, TableRefused, IndexTooLarge, FileTooBig, AlreadyIndexed, TooManySections, InputFault, InputTooLong, Stopped}
-use Rattle.index_cmd.proofs.Outcomes.{one_status}
+use Rattle.index_cmd.proofs.Outcomes.{asks_index, one_status}
 
 -- ---- a command that stores nothing
 
@@ -76,39 +76,21 @@ no_index (Some (OfIndex kind file out)) P n h = n
 no_index (Some (OfAdd kind file out)) P n h = n
 no_index (Some (OfCached file store q)) P n h = h
 
--- a write that failed leaves what was there
-same_cut : (request : Option Request) (old new : Option Files) → StoresNothing request → SameFiles old new → IsCut request old new
-same_cut None old new n h = h
-same_cut (Some TheHelp) old new n h = h
-same_cut (Some TheVersion) old new n h = h
-same_cut (Some (OfFile file q)) old new n h = h
-same_cut (Some (OfGdb index q)) old new n h = h
-same_cut (Some (OfNames base index strings name)) old new n h = h
-same_cut (Some (OfServe wait file)) old new n h = h
-same_cut (Some (OfRace readers file script)) old new n h = h
-same_cut (Some (OfDrill seed units)) old new n h = h
-same_cut (Some (OfAranges file)) old new n h = h
-same_cut (Some (OfFiles file name)) old new n h = h
-same_cut (Some (OfIndex kind file out)) old new n h = h
-same_cut (Some (OfAdd kind file out)) old new n h = h
-same_cut (Some (OfCached file store q)) old new n h = absurd n
-
--- or, where an index may be kept, a part of it
-cut_or_part : (request : Option Request) (old new : Option Files) → IsCut request old new → SameFiles old new ⊎ IsPartStored request old new
-cut_or_part None old new h = inl h
-cut_or_part (Some TheHelp) old new h = inl h
-cut_or_part (Some TheVersion) old new h = inl h
-cut_or_part (Some (OfFile file q)) old new h = inl h
-cut_or_part (Some (OfGdb index q)) old new h = inl h
-cut_or_part (Some (OfNames base index strings name)) old new h = inl h
-cut_or_part (Some (OfServe wait file)) old new h = inl h
-cut_or_part (Some (OfRace readers file script)) old new h = inl h
-cut_or_part (Some (OfDrill seed units)) old new h = inl h
-cut_or_part (Some (OfAranges file)) old new h = inl h
-cut_or_part (Some (OfFiles file name)) old new h = inl h
-cut_or_part (Some (OfIndex kind file out)) old new h = inl h
-cut_or_part (Some (OfAdd kind file out)) old new h = inl h
-cut_or_part (Some (OfCached file store q)) old new h = inr h
+not_kept : (request : Option Request) (old new : Option Files) → StoresNothing request → IsMaybeKept request old new → ⊥
+not_kept None old new n h = h
+not_kept (Some TheHelp) old new n h = h
+not_kept (Some TheVersion) old new n h = h
+not_kept (Some (OfFile file q)) old new n h = h
+not_kept (Some (OfGdb index q)) old new n h = h
+not_kept (Some (OfNames base index strings name)) old new n h = h
+not_kept (Some (OfServe wait file)) old new n h = h
+not_kept (Some (OfRace readers file script)) old new n h = h
+not_kept (Some (OfDrill seed units)) old new n h = h
+not_kept (Some (OfAranges file)) old new n h = h
+not_kept (Some (OfFiles file name)) old new n h = h
+not_kept (Some (OfIndex kind file out)) old new n h = h
+not_kept (Some (OfAdd kind file out)) old new n h = h
+not_kept (Some (OfCached file store q)) old new n h = n
 
 module _ (request : Option Request) (old new : Option Files) (n : StoresNothing request) where
   -- it leaves what was there
@@ -118,7 +100,7 @@ module _ (request : Option Request) (old new : Option Files) (n : StoresNothing 
   leaves_same told reads stores writes Refused c same = same
   leaves_same told reads stores writes Usage c same = same
   leaves_same told reads stores writes ReadFault c same = same
-  leaves_same told reads stores writes WriteFault c same = same_cut request old new n same
+  leaves_same told reads stores writes WriteFault c same = inl same
   leaves_same told reads stores writes NoMemory c same = same
   leaves_same told reads stores writes IndexRefused c same = same
   leaves_same told reads stores writes (TableRefused table) c same = same
@@ -130,30 +112,32 @@ module _ (request : Option Request) (old new : Option Files) (n : StoresNothing 
   leaves_same told reads stores writes InputTooLong c same = same
   leaves_same told reads stores writes Stopped c same = same
 
-  pub kept : (status : Status) → LeavesAtEnd request old new status → SameFiles old new
-  kept Answered h = stored_same request old new n h
-  kept StoreFault h = absurd (no_part request old new n h)
-  kept WriteFault (inl h) = h
-  kept WriteFault (inr h) = absurd (no_part request old new n h)
-  kept Refused h = h
-  kept Usage h = h
-  kept ReadFault h = h
-  kept NoMemory h = h
-  kept IndexRefused h = h
-  kept (TableRefused table) h = h
-  kept IndexTooLarge h = h
-  kept FileTooBig h = h
-  kept AlreadyIndexed h = h
-  kept TooManySections h = h
-  kept InputFault h = h
-  kept InputTooLong h = h
-  kept Stopped h = h
+  pub kept : (stores : Type 0) (status : Status) → LeavesAtEnd request old new stores status → SameFiles old new
+  kept stores Answered h = stored_same request old new n h
+  kept stores StoreFault h = absurd (no_part request old new n h)
+  kept stores WriteFault (inl h) = h
+  kept stores WriteFault (inr (inl part)) = absurd (no_part request old new n part.1)
+  kept stores WriteFault (inr (inr may)) = absurd (not_kept request old new n may)
+  kept stores Refused h = h
+  kept stores Usage h = h
+  kept stores ReadFault h = h
+  kept stores NoMemory h = h
+  kept stores IndexRefused h = h
+  kept stores (TableRefused table) h = h
+  kept stores IndexTooLarge h = h
+  kept stores FileTooBig h = h
+  kept stores AlreadyIndexed h = h
+  kept stores TooManySections h = h
+  kept stores InputFault h = h
+  kept stores InputTooLong h = h
+  kept stores Stopped h = h
 
 -- ---- any command
 
-module _ (request : Option Request) (old new : Option Files) where
-  as_left : (status : Status) → Leaves request old new status → LeavesAtEnd request old new status
-  as_left WriteFault h = cut_or_part request old new h
+module _ (request : Option Request) (old new : Option Files) (stores : Type 0) where
+  as_left : (status : Status) → Leaves request old new status → LeavesAtEnd request old new stores status
+  as_left WriteFault (inl same) = inl same
+  as_left WriteFault (inr may) = inr (inr may)
   as_left Answered h = h
   as_left StoreFault h = h
   as_left Refused h = h
@@ -171,35 +155,36 @@ module _ (request : Option Request) (old new : Option Files) where
   as_left Stopped h = h
 
   -- the line wasn't written whole
-  cut_left : (status : Status) (text : List ℕ) → line_of status ≡ Some text → Leaves request old new status → SameFiles old new ⊎ IsPartStored request old new
-  cut_left StoreFault text has h = inr h
-  cut_left Usage text has h = inl h
-  cut_left ReadFault text has h = inl h
-  cut_left NoMemory text has h = inl h
-  cut_left IndexTooLarge text has h = inl h
-  cut_left FileTooBig text has h = inl h
-  cut_left AlreadyIndexed text has h = inl h
-  cut_left TooManySections text has h = inl h
-  cut_left Answered text has h = absurd (cc has)
-  cut_left Refused text has h = absurd (cc has)
-  cut_left IndexRefused text has h = absurd (cc has)
-  cut_left (TableRefused table) text has h = absurd (cc has)
-  cut_left WriteFault text has h = absurd (cc has)
-  cut_left InputFault text has h = absurd (cc has)
-  cut_left InputTooLong text has h = absurd (cc has)
-  cut_left Stopped text has h = absurd (cc has)
+  cut_left : (told : Option Files) (reads writes : Type 0) (status : Status) (text : List ℕ) → line_of status ≡ Some text → Causes request told reads stores writes status → Leaves request old new status → LeavesCut request old new stores
+  cut_left told reads writes StoreFault text has c h = inr (inl (asks_index request stores c, h))
+  cut_left told reads writes Usage text has c h = inl h
+  cut_left told reads writes ReadFault text has c h = inl h
+  cut_left told reads writes NoMemory text has c h = inl h
+  cut_left told reads writes IndexTooLarge text has c h = inl h
+  cut_left told reads writes FileTooBig text has c h = inl h
+  cut_left told reads writes AlreadyIndexed text has c h = inl h
+  cut_left told reads writes TooManySections text has c h = inl h
+  cut_left told reads writes Answered text has c h = absurd (cc has)
+  cut_left told reads writes Refused text has c h = absurd (cc has)
+  cut_left told reads writes IndexRefused text has c h = absurd (cc has)
+  cut_left told reads writes (TableRefused table) text has c h = absurd (cc has)
+  cut_left told reads writes WriteFault text has c h = absurd (cc has)
+  cut_left told reads writes InputFault text has c h = absurd (cc has)
+  cut_left told reads writes InputTooLong text has c h = absurd (cc has)
+  cut_left told reads writes Stopped text has c h = absurd (cc has)
 
-  pub left_at_end : (status result : Status) (written_old written_new : Option (List ℕ)) (failed : Type 0) → Ends status written_old written_new failed result → Leaves request old new status → LeavesAtEnd request old new result
-  left_at_end status result a b failed (without_line none same) h = as_left status h
-  left_at_end status result a b failed (with_line text has all) h = as_left status h
-  left_at_end status result a b failed (cut text has f part) h = cut_left status text has h
+  pub left_at_end : (told : Option Files) (reads writes : Type 0) (status result : Status) (written_old written_new : Option (List ℕ)) (failed : Type 0) → Ends status written_old written_new failed result → Causes request told reads stores writes status → Leaves request old new status →
+      LeavesAtEnd request old new stores result
+  left_at_end told reads writes status result a b failed (without_line none same) c h = as_left status h
+  left_at_end told reads writes status result a b failed (with_line text has all) c h = as_left status h
+  left_at_end told reads writes status result a b failed (cut text has f part) c h = cut_left told reads writes status text has c h
 
   -- by the number of a status
-  pub left_by : (status other : Status) → (status_code other ≡ 7 → ⊥) → status_code status ≡ status_code other → LeavesAtEnd request old new status → LeavesAtEnd request old new other
-  left_by status other n e h = subst (LeavesAtEnd request old new) (one_status status other n e) h
+  pub left_by : (status other : Status) → (status_code other ≡ 7 → ⊥) → status_code status ≡ status_code other → LeavesAtEnd request old new stores status → LeavesAtEnd request old new stores other
+  left_by status other n e h = subst (LeavesAtEnd request old new stores) (one_status status other n e) h
 
   -- where the index isn't stored and no store and no write failed, all is as before
-  pub untouched : (status : Status) → (status_code status ≡ 0 → ⊥) → (status_code status ≡ 4 → ⊥) → (status_code status ≡ 5 → ⊥) → LeavesAtEnd request old new status → SameFiles old new
+  pub untouched : (status : Status) → (status_code status ≡ 0 → ⊥) → (status_code status ≡ 4 → ⊥) → (status_code status ≡ 5 → ⊥) → LeavesAtEnd request old new stores status → SameFiles old new
   untouched Answered a b c h = absurd (a refl)
   untouched StoreFault a b c h = absurd (b refl)
   untouched WriteFault a b c h = absurd (c refl)

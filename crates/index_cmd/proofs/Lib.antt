@@ -3,6 +3,7 @@ mod Outcomes
 mod Leavings
 mod Storings
 mod Beside
+mod Fileless
 mod Doings
 mod Adding
 mod Tables

@@ -389,6 +389,12 @@ none_some f e = cc e
 pub no_line : (status : Status) (written : Option (List ℕ)) (failed : Type 0) → line_of status ≡ None → Ends status written written failed status
 no_line status written failed none = without_line none refl
 
+-- what isn't a write that failed was so before the line
+pub ended : (status result other : Status) (old new : Option (List ℕ)) (failed : Type 0) → (other ≡ WriteFault → ⊥) → Ends status old new failed result → result ≡ other → status ≡ other
+ended status result other old new failed n (without_line none same) e = e
+ended status result other old new failed n (with_line text has all) e = e
+ended status result other old new failed n (cut text has f part) e = absurd (n (sym e))
+
 pub line_said : (status result : Status) (old new : Option (List ℕ)) (failed : Type 0) (text : List ℕ) → line_of status ≡ Some text → (result ≡ status → Appends old new text) → (result ≡ status) ⊎ (result ≡ WriteFault) → (result ≡ WriteFault → failed) → (result ≡ WriteFault → AppendsPrefix old new text) → Ends status old new failed result
 line_said status result old new failed text has said (inl e) fault left = subst (Ends status old new failed) (sym e) (with_line text has (said e))
 line_said status result old new failed text has said (inr e) fault left = subst (Ends status old new failed) (sym e) (cut text has (fault e) (left e))

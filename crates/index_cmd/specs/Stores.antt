@@ -17,17 +17,26 @@ IsStored (Some (OfAdd kind file out)) old new = ForNamedProgram old file kind (O
 IsStored (Some (OfCached file store q)) old new = OfFileBytes old file (λ bytes. MayKeep old new bytes store)
 IsStored other old new = SameFiles old new
 
--- a store of the index, or of the program with it, failed, and left this; or a write failed where an index may be kept
+-- A store of the index, or of the program with it, failed, and left this. Where an index may be kept, a store that failed changes no
+-- status.
 abbrev pub IsPartStored : Option Request → Option Files → Option Files → Type 0
 IsPartStored (Some (OfIndex kind file out)) old new = ForIndex old file kind (KeepsPart old new out)
 IsPartStored (Some (OfAdd kind file out)) old new = ForNamedProgram old file kind (OfAdded kind (StoredOrPrefix old new out))
-IsPartStored (Some (OfCached file store q)) old new = OfFileBytes old file (λ bytes. MayKeep old new bytes store)
 IsPartStored other old new = ⊥
+
+-- an index that was asked may be kept, wholly or in part
+abbrev pub IsMaybeKept : Option Request → Option Files → Option Files → Type 0
+IsMaybeKept (Some (OfCached file store q)) old new = OfFileBytes old file (λ bytes. MayKeep old new bytes store)
+IsMaybeKept other old new = ⊥
+
+-- A write failed. The shelf holds what it held; or a store failed before, whose line was cut, and left a part; or an index that was
+-- asked may be kept.
+abbrev pub LeavesCut : Option Request → Option Files → Option Files → Type 0 → Type 0
+LeavesCut request old new stores = SameFiles old new ⊎ (stores × IsPartStored request old new) ⊎ IsMaybeKept request old new
 
 -- a write of a result failed, and the shelf holds this
 abbrev pub IsCut : Option Request → Option Files → Option Files → Type 0
-IsCut (Some (OfCached file store q)) old new = IsPartStored (Some (OfCached file store q)) old new
-IsCut other old new = SameFiles old new
+IsCut request old new = SameFiles old new ⊎ IsMaybeKept request old new
 
 -- what the shelf holds, by the status that a command came to
 abbrev pub Leaves : Option Request → Option Files → Option Files → Status → Type 0
@@ -36,7 +45,7 @@ Leaves request old new StoreFault = IsPartStored request old new
 Leaves request old new WriteFault = IsCut request old new
 Leaves request old new other = SameFiles old new
 
--- the same, once the status's line was to be written
-abbrev pub LeavesAtEnd : Option Request → Option Files → Option Files → Status → Type 0
-LeavesAtEnd request old new WriteFault = SameFiles old new ⊎ IsPartStored request old new
-LeavesAtEnd request old new status = Leaves request old new status
+-- the same, once the status's line was to be written, by whether a store failed
+abbrev pub LeavesAtEnd : Option Request → Option Files → Option Files → Type 0 → Status → Type 0
+LeavesAtEnd request old new stores WriteFault = LeavesCut request old new stores
+LeavesAtEnd request old new stores status = Leaves request old new status

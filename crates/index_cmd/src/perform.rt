@@ -1,6 +1,6 @@
 //! What is asked for is done.
 
-ghost use Rattle.std.specs.Prelude.{◌≡◌, ◌<◌, ◌≤◌, Some, ℕ, List, Option, length};
+ghost use Rattle.std.specs.Prelude.{◌≡◌, ◌<◌, ◌≤◌, ◌⊎◌, Some, ℕ, List, Option, length};
 ghost use Rattle.ix_base.specs.declared.limits.TheConstants.{MAX_FILE_BYTES};
 ghost use Rattle.outside.specs.Counts.{Rose};
 ghost use Rattle.outside.specs.Files.{Files, SameFiles};
@@ -10,6 +10,7 @@ ghost use Rattle.session_commands.specs.Races.{SaysRace};
 ghost use Rattle.session_commands.specs.declared.script.TheConstants.{MAX_SCRIPT_BYTES};
 ghost use Rattle.command_base.specs.Replies.{Wrote};
 ghost use Rattle.command_base.specs.FilesRead.{Holds};
+ghost use Rattle.command_base.specs.declared.status.Status.TheVariants as statuses;
 ghost use Rattle.index_cmd.specs.Caching.{UsesKept};
 ghost use Rattle.index_cmd.specs.Doings.{CausesBeside, Does, SaysBeside, WasRead};
 ghost use Rattle.index_cmd.specs.Requests.{ReadsNoInput};
@@ -47,6 +48,7 @@ pub(crate) fn perform<
     ensures did { Does (Some (request_seen task.now)) (F.files shelf.old) (F.files shelf.new) (heard S.left S.read_faults input.old input.new) (Rose (F.read_faults shelf.old) (F.read_faults shelf.new)) (Rose (F.store_faults shelf.old) (F.store_faults shelf.new)) (Rose (K.write_faults out.old) (K.write_faults out.new)) (K.written out.old) (K.written out.new) result }
     ensures uses { UsesKept (Some (request_seen task.now)) (F.files shelf.old) (F.files shelf.new) (Rose (F.kept_faults shelf.old) (F.kept_faults shelf.new)) (Rose (F.store_faults shelf.old) (F.store_faults shelf.new)) (K.written out.old) (K.written out.new) result }
     ensures input { ReadsNoInput (Some (request_seen task.now)) → input.new ≡ input.old }
+    ensures unread { (result ≡ statuses.ReadFault) ⊎ (result ≡ statuses.FileTooBig) → input.new ≡ input.old }
     ensures counts { K.write_faults out.old ≤ K.write_faults out.new }
 {
     match task {
@@ -71,6 +73,7 @@ fn read_and_act<
     ensures did { Does (Some (request_on on.now.file.now on.now.action)) (F.files shelf.old) (F.files shelf.new) (heard S.left S.read_faults input.old input.new) (Rose (F.read_faults shelf.old) (F.read_faults shelf.new)) (Rose (F.store_faults shelf.old) (F.store_faults shelf.new)) (Rose (K.write_faults out.old) (K.write_faults out.new)) (K.written out.old) (K.written out.new) result }
     ensures uses { UsesKept (Some (request_on on.now.file.now on.now.action)) (F.files shelf.old) (F.files shelf.new) (Rose (F.kept_faults shelf.old) (F.kept_faults shelf.new)) (Rose (F.store_faults shelf.old) (F.store_faults shelf.new)) (K.written out.old) (K.written out.new) result }
     ensures input { ReadsNoInput (Some (request_on on.now.file.now on.now.action)) → input.new ≡ input.old }
+    ensures unread { (result ≡ statuses.ReadFault) ⊎ (result ≡ statuses.FileTooBig) → input.new ≡ input.old }
     ensures counts { K.write_faults out.old ≤ K.write_faults out.new }
 {
     match read_file(crew.alloc, shelf, on.file, MAX_FILE_BYTES as usize) {
@@ -95,6 +98,7 @@ fn act<R: Threads + Wait + Sync, F: Shelf, S: Source + Send, K: Sink + Send, G: 
     ensures did { (told : Option Files) (file : List ℕ) (old_reads old_stores : ℕ) → WasRead told (F.files shelf.old) file bytes.now old_reads (F.read_faults shelf.old) old_stores (F.store_faults shelf.old) → Does (Some (request_on file action.now)) told (F.files shelf.new) (heard S.left S.read_faults input.old input.new) (Rose old_reads (F.read_faults shelf.new)) (Rose old_stores (F.store_faults shelf.new)) (Rose (K.write_faults out.old) (K.write_faults out.new)) (K.written out.old) (K.written out.new) result }
     ensures uses { (told : Option Files) (file : List ℕ) → SameFiles told (F.files shelf.old) → Holds told file bytes.now → UsesKept (Some (request_on file action.now)) told (F.files shelf.new) (Rose (F.kept_faults shelf.old) (F.kept_faults shelf.new)) (Rose (F.store_faults shelf.old) (F.store_faults shelf.new)) (K.written out.old) (K.written out.new) result }
     ensures input { (file : List ℕ) → ReadsNoInput (Some (request_on file action.now)) → input.new ≡ input.old }
+    ensures unread { (result ≡ statuses.ReadFault) ⊎ (result ≡ statuses.FileTooBig) → input.new ≡ input.old }
     ensures counts { K.write_faults out.old ≤ K.write_faults out.new }
 {
     match action {

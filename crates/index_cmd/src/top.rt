@@ -14,7 +14,7 @@ ghost use Rattle.index_cmd.specs.Replies.{Ends, HasTooManySections, IsAlreadyInd
 ghost use Rattle.command_base.specs.Replies.{Writes};
 ghost use Rattle.index_cmd.specs.Results.{Completes, Says, SaysNoMemory, WritesPrefix};
 ghost use Rattle.command_words.specs.SeenWords.{words_of};
-ghost use Rattle.index_cmd.specs.Stores.{IsPartStored, IsStored};
+ghost use Rattle.index_cmd.specs.Stores.{IsPartStored, IsStored, LeavesCut};
 ghost use Rattle.command_base.specs.declared.status.Status.TheVariants as statuses;
 ghost use Rattle.command_base.specs.declared.status.Table.TheVariants as tables;
 
@@ -67,7 +67,9 @@ pub fn run<R: Threads + Wait + Sync, F: Shelf, S: Source + Send, K: Sink + Send,
     ensures input_fault { result ≡ 6 → Writes (K.written out.old) (K.written out.new) (Says (request_of (words_of words.now)) (F.files shelf.old) (heard S.left S.read_faults input.old input.new) statuses.InputFault) }
     ensures input_too_long { result ≡ 11 → Writes (K.written out.old) (K.written out.new) (Says (request_of (words_of words.now)) (F.files shelf.old) (heard S.left S.read_faults input.old input.new) statuses.InputTooLong) }
     ensures no_memory { result ≡ 7 → SaysNoMemory (request_of (words_of words.now)) (F.files shelf.old) (heard S.left S.read_faults input.old input.new) (K.written out.old) (K.written out.new) }
+    // The input is untouched by a command that doesn't read it, and where a file couldn't be read or is too big.
     ensures input_kept { ReadsNoInput (request_of (words_of words.now)) → input.new ≡ input.old }
+    ensures input_unread { (result ≡ 3) ⊎ (result ≡ 10) → input.new ≡ input.old }
     ensures outside_grammar { request_of (words_of words.now) ≡ None → (result ≡ 2) ⊎ (result ≡ 5) ⊎ (result ≡ 7) }
     ensures statuses { IsStatus result }
 
@@ -90,6 +92,7 @@ pub fn run<R: Threads + Wait + Sync, F: Shelf, S: Source + Send, K: Sink + Send,
     // stays.
     ensures stored { result ≡ 0 → IsStored (request_of (words_of words.now)) (F.files shelf.old) (F.files shelf.new) }
     ensures part_stored { result ≡ 4 → IsPartStored (request_of (words_of words.now)) (F.files shelf.old) (F.files shelf.new) }
+    ensures cut { result ≡ 5 → LeavesCut (request_of (words_of words.now)) (F.files shelf.old) (F.files shelf.new) (Rose (F.store_faults shelf.old) (F.store_faults shelf.new)) }
     ensures kept { StoresNothing (request_of (words_of words.now)) → SameFiles (F.files shelf.old) (F.files shelf.new) }
     ensures untouched { result ≢ 0 → result ≢ 4 → result ≢ 5 → SameFiles (F.files shelf.old) (F.files shelf.new) }
     // An index that may be kept: an answer is that of the kept one, or of the one that was built, which is kept then or isn't; and what
@@ -97,7 +100,6 @@ pub fn run<R: Threads + Wait + Sync, F: Shelf, S: Source + Send, K: Sink + Send,
     ensures cached { result ≡ 0 → UsesKept (request_of (words_of words.now)) (F.files shelf.old) (F.files shelf.new) (Rose (F.kept_faults shelf.old) (F.kept_faults shelf.new)) (Rose (F.store_faults shelf.old) (F.store_faults shelf.new)) (K.written out.old) (K.written out.new) statuses.Answered }
     ensures cached_refused { result ≡ 1 → UsesKept (request_of (words_of words.now)) (F.files shelf.old) (F.files shelf.new) (Rose (F.kept_faults shelf.old) (F.kept_faults shelf.new)) (Rose (F.store_faults shelf.old) (F.store_faults shelf.new)) (K.written out.old) (K.written out.new) statuses.Refused }
     ensures cached_too_large { result ≡ 9 → UsesKept (request_of (words_of words.now)) (F.files shelf.old) (F.files shelf.new) (Rose (F.kept_faults shelf.old) (F.kept_faults shelf.new)) (Rose (F.store_faults shelf.old) (F.store_faults shelf.new)) (K.written out.old) (K.written out.new) statuses.IndexTooLarge }
-    ensures cut { result ≡ 5 → SameFiles (F.files shelf.old) (F.files shelf.new) ⊎ IsPartStored (request_of (words_of words.now)) (F.files shelf.old) (F.files shelf.new) }
 {
     let status = command(rt, alloc, words, shelf, input, out, gate);
     end(out, status).code()
@@ -117,6 +119,7 @@ fn command<R: Threads + Wait + Sync, F: Shelf, S: Source + Send, K: Sink + Send,
     ensures did { Does (request_of (words_of words.now)) (F.files shelf.old) (F.files shelf.new) (heard S.left S.read_faults input.old input.new) (Rose (F.read_faults shelf.old) (F.read_faults shelf.new)) (Rose (F.store_faults shelf.old) (F.store_faults shelf.new)) (Rose (K.write_faults out.old) (K.write_faults out.new)) (K.written out.old) (K.written out.new) result }
     ensures uses { UsesKept (request_of (words_of words.now)) (F.files shelf.old) (F.files shelf.new) (Rose (F.kept_faults shelf.old) (F.kept_faults shelf.new)) (Rose (F.store_faults shelf.old) (F.store_faults shelf.new)) (K.written out.old) (K.written out.new) result }
     ensures input { ReadsNoInput (request_of (words_of words.now)) → input.new ≡ input.old }
+    ensures unread { (result ≡ statuses.ReadFault) ⊎ (result ≡ statuses.FileTooBig) → input.new ≡ input.old }
     ensures counts { K.write_faults out.old ≤ K.write_faults out.new }
 {
     let Some(command) = parse_command(words) else {

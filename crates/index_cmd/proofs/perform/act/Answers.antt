@@ -1,6 +1,8 @@
-use Rattle.std.proofs.Common.{Some, sym, subst}
+use Rattle.std.proofs.Common.{◌≡◌, ◌⊎◌, inl, inr, Some, sym, subst}
 use Rattle.outside.specs.Counts.{Rose}
 use Rattle.session_commands.specs.Heard.{heard}
+use Rattle.session_commands.specs.Listens.{CausesOfSession}
+use Rattle.command_base.specs.declared.status.Status.TheVariants.{ReadFault, FileTooBig}
 use Rattle.index_cmd.specs.Doings.{Does}
 use Rattle.index_cmd.specs.Requests.{ReadsNoInput}
 use Rattle.index_cmd.specs.Tasks.{request_on, IsActionInBounds}
@@ -98,6 +100,13 @@ returns-in-Serve-clause-did g c told file old_reads old_stores was =
 
 pub returns-in-Serve-clause-input : goal.returns-in-Serve-clause-input
 returns-in-Serve-clause-input g c file none = absurd (subst (λ (a : Action). ReadsNoInput (Some (request_on file a))) c.in-Serve.is none)
+
+pub returns-in-Serve-clause-unread : goal.returns-in-Serve-clause-unread
+returns-in-Serve-clause-unread g c is = absurd (by is)
+  where
+    by : (c.serve_file.result ≡ ReadFault) ⊎ (c.serve_file.result ≡ FileTooBig) → ⊥
+    by (inl e) = subst (CausesOfSession _) e c.serve_file.ensures.causes
+    by (inr e) = subst (CausesOfSession _) e c.serve_file.ensures.causes
 
 pub read_script-requires-clause-one_reader : goal.read_script-requires-clause-one_reader
 read_script-requires-clause-one_reader g c κs within = (subst IsActionInBounds c.in-Race.is c.requires.bounds).some

@@ -5,7 +5,7 @@ use Rattle.index_cmd.specs.Doings.{Does}
 use Rattle.index_cmd.specs.Requests.{TheHelp, TheVersion, ReadsNoInput}
 use Rattle.index_cmd.specs.Tasks.{request_seen, IsInBounds}
 use Rattle.index_cmd.specs.declared.task.Task.{Task}
-use Rattle.index_cmd.proofs.Doings.{drilled, own_text}
+use Rattle.index_cmd.proofs.Fileless.{drilled, own_text}
 use Rattle.index_cmd.proofs.KeptUses.{other_task, IsNotOnFile}
 use Rattle.index_cmd.specs.Caching.{UsesKept}
 use Rattle.index_cmd.proofs.perform.perform.Goals as goal

@@ -5,7 +5,7 @@ use Rattle.command_base.specs.declared.status.Status.{Status}
 use Rattle.session_commands.specs.Heard.{heard}
 use Rattle.index_cmd.specs.Doings.{Does}
 use Rattle.index_cmd.specs.Tasks.{request_on}
-use Rattle.index_cmd.proofs.Doings.{stopped_reading}
+use Rattle.index_cmd.proofs.Fileless.{stopped_reading}
 use Rattle.index_cmd.proofs.KeptUses.{unread_file}
 use Rattle.index_cmd.specs.Caching.{UsesKept}
 use Rattle.index_cmd.proofs.perform.read_and_act.Goals as goal

@@ -6,8 +6,6 @@ use Rattle.index_cmd.specs.Doings.{Does}
 use Rattle.index_cmd.specs.Requests.{Request, request_of}
 use Rattle.index_cmd.specs.Tasks.{request_seen}
 use Rattle.index_cmd.proofs.Outcomes.{request_is}
-use Rattle.command_base.specs.declared.status.Status.TheVariants.{NoMemory, Usage}
-use Rattle.index_cmd.proofs.KeptUses.{free}
 use Rattle.index_cmd.specs.Caching.{UsesKept}
 use Rattle.index_cmd.proofs.top.command.Goals as goal
 

@@ -1,4 +1,4 @@
-use Rattle.std.proofs.Common.{Option, List, ℕ, refl, sym, subst, ◌∙◌, arith}
+use Rattle.std.proofs.Common.{◌≡◌, ◌⊎◌, inl, inr, Option, List, ℕ, refl, sym, subst, ◌∙◌, arith}
 use Rattle.outside.specs.Counts.{Rose}
 use Rattle.outside.specs.Files.{Files}
 use Rattle.outside.proofs.CountLaws.{rose-then, then-rose}
@@ -10,7 +10,7 @@ use Rattle.command_words.specs.SeenWords.{words_of}
 use Rattle.index_cmd.specs.Stores.{LeavesAtEnd}
 use Rattle.command_base.specs.declared.status.Table.TheVariants.{Addresses, Lines}
 use Rattle.command_base.specs.declared.status.Status.TheVariants.{Answered, Refused, IndexRefused, TableRefused, Usage, ReadFault, StoreFault, WriteFault, IndexTooLarge, FileTooBig, AlreadyIndexed, TooManySections, InputFault, InputTooLong}
-use Rattle.index_cmd.proofs.Outcomes.{Outcome, one_status, outcome, telling, failed, lined, no_memory, asks, asks_index, is_status, outside_grammar}
+use Rattle.index_cmd.proofs.Outcomes.{Outcome, ended, one_status, outcome, telling, failed, lined, no_memory, asks, asks_index, is_status, outside_grammar}
 use Rattle.index_cmd.proofs.Leavings.{left_at_end, left_by, kept, untouched}
 use Rattle.index_cmd.proofs.Completeness.{complete}
 use Rattle.index_cmd.proofs.KeptUses.{at_end}
@@ -58,8 +58,8 @@ module _ (g : Over) (c : After-code g) where
       (λ r. rose-then first middle last r c.end.ensures.counts) (λ r. then-rose first middle last c.command-status.ensures.counts r)
       c.command-status.result c.end.result old (g.K.Sink.written c.command-status.new.out) new c.command-status.ensures.did.wrote c.command-status.ensures.did.causes c.end.ensures.ends
 
-  left : LeavesAtEnd request told shelf c.end.result
-  left = left_at_end request told shelf c.command-status.result c.end.result (g.K.Sink.written c.command-status.new.out) new (Rose middle last) c.end.ensures.ends c.command-status.ensures.did.leaves
+  left : LeavesAtEnd request told shelf stores c.end.result
+  left = left_at_end request told shelf stores told reads (Rose first middle) c.command-status.result c.end.result (g.K.Sink.written c.command-status.new.out) new (Rose middle last) c.end.ensures.ends c.command-status.ensures.did.causes c.command-status.ensures.did.leaves
 
 pub returns-clause-answered : goal.returns-clause-answered
 returns-clause-answered g c is = telling (request g c) (told g c) (input g c) (reads g c) (stores g c) (Rose (first g c) (last g c)) (old g c) (new g c) c.end.result Answered tt (came g c) (sym c.code.ensures ∙ is)
@@ -133,19 +133,19 @@ pub returns-clause-index_too_large_line : goal.returns-clause-index_too_large_li
 returns-clause-index_too_large_line g c is = (lined (request g c) (told g c) (input g c) (reads g c) (stores g c) (Rose (first g c) (last g c)) (old g c) (new g c) c.end.result IndexTooLarge _ (λ n. omega (arith, n)) (came g c) (sym c.code.ensures ∙ is) refl).1
 
 pub returns-clause-stored : goal.returns-clause-stored
-returns-clause-stored g c is = left_by (request g c) (told g c) (shelf g c) c.end.result Answered (λ n. omega (arith, n)) (sym c.code.ensures ∙ is) (left g c)
+returns-clause-stored g c is = left_by (request g c) (told g c) (shelf g c) (stores g c) c.end.result Answered (λ n. omega (arith, n)) (sym c.code.ensures ∙ is) (left g c)
 
 pub returns-clause-part_stored : goal.returns-clause-part_stored
-returns-clause-part_stored g c is = left_by (request g c) (told g c) (shelf g c) c.end.result StoreFault (λ n. omega (arith, n)) (sym c.code.ensures ∙ is) (left g c)
+returns-clause-part_stored g c is = left_by (request g c) (told g c) (shelf g c) (stores g c) c.end.result StoreFault (λ n. omega (arith, n)) (sym c.code.ensures ∙ is) (left g c)
 
 pub returns-clause-cut : goal.returns-clause-cut
-returns-clause-cut g c is = left_by (request g c) (told g c) (shelf g c) c.end.result WriteFault (λ n. omega (arith, n)) (sym c.code.ensures ∙ is) (left g c)
+returns-clause-cut g c is = left_by (request g c) (told g c) (shelf g c) (stores g c) c.end.result WriteFault (λ n. omega (arith, n)) (sym c.code.ensures ∙ is) (left g c)
 
 pub returns-clause-kept : goal.returns-clause-kept
-returns-clause-kept g c nothing = kept (request g c) (told g c) (shelf g c) nothing c.end.result (left g c)
+returns-clause-kept g c nothing = kept (request g c) (told g c) (shelf g c) nothing (stores g c) c.end.result (left g c)
 
 pub returns-clause-untouched : goal.returns-clause-untouched
-returns-clause-untouched g c a b d = untouched (request g c) (told g c) (shelf g c) c.end.result (λ e. a (c.code.ensures ∙ e)) (λ e. b (c.code.ensures ∙ e)) (λ e. d (c.code.ensures ∙ e)) (left g c)
+returns-clause-untouched g c a b d = untouched (request g c) (told g c) (shelf g c) (stores g c) c.end.result (λ e. a (c.code.ensures ∙ e)) (λ e. b (c.code.ensures ∙ e)) (λ e. d (c.code.ensures ∙ e)) (left g c)
 
 pub returns-clause-already_indexed : goal.returns-clause-already_indexed
 returns-clause-already_indexed g c is = (lined (request g c) (told g c) (input g c) (reads g c) (stores g c) (Rose (first g c) (last g c)) (old g c) (new g c) c.end.result AlreadyIndexed _ (λ n. omega (arith, n)) (came g c) (sym c.code.ensures ∙ is) refl).0
@@ -176,3 +176,10 @@ returns-clause-cached_too_large g c is =
     let kept = Rose (g.F.Shelf.kept_faults c.args.shelf.now) (g.F.Shelf.kept_faults c.command-status.new.shelf) in
     let used = at_end (told g c) (shelf g c) kept (stores g c) (old g c) _ (new g c) _ (request g c) c.command-status.result c.end.result c.end.ensures.ends c.command-status.ensures.uses in
     subst (UsesKept (request g c) (told g c) (shelf g c) kept (stores g c) (old g c) (new g c)) (one_status c.end.result IndexTooLarge (λ n. omega (arith, n)) (sym c.code.ensures ∙ is)) used
+
+pub returns-clause-input_unread : goal.returns-clause-input_unread
+returns-clause-input_unread g c is = c.command-status.ensures.unread (by is)
+  where
+    by : (c.code.result ≡ 3) ⊎ (c.code.result ≡ 10) → (c.command-status.result ≡ ReadFault) ⊎ (c.command-status.result ≡ FileTooBig)
+    by (inl e) = inl (ended c.command-status.result c.end.result ReadFault _ _ _ (λ e. cc e) c.end.ensures.ends (one_status c.end.result ReadFault (λ n. omega (arith, n)) (sym c.code.ensures ∙ e)))
+    by (inr e) = inr (ended c.command-status.result c.end.result FileTooBig _ _ _ (λ e. cc e) c.end.ensures.ends (one_status c.end.result FileTooBig (λ n. omega (arith, n)) (sym c.code.ensures ∙ e)))
