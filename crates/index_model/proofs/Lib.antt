@@ -50,3 +50,5 @@ pub mod JobFaults
 mod LevelLaws
 mod LevelSteps
 pub mod CoreRight
+pub mod LeafLaws
+pub mod SpanLeafLaws

@@ -9,22 +9,32 @@
 #![tactic(auto)]
 
 mod answer;
+mod bits;
 mod entry;
+mod given;
 pub mod index_code;
 mod index_laws;
 mod job;
 mod languages;
 mod laws;
+mod leaf;
 mod list;
+mod marks;
+mod nodes;
+mod packing;
 mod parents;
+mod place;
 mod query;
 mod range;
 mod rules;
 mod shard;
+mod span_leaf;
+mod spans;
 mod staged;
 mod steps;
 mod text;
 mod unit;
+mod unpacking;
 mod value;
 
 pub use answer::{Answer, CacheSize, Hits, Look, Main, MainName, Reply};
@@ -41,10 +51,12 @@ pub use laws::{
     units_tile_their_sections, visited_goes_by_the_parent, walks_are_in_order,
 };
 pub use list::List;
+pub use nodes::{Nodes, Places};
 pub use query::Query;
 pub use range::{Range, UnitRange};
 pub use rules::{Class, Facts, Parent};
 pub use shard::{Import, Linked, LinkedEntry, Next, Node, Raw, Root, Shard, Span};
+pub use spans::Spans;
 pub use staged::Staged;
 pub use steps::Steps;
 pub use text::Text;
