@@ -1,5 +1,6 @@
 -- What a leaf says of a node.
-use Rattle.std.specs.Prelude.{◌≡◌, ℕ, ◌+◌, ◌<◌, true, nat_le, if◌then◌else◌, List, length, slice_range, slice_get, unwrap_or, Option, Some, None, option_map}
+use Rattle.std.specs.Prelude.{◌≡◌, ℕ, ◌+◌, ◌<◌, ◌^◌, Bool, true, ◌&&◌, is_none, IfSome, nat_le, if◌then◌else◌, List, length, slice_range, slice_get, unwrap_or, Option, Some, None, option_map}
+use Rattle.std.specs.Borrow.{Bor}
 use Rattle.index_model.specs.declared.shard.Node.{Node}
 use Rattle.index_model.specs.declared.leaf.Leaf.{Leaf}
 use Rattle.index_model.specs.declared.place.Place.{Place}
@@ -43,6 +44,22 @@ leaf_seen file l = record {
   name = if has_name l.given then text_at file l.name l.name_length else None;
   linkage = if has_linkage l.given then text_at file l.linkage l.linkage_length else None;
 }
+
+-- ---- which nodes a leaf can stand for
+
+-- a text, if there is one, is short and stands at a place in the file's first 4 GiB
+abbrev pub StandsAt : List ℕ → Option (Bor (List ℕ)) → ℕ → Type 0
+StandsAt file text at = IfSome text (λ t. (at < 2 ^ 32) × (length t.now < 2 ^ 16) × (text_at file at (length t.now) ≡ Some t.now))
+
+-- no number is too large
+abbrev pub AreSmall : Node → Type 0
+AreSmall n = (n.offset < 2 ^ 32) × (n.tag < 2 ^ 16) × IfSome n.parent (λ p. p < 2 ^ 32) × IfSome n.next (λ r. r.target < 2 ^ 32)
+
+-- no address and no signature
+abbrev pub is_plain : Node → Bool
+is_plain n = is_none n.signature && is_none n.low && is_none n.high && is_none n.ranges
+
+-- ---- leaves among nodes that are kept whole
 
 -- the node of a leaf, where these are kept whole
 unfoldable pub unpacked : List ℕ → List Node → Leaf → NodeSeen

@@ -1,9 +1,9 @@
 //! A node made small.
 
-ghost use Rattle.std.specs.Prelude.{◌≡◌, ◌&&◌, false, is_none, is_some, IfSome, if◌then◌else◌, Some, None};
+ghost use Rattle.std.specs.Prelude.{◌≡◌, ◌<◌, ◌^◌, true, false, is_some, IfSome, IsSome, if◌then◌else◌, Some, None};
 ghost use Rattle.index_model.specs.Marks.{is_aside};
 ghost use Rattle.index_model.specs.NodeSeen.{node_seen};
-ghost use Rattle.index_model.specs.Leaves.{leaf_seen};
+ghost use Rattle.index_model.specs.Leaves.{leaf_seen, is_plain, AreSmall, StandsAt};
 
 use crate::given::Given;
 use crate::leaf::Leaf;
@@ -17,6 +17,7 @@ use crate::shard::{Next, Node};
 pub(crate) fn packed(file: &[u8], node: &Node<'_>, places: Places) -> Option<Leaf>
     ensures alone { IfSome result (λ l. is_aside l.given ≡ false) }
     ensures node { IfSome result (λ l. leaf_seen file.now l ≡ node_seen node.now) }
+    ensures fits { is_plain node.now ≡ true → AreSmall node.now → StandsAt file.now node.now.name places.name → StandsAt file.now node.now.linkage places.linkage → IsSome result }
 {
     if !is_plain(node) {
         return None;
@@ -47,21 +48,23 @@ pub(crate) fn packed(file: &[u8], node: &Node<'_>, places: Places) -> Option<Lea
 
 // Whether the node has no addresses and no signature.
 fn is_plain(node: &Node<'_>) -> bool
-    ensures { result ≡ (is_none node.now.signature && is_none node.now.low && is_none node.now.high && is_none node.now.ranges) }
+    ensures { result ≡ is_plain node.now }
 {
     node.signature.is_none() && node.low.is_none() && node.high.is_none() && node.ranges.is_none()
 }
 
 // The number, 0 where there is none. None where it is too large.
 fn small(number: Option<u64>) -> Option<u32>
-    ensures { IfSome result (λ n. (if is_some number then Some n else None) ≡ number) }
+    ensures number { IfSome result (λ n. (if is_some number then Some n else None) ≡ number) }
+    ensures fits { IfSome number (λ n. n < 2 ^ 32) → IsSome result }
 {
     u32::try_from(number.unwrap_or(0)).ok()
 }
 
 // The target of a reference, and whether it is near. None where it is too large.
 fn target(next: Option<Next>) -> Option<(u32, bool)>
-    ensures { IfSome result (λ t. (if is_some next then Some (record { target = t.0; near = t.1 }) else None) ≡ next) }
+    ensures target { IfSome result (λ t. (if is_some next then Some (record { target = t.0; near = t.1 }) else None) ≡ next) }
+    ensures fits { IfSome next (λ r. r.target < 2 ^ 32) → IsSome result }
 {
     let Some(next) = next else {
         return Some((0, false));

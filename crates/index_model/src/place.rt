@@ -1,7 +1,7 @@
 //! Where a text stands in the file.
 
-ghost use Rattle.std.specs.Prelude.{◌≡◌, IfSome, option_map};
-ghost use Rattle.index_model.specs.Leaves.{text_at, text_of};
+ghost use Rattle.std.specs.Prelude.{◌≡◌, IfSome, IsSome, option_map};
+ghost use Rattle.index_model.specs.Leaves.{StandsAt, text_at, text_of};
 
 /// Where a text stands in the file, if there is one.
 #[derive(Clone, Copy)]
@@ -15,7 +15,8 @@ pub(crate) struct Place {
 impl Place {
     /// The place of a text that is thought to stand there. None where it doesn't, or where a number is too large.
     pub fn of(file: &[u8], text: Option<&[u8]>, at: u64) -> Option<Place>
-        ensures { IfSome result (λ p. text_of file.now p ≡ option_map (λ t. t.now) text.entry) }
+        ensures text { IfSome result (λ p. text_of file.now p ≡ option_map (λ t. t.now) text.entry) }
+        ensures stands { StandsAt file.now text.entry at → IsSome result }
     {
         let Some(text) = text else {
             return Some(Place {
