@@ -12,6 +12,8 @@ pub mod OrderLaws
 pub mod TextLaws
 pub mod FirstSome
 pub mod Pairs
+mod Halves
+mod Ended
 pub mod Orders
 pub mod IndexOrders
 pub mod FirstFaults

@@ -30,6 +30,8 @@ pub mod Answers
 pub mod Kept
 pub mod Seen
 pub mod Texts
+pub mod NodeSeen
+pub mod Searches
 pub mod ShardParts
 pub mod Shards
 pub mod Parents

@@ -16,11 +16,14 @@ mod job;
 mod languages;
 mod laws;
 mod list;
+mod nodes;
 mod parents;
 mod query;
 mod range;
 mod rules;
+mod searches;
 mod shard;
+mod spans;
 mod staged;
 mod steps;
 mod text;
@@ -41,10 +44,12 @@ pub use laws::{
     units_tile_their_sections, visited_goes_by_the_parent, walks_are_in_order,
 };
 pub use list::List;
+pub use nodes::{Nodes, Places};
 pub use query::Query;
 pub use range::{Range, UnitRange};
 pub use rules::{Class, Facts, Parent};
 pub use shard::{Import, Linked, LinkedEntry, Next, Node, Raw, Root, Shard, Span};
+pub use spans::Spans;
 pub use staged::Staged;
 pub use steps::Steps;
 pub use text::Text;
