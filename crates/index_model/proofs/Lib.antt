@@ -13,7 +13,6 @@ pub mod TextLaws
 pub mod FirstSome
 pub mod Pairs
 mod Halves
-mod Ended
 pub mod Orders
 pub mod IndexOrders
 pub mod FirstFaults
@@ -52,3 +51,5 @@ pub mod JobFaults
 mod LevelLaws
 mod LevelSteps
 pub mod CoreRight
+pub mod LeafLaws
+pub mod SpanLeafLaws

@@ -32,6 +32,9 @@ pub mod Seen
 pub mod Texts
 pub mod NodeSeen
 pub mod Searches
+pub mod Marks
+pub mod Leaves
+pub mod SpanLeaves
 pub mod ShardParts
 pub mod Shards
 pub mod Parents

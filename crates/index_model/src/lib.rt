@@ -9,25 +9,33 @@
 #![tactic(auto)]
 
 mod answer;
+mod bits;
 mod entry;
+mod given;
 pub mod index_code;
 mod index_laws;
 mod job;
 mod languages;
 mod laws;
+mod leaf;
 mod list;
+mod marks;
 mod nodes;
+mod packing;
 mod parents;
+mod place;
 mod query;
 mod range;
 mod rules;
 mod searches;
 mod shard;
+mod span_leaf;
 mod spans;
 mod staged;
 mod steps;
 mod text;
 mod unit;
+mod unpacking;
 mod value;
 
 pub use answer::{Answer, CacheSize, Hits, Look, Main, MainName, Reply};

@@ -1,0 +1,89 @@
+//! What an entry says of itself, a bit for each fact.
+
+ghost use Rattle.std.specs.Prelude.{◌≡◌};
+ghost use Rattle.index_model.specs.Marks.{is_declaration, is_external, is_enum_class, is_main, has_address, has_value};
+
+use crate::bits::{bit, is_set};
+use crate::shard::Node;
+
+const DECLARATION: u8 = 1;
+
+const EXTERNAL: u8 = 2;
+
+const ENUM_CLASS: u8 = 4;
+
+const MAIN: u8 = 8;
+
+const ADDRESS: u8 = 16;
+
+const VALUE: u8 = 32;
+
+/// What an entry says of itself.
+#[derive(Clone, Copy)]
+pub(crate) struct Marks {
+    bits: u8,
+}
+
+impl Marks {
+    /// No marks.
+    pub fn none() -> Marks
+        ensures { result.bits ≡ 0 }
+    {
+        Marks { bits: 0 }
+    }
+
+    /// The marks of a node.
+    pub fn of(node: &Node<'_>) -> Marks
+        ensures declaration { is_declaration result ≡ node.now.declaration }
+        ensures external { is_external result ≡ node.now.external }
+        ensures enum_class { is_enum_class result ≡ node.now.enum_class }
+        ensures main { is_main result ≡ node.now.main }
+        ensures address { has_address result ≡ node.now.address }
+        ensures value { has_value result ≡ node.now.value }
+    {
+        Marks {
+            bits: bit(node.declaration, DECLARATION)
+                | bit(node.external, EXTERNAL)
+                | bit(node.enum_class, ENUM_CLASS)
+                | bit(node.main, MAIN)
+                | bit(node.address, ADDRESS)
+                | bit(node.value, VALUE),
+        }
+    }
+
+    pub fn declaration(self) -> bool
+        ensures { result ≡ is_declaration self }
+    {
+        is_set(self.bits, DECLARATION)
+    }
+
+    pub fn external(self) -> bool
+        ensures { result ≡ is_external self }
+    {
+        is_set(self.bits, EXTERNAL)
+    }
+
+    pub fn enum_class(self) -> bool
+        ensures { result ≡ is_enum_class self }
+    {
+        is_set(self.bits, ENUM_CLASS)
+    }
+
+    pub fn main(self) -> bool
+        ensures { result ≡ is_main self }
+    {
+        is_set(self.bits, MAIN)
+    }
+
+    pub fn address(self) -> bool
+        ensures { result ≡ has_address self }
+    {
+        is_set(self.bits, ADDRESS)
+    }
+
+    pub fn value(self) -> bool
+        ensures { result ≡ has_value self }
+    {
+        is_set(self.bits, VALUE)
+    }
+}
