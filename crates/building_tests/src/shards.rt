@@ -2,7 +2,7 @@
 
 use crate::whole::scanned;
 use file_image::Image;
-use index_model::{Next, Node, Shard};
+use index_model::{Next, Node, Shard, Span};
 use shard_build::Entries;
 use std::alloc::Global;
 use std::test::Fail;
@@ -38,21 +38,33 @@ fn has_facts(node: &Node<'_>, row: &Row) -> bool {
 }
 
 fn has_spans(shard: &Shard<'_>) -> bool {
-    let spans = shard.spans.as_slice();
-    let mut same = spans.len() == SPANS.len();
-    for (span, row) in spans.iter().zip(&SPANS) {
-        same = same && (span.unit, span.entry, span.depth, span.from, span.to) == *row;
+    let mut same = shard.spans.len() == SPANS.len();
+    for (k, row) in SPANS.iter().enumerate() {
+        same = same && is_span(shard.spans.get(k), row);
     }
     same
 }
 
+fn is_span(span: Option<Span>, row: &SpanRow) -> bool {
+    match span {
+        Some(span) => (span.unit, span.entry, span.depth, span.from, span.to) == *row,
+        None => false,
+    }
+}
+
 fn has_nodes(shard: &Shard<'_>, rows: &[Row]) -> bool {
-    let nodes = shard.nodes.as_slice();
-    let mut same = nodes.len() == rows.len();
-    for (node, row) in nodes.iter().zip(rows) {
-        same = same && has_facts(node, row);
+    let mut same = shard.nodes.len() == rows.len();
+    for (k, row) in rows.iter().enumerate() {
+        same = same && is_node(shard.nodes.get(k), row);
     }
     same
+}
+
+fn is_node(node: Option<Node<'_>>, row: &Row) -> bool {
+    match node {
+        Some(node) => has_facts(&node, row),
+        None => false,
+    }
 }
 
 // Whether the shard of all units has the spans, and whether it has the nodes.

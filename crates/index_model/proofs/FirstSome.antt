@@ -6,7 +6,7 @@ use Rattle.std.specs.Prelude.{All, find, slice_get}
 use Rattle.std.specs.Arc.{arc_value}
 use Rattle.std.specs.declared.sync.Arc.{Arc}
 use Rattle.std.proofs.lemmas.Bool.{le-leb, lt-leb}
-use Rattle.index_model.specs.declared.shard.Node.{Node}
+use Rattle.index_model.specs.NodeSeen.{NodeSeen}
 use Rattle.index_model.specs.ShardLanguages.{first_some}
 
 module _ {A B : Type 0} (f : A → Option B) (xs : List A) (i : ℕ) (d : A) (within : i < length xs) where
@@ -60,9 +60,9 @@ shared_has P [] i item within at all = absurd (omega (arith, within))
 -- ---- nodes
 
 -- the first node that isn't before a unit, where so many are before it
-pub first_from_point : (unit : ℕ) (nodes : List Node) (n : ℕ) → ((k : ℕ) (d : Node) → k < n → (get_or nodes k d).unit < unit) → ((k : ℕ) (d : Node) → n ≤ k → k < length nodes → unit ≤ (get_or nodes k d).unit) → find (λ d. leb unit d.unit) nodes ≡ slice_get nodes n
+pub first_from_point : (unit : ℕ) (nodes : List NodeSeen) (n : ℕ) → ((k : ℕ) (d : NodeSeen) → k < n → (get_or nodes k d).facts.unit < unit) → ((k : ℕ) (d : NodeSeen) → n ≤ k → k < length nodes → unit ≤ (get_or nodes k d).facts.unit) → find (λ d. leb unit d.facts.unit) nodes ≡ slice_get nodes n
 first_from_point unit [] n before behind = refl
-first_from_point unit (x ∷ xs) zero before behind = ap (λ (b : Bool). cond b (Some x) (find (λ d. leb unit d.unit) xs)) (le-leb unit x.unit (behind 0 x (omega arith) (omega arith)))
+first_from_point unit (x ∷ xs) zero before behind = ap (λ (b : Bool). cond b (Some x) (find (λ d. leb unit d.facts.unit) xs)) (le-leb unit x.facts.unit (behind 0 x (omega arith) (omega arith)))
 first_from_point unit (x ∷ xs) (suc n) before behind =
-    ap (λ (b : Bool). cond b (Some x) (find (λ d. leb unit d.unit) xs)) (lt-leb unit x.unit (before 0 x (omega arith))) ∙
+    ap (λ (b : Bool). cond b (Some x) (find (λ d. leb unit d.facts.unit) xs)) (lt-leb unit x.facts.unit (before 0 x (omega arith))) ∙
     first_from_point unit xs n (λ k d lt. before (suc k) d (omega (arith, lt))) (λ k d le lt. behind (suc k) d (omega (arith, le)) (omega (arith, lt)))

@@ -2,7 +2,7 @@
 use Rattle.std.proofs.Common.{◌≡◌, ℕ, zero, suc, Bool, true, false, cond, eqb, not, ◌&&◌, ◌||◌, List, [], ◌∷◌, ◌++◌, map, filter, flat_map, Option, Some, None, Result, Ok, Err, refl, sym, ap, subst, ◌∙◌, arith, ⊎_elim, unwrap_or}
 use Rattle.std.specs.Prelude.{Contains, is_none}
 use Rattle.std.specs.Option.{option_or}
-use Rattle.std.proofs.lemmas.Bool.{true≢false, and_parts, or_right}
+use Rattle.std.proofs.lemmas.Bool.{true≢false, and_parts, and_from, or_right}
 use Rattle.std.proofs.lemmas.List.Elements.{filter-append}
 use Rattle.common_laws.proofs.Members.{contains_cases}
 use Rattle.ix_base.specs.declared.code.TheConstants.{NAME_TOO_LONG}
@@ -18,7 +18,7 @@ use Rattle.index_model.specs.Chains.{chain_of, chain_end, spelled_name}
 use Rattle.index_model.specs.Rules.{is_in_table, is_visited, is_visited_at, is_visited_under, parent_as, opens, is_ada}
 use Rattle.index_model.specs.Names.{Member, scope_path}
 use Rattle.index_model.specs.Links.{Link, link_of, is_link_indexed, is_within_limit, qualified_of, followed}
-use Rattle.index_model.specs.ShardParts.{is_kept, is_partial, may_be_ada}
+use Rattle.index_model.specs.ShardParts.{is_kept, is_partial, may_be_ada, may_be_followed}
 use Rattle.index_model.proofs.Meanings.{bind_ok, holds_ok, same_ok}
 use Rattle.index_model.proofs.Located.{of_located}
 use Rattle.common_laws.proofs.Filters.{filter_agree}
@@ -142,8 +142,12 @@ ada_may p w h = by (own_language w) refl (is_partial (root_of w)) refl h
     by None e false f h = absurd (true≢false (sym h ∙ ap (λ (o : Option ℕ). is_ada (class_of (unwrap_or (option_or None o) 0))) (no_import p (root_of w) f)))
 
 pub followed_kept : (p : Program) (d : Located) → is_followed p d ≡ true → is_kept d.home d.item ≡ true
-followed_kept p d h = by (is_ada (class_of_unit p d.home)) refl (and_parts (is_in_table d.item.tag) (is_visited (is_ada (class_of_unit p d.home)) (items_of d.home) d.item) h).1
+unfolding may_be_followed
+followed_kept p d h = or_right (eqb d.item.depth 0) (is_in_table d.item.tag && is_visited (may_be_ada d.home) (items_of d.home) d.item) (and_from (is_in_table d.item.tag) (is_visited (may_be_ada d.home) (items_of d.home) d.item) parts.0 (by (is_ada (class_of_unit p d.home)) refl parts.1))
   where
+    parts : (is_in_table d.item.tag ≡ true) × (is_visited (is_ada (class_of_unit p d.home)) (items_of d.home) d.item ≡ true)
+    parts = and_parts (is_in_table d.item.tag) (is_visited (is_ada (class_of_unit p d.home)) (items_of d.home) d.item) h
+
     more : (may : Bool) → may ≡ true → is_visited true (items_of d.home) d.item ≡ true → is_visited may (items_of d.home) d.item ≡ true
     more may e v = ap (λ (b : Bool). is_visited b (items_of d.home) d.item) e ∙ v
 
@@ -151,6 +155,6 @@ followed_kept p d h = by (is_ada (class_of_unit p d.home)) refl (and_parts (is_i
     less true v = visited_more (items_of d.home) d.item.depth false d.item v
     less false v = v
 
-    by : (b : Bool) → is_ada (class_of_unit p d.home) ≡ b → is_visited b (items_of d.home) d.item ≡ true → is_kept d.home d.item ≡ true
-    by true e v = or_right (eqb d.item.depth 0) (is_visited (may_be_ada d.home) (items_of d.home) d.item) (more (may_be_ada d.home) (ada_may p d.home e) v)
-    by false e v = or_right (eqb d.item.depth 0) (is_visited (may_be_ada d.home) (items_of d.home) d.item) (less (may_be_ada d.home) v)
+    by : (b : Bool) → is_ada (class_of_unit p d.home) ≡ b → is_visited b (items_of d.home) d.item ≡ true → is_visited (may_be_ada d.home) (items_of d.home) d.item ≡ true
+    by true e v = more (may_be_ada d.home) (ada_may p d.home e) v
+    by false e v = less (may_be_ada d.home) v

@@ -12,6 +12,7 @@ pub mod OrderLaws
 pub mod TextLaws
 pub mod FirstSome
 pub mod Pairs
+mod Halves
 pub mod Orders
 pub mod IndexOrders
 pub mod FirstFaults

@@ -10,17 +10,17 @@ use Rattle.std.proofs.lemmas.List.Folds.{find-append}
 use Rattle.common_laws.proofs.Members.{contains_here, contains_later, contains_cases, of_map, of_filter, of_flat_map}
 use Rattle.index_model.specs.declared.shard.Node.{Node}
 use Rattle.index_model.specs.declared.shard.Shard.{Shard}
+use Rattle.index_model.specs.NodeSeen.{NodeSeen}
 use Rattle.index_model.specs.Sections.{Section}
-use Rattle.index_model.specs.Rules.{is_visited}
 use Rattle.index_model.specs.Walk.{Item}
 use Rattle.index_model.specs.Program.{Walked, Located, items_of, located}
-use Rattle.index_model.specs.ShardParts.{IsNodeOf, node_facts, is_kept, kept_in, may_be_ada}
+use Rattle.index_model.specs.ShardParts.{IsSeenOf, node_facts, is_kept, kept_in, may_be_followed}
 use Rattle.index_model.specs.Shards.{StandsFor}
 use Rattle.index_model.specs.ShardLanguages.{first_some, first_node, node_in, NodesRise}
 use Rattle.index_model.proofs.Pairs.{Pairs, all_pairs, pairs_append, pairs_filter}
 use Rattle.index_model.proofs.ShardRoots.{Numbered, numbered_front, numbered_back, numbered_low, joined, map_or}
 
-node_parts : (d : Located) (n : Node) → n ≡ node_facts d n → (n.unit ≡ d.home.number) × (n.offset ≡ d.item.at)
+node_parts : (d : Located) (n : Node) → n ≡ node_facts d → (n.unit ≡ d.home.number) × (n.offset ≡ d.item.at)
 unfolding node_facts
 node_parts d n is = (ap (λ (x : Node). x.unit) is, ap (λ (x : Node). x.offset) is)
 
@@ -29,8 +29,8 @@ node_parts d n is = (ap (λ (x : Node). x.unit) is, ap (λ (x : Node). x.offset)
 abbrev UnitsRise : Located → Located → Type 0
 UnitsRise d e = d.home.number ≤ e.home.number
 
-abbrev NodeUnitsRise : Node → Node → Type 0
-NodeUnitsRise m n = m.unit ≤ n.unit
+abbrev NodeUnitsRise : NodeSeen → NodeSeen → Type 0
+NodeUnitsRise m n = m.facts.unit ≤ n.facts.unit
 
 -- the entries of one unit have its number
 in_unit : (w : Walked) (d : Located) → Contains (located w) d → d.home ≡ w
@@ -52,21 +52,21 @@ located_rise n (w ∷ ws) h = pairs_append UnitsRise (located w) (flat_map locat
     omega (arith, h.0, ap (λ (x : Walked). x.number) (in_unit w d dc), ap (λ (x : Walked). x.number) (in_unit v.0 e v.2), numbered_low (n + 1) ws v.0 h.1 v.1))
 
 module _ (ss : List Section) where
-  node_of : (nodes : List Node) (ds : List Located) → AllZip (IsNodeOf ss) nodes ds → (n : Node) → Contains nodes n → (d : Located) × Contains ds d × (n.unit ≡ d.home.number)
+  node_of : (nodes : List NodeSeen) (ds : List Located) → AllZip (IsSeenOf ss) nodes ds → (n : NodeSeen) → Contains nodes n → (d : Located) × Contains ds d × (n.facts.unit ≡ d.home.number)
   node_of [] [] z n c = absurd (omega (arith, c.1))
   node_of [] (d ∷ ds) z n c = absurd z
   node_of (m ∷ ms) [] z n c = absurd z
   node_of (m ∷ ms) (d ∷ ds) z n c = ⊎_elim
-      (λ (same : m ≡ n). (d, contains_here d ds, ap (λ (x : Node). x.unit) (sym same) ∙ (node_parts d m z.0.facts).0))
+      (λ (same : m ≡ n). (d, contains_here d ds, ap (λ (x : NodeSeen). x.facts.unit) (sym same) ∙ (node_parts d m.facts z.0.facts).0))
       (λ (l : Contains ms n). let r = node_of ms ds z.1 n l in (r.0, contains_later d ds r.0 r.1, r.2))
       (contains_cases m ms n c)
 
-  nodes_rise : (nodes : List Node) (ds : List Located) → AllZip (IsNodeOf ss) nodes ds → Pairs UnitsRise ds → Pairs NodeUnitsRise nodes
+  nodes_rise : (nodes : List NodeSeen) (ds : List Located) → AllZip (IsSeenOf ss) nodes ds → Pairs UnitsRise ds → Pairs NodeUnitsRise nodes
   nodes_rise [] [] z h = tt
   nodes_rise [] (d ∷ ds) z h = absurd z
   nodes_rise (m ∷ ms) [] z h = absurd z
   nodes_rise (m ∷ ms) (d ∷ ds) z h = (
-    λ n c. let r = node_of ms ds z.1 n c in let le = h.0 r.0 r.1 in omega (arith, le, r.2, (node_parts d m z.0.facts).0),
+    λ n c. let r = node_of ms ds z.1 n c in let le = h.0 r.0 r.1 in omega (arith, le, r.2, (node_parts d m.facts z.0.facts).0),
     nodes_rise ms ds z.1 h.1,
   )
 
@@ -75,7 +75,7 @@ module _ (ss : List Section) where
       let pairs = nodes_rise s.nodes (kept_in run) stands.nodes (pairs_filter UnitsRise (λ e. is_kept e.home e.item) (flat_map located run) (located_rise n run h)) in
       ⊎_elim
       (λ (lt : i < j). let r = all_pairs NodeUnitsRise s.nodes pairs i j d lt within in omega (arith, r))
-      (λ (ge : j ≤ i). let same : i ≡ j = omega (arith, le, ge) in subst (λ (k : ℕ). (get_or s.nodes i d).unit ≤ (get_or s.nodes k d).unit) same (omega arith))
+      (λ (ge : j ≤ i). let same : i ≡ j = omega (arith, le, ge) in subst (λ (k : ℕ). (get_or s.nodes i d).facts.unit ≤ (get_or s.nodes k d).facts.unit) same (omega arith))
       (cases_lt i j)
 
   -- the nodes of every shard rise
@@ -98,16 +98,16 @@ kept_append : (xs ys : List Walked) → kept_in (xs ++ ys) ≡ kept_in xs ++ kep
 kept_append xs ys = ap (filter (λ d. is_kept d.home d.item)) (flat_map-append located xs ys) ∙ filter-append (λ d. is_kept d.home d.item) (flat_map located xs) (flat_map located ys)
 
 module _ (ss : List Section) (unit : ℕ) where
-  node_is : (nodes : List Node) (ds : List Located) → AllZip (IsNodeOf ss) nodes ds → first_node unit nodes ≡ option_map place (find (not_before unit) ds)
+  node_is : (nodes : List NodeSeen) (ds : List Located) → AllZip (IsSeenOf ss) nodes ds → first_node unit nodes ≡ option_map place (find (not_before unit) ds)
   node_is [] [] z = refl
   node_is [] (d ∷ ds) z = absurd z
   node_is (m ∷ ms) [] z = absurd z
   node_is (m ∷ ms) (d ∷ ds) z =
-      let parts = node_parts d m z.0.facts in
-      ap (λ (k : ℕ). option_map (λ (n : Node). n.offset) (cond (leb unit k) (Some m) (find (λ n. leb unit n.unit) ms))) parts.0 ∙ by (not_before unit d) parts.1 (node_is ms ds z.1)
+      let parts = node_parts d m.facts z.0.facts in
+      ap (λ (k : ℕ). option_map (λ (n : NodeSeen). n.facts.offset) (cond (leb unit k) (Some m) (find (λ n. leb unit n.facts.unit) ms))) parts.0 ∙ by (not_before unit d) parts.1 (node_is ms ds z.1)
     where
-      by : (b : Bool) → m.offset ≡ d.item.at → first_node unit ms ≡ option_map place (find (not_before unit) ds) →
-          option_map (λ (n : Node). n.offset) (cond b (Some m) (find (λ n. leb unit n.unit) ms)) ≡ option_map place (cond b (Some d) (find (not_before unit) ds))
+      by : (b : Bool) → m.facts.offset ≡ d.item.at → first_node unit ms ≡ option_map place (find (not_before unit) ds) →
+          option_map (λ (n : NodeSeen). n.facts.offset) (cond b (Some m) (find (λ n. leb unit n.facts.unit) ms)) ≡ option_map place (cond b (Some d) (find (not_before unit) ds))
       by true at rest = ap {B = Option ℕ} (λ (k : ℕ). Some k) at
       by false at rest = rest
 
@@ -133,7 +133,7 @@ module _ (w : Walked) (r : Item) (rest : List Item) (items : items_of w ≡ r �
   root = record { home = w; item = r }
 
   root_kept : is_kept w r ≡ true
-  root_kept = ap (λ (b : Bool). b || is_visited (may_be_ada w) (items_of w) r) (eq-eqb r.depth 0 top)
+  root_kept = ap (λ (b : Bool). b || may_be_followed w r) (eq-eqb r.depth 0 top)
 
   abbrev kept_of : List Located → List Located
   kept_of = filter (λ d. is_kept d.home d.item)

@@ -1,11 +1,10 @@
 -- The spans of consecutive units: they rise, and the last that is open at an entry is that of its parent.
-use Rattle.std.proofs.Common.{◌≡◌, ℕ, zero, suc, ◌+◌, ◌-◌, ◌<◌, ◌≤◌, Bool, true, false, cond, leb, ltb, eqb, ◌&&◌, ◌++◌, drop, List, [], ◌∷◌, length, take, get_or, Option, Some, None, Ok, refl, sym, ap, subst, ◌∙◌, arith, inl, inr, ⊎_elim, length-take, get_or-take}
-use Rattle.std.specs.Prelude.{Contains, filter, filter_map, flat_map}
+use Rattle.std.proofs.Common.{◌≡◌, ℕ, zero, suc, ◌+◌, ◌-◌, ◌<◌, ◌≤◌, Bool, true, false, cond, ltb, eqb, ◌&&◌, ◌++◌, drop, List, [], ◌∷◌, length, take, get_or, Option, Some, None, Ok, refl, sym, ap, subst, ◌∙◌, arith, inl, inr, ⊎_elim, length-take, get_or-take}
+use Rattle.std.specs.Prelude.{Contains, filter, filter_map, flat_map, option_and_then, slice_get}
 use Rattle.std.specs.List.{last_or, cons_option}
 use Rattle.std.specs.Option.{option_map}
-use Rattle.std.proofs.lemmas.Bool.{true≢false, ltb-true, lt-ltb, leb-true, leb-false, cases_lt}
-use Rattle.std.proofs.lemmas.List.Sorted.{IsPartitionedBy-leb}
-use Rattle.std.specs.List.Sorted.{IsPartitionedBy, IsPartitionPoint}
+use Rattle.std.proofs.lemmas.Bool.{true≢false, ltb-true, lt-ltb, cases_lt}
+use Rattle.std.specs.List.Sorted.{IsNonDecreasingBy, IsPartitionPoint}
 use Rattle.std.proofs.Math.Seq.{take-suc}
 use Rattle.std.proofs.lemmas.List.{take-append-drop}
 use mathlib.Core.Logic.{◌⊎◌}
@@ -21,6 +20,8 @@ use Rattle.index_model.specs.Program.{Walked, Located, walked, items_of, located
 use Rattle.index_model.specs.ShardParts.{ends_children, first_place, span_of, spans_of}
 use Rattle.index_model.specs.Parents.{IsParentAt, parent_offset}
 use Rattle.index_model.specs.LawsSpans.{Holds, IsInnermost}
+use Rattle.index_model.specs.Searches.{if_open}
+use Rattle.index_model.proofs.Halves.{at}
 use Rattle.index_model.proofs.Pairs.{Pairs, On, pairs_append, pairs_filter, pairs_map, pairs_weaker, all_pairs}
 use Rattle.index_model.proofs.TokenReads.{Follow, start, walk_follows}
 use Rattle.index_model.proofs.OrderLaws.{entries, bounded, goes, walk_tokens, walks_in_order}
@@ -277,26 +278,51 @@ module _ {A : Type 0} (p : A → Bool) (xs : List A) (k : ℕ) (d : A) (some : 0
   pub last_missed : p (get_or xs (k - 1) d) ≡ false → last_or None (filter p (take k xs)) ≡ last_or None (filter p (take (k - 1) xs))
   last_missed off = one_more ∙ ap (λ (b : Bool). cond b (Some (get_or xs (k - 1) d)) (last_or None (filter p (take (k - 1) xs)))) off
 
+-- the span before an index, where it is open
+module _ (place : ℕ) (xs : List Span) (k : ℕ) (some : 0 < k) (within : k ≤ length xs) (o : Option Span) (is : o ≡ option_and_then (if_open place) (slice_get xs (k - 1))) where
+  here : (s : Span) × (o ≡ cond (ltb place s.to) (Some s) None) × ((d : Span) → get_or xs (k - 1) d ≡ s)
+  here = let x = at (λ (s : Span). s.from) xs place xs (k - 1) (omega (arith, some, within)) in (x.0, is ∙ ap (option_and_then (if_open place)) x.1, x.2)
+
+  abbrev pub last : ℕ → Option Span
+  last n = last_or None (filter (is_open place) (take n xs))
+
+  -- it is the last that is open
+  pub opened : (s : Span) → o ≡ Some s → last k ≡ Some s
+  opened s found = by (ltb place (here.0).to) refl (sym here.1 ∙ found)
+    where
+      by : (b : Bool) → ltb place (here.0).to ≡ b → cond b (Some here.0) None ≡ Some s → last k ≡ Some s
+      by true on e = last_hit (is_open place) xs k here.0 some within (ap (λ (x : Span). ltb place x.to) (here.2 here.0) ∙ on) ∙ ap {B = Option Span} (λ (x : Span). Some x) (here.2 here.0) ∙ e
+      by false on e = absurd cc
+
+  -- else the last is one of those before it
+  pub unopened : o ≡ None → last k ≡ last (k - 1)
+  unopened none = by (ltb place (here.0).to) refl (sym here.1 ∙ none)
+    where
+      by : (b : Bool) → ltb place (here.0).to ≡ b → cond b (Some here.0) None ≡ None → last k ≡ last (k - 1)
+      by true on e = absurd cc
+      by false off e = last_missed (is_open place) xs k here.0 some within (ap (λ (x : Span). ltb place x.to) (here.2 here.0) ∙ off)
+
 -- ---- a shard
 
--- the spans that rise are parted at every place
-parted : (spans : List Span) (place : ℕ) → Pairs Later spans → IsPartitionedBy (λ s. leb s.from place) spans
-parted spans place rise = IsPartitionedBy-leb (λ s. s.from) spans place (λ i j d le within. ⊎_elim
+-- where they begin doesn't fall
+from_rises : (spans : List Span) → Pairs Later spans → IsNonDecreasingBy (λ s. s.from) spans
+from_rises spans rise i j d le within = ⊎_elim
     (λ (lt : i < j). let h = all_pairs Later spans rise i j d lt within in omega (arith, h))
     (λ (ge : j ≤ i). let same : i ≡ j = omega (arith, le, ge) in subst (λ (k : ℕ). (get_or spans i d).from ≤ (get_or spans k d).from) same (omega arith))
-    (cases_lt i j))
+    (cases_lt i j)
 
 -- where a shard stands for a run the last span that is open is that of the parent
-pub parent_right : (s : Shard) (place : ℕ) (spans : List Span) (n : ℕ) → spans ≡ s.spans → n ≤ length spans →
-    (IsPartitionedBy (λ t. leb t.from place) spans → IsPartitionPoint (λ t. leb t.from place ≡ true) (λ t. leb t.from place ≡ false) spans n) →
-    IsParentAt s place (option_map entry (last_or None (filter (is_open place) (take n spans))))
-parent_right s place spans n is within point f p run file part stands d c at =
+pub parent_right : (s : Shard) (place n : ℕ) → n ≤ length s.spans →
+    (IsNonDecreasingBy (λ t. t.from) s.spans → IsPartitionPoint (λ t. t.from ≤ place) (λ t. place < t.from) s.spans n) →
+    IsParentAt s place (option_map entry (last_or None (filter (is_open place) (take n s.spans))))
+parent_right s place n within point f p run file part stands d c at =
+    let spans = s.spans in
     let a = run_apart f p run file part in
-    let whole : spans ≡ flat_map spans_of run = is ∙ stands.spans in
+    let whole : spans ≡ flat_map spans_of run = stands.spans in
     let rise : Pairs Later spans = subst (Pairs Later) (sym whole) (run_rises p.sections run a) in
-    let parts = point (parted spans place rise) in
+    let parts = point (from_rises spans rise) in
     let begun : AreBegun place spans (take n spans) = begun_first place spans rise n within
-    (λ k e lt. leb-true _ place (parts.0 k e (omega arith) lt))
-    (λ k e le lt. leb-false _ place (parts.1 k e le lt)) in
+    (λ k e lt. parts.0 k e (omega arith) lt)
+    (λ k e le lt. parts.1 k e le lt) in
     let here : AreBegun d.item.at (flat_map spans_of run) (take n spans) = subst (λ (m : ℕ). AreBegun m (flat_map spans_of run) (take n spans)) (sym at) (subst (λ (xs : List Span). AreBegun place xs (take n spans)) whole begun) in
     subst (λ (m : ℕ). option_map entry (last_or None (filter (is_open m) (take n spans))) ≡ parent_offset d) at (parent_found p.sections run a (take n spans) d c here)

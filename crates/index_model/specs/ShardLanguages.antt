@@ -3,9 +3,9 @@ use Rattle.std.specs.Prelude.{◌≡◌, ℕ, ◌-◌, nat_le, ◌==◌, if◌th
 use Rattle.std.specs.List.Sorted.{IsNonDecreasingBy}
 use Rattle.std.specs.Option.{option_or}
 use Rattle.index_model.specs.declared.shard.Root.{Root}
-use Rattle.index_model.specs.declared.shard.Node.{Node}
 use Rattle.index_model.specs.declared.shard.Import.{Import}
 use Rattle.index_model.specs.declared.shard.Shard.{Shard}
+use Rattle.index_model.specs.NodeSeen.{NodeSeen}
 use Rattle.index_model.specs.Program.{Walked, Program}
 use Rattle.index_model.specs.Languages.{language_of}
 use Rattle.index_model.specs.Faults.{program_of}
@@ -28,8 +28,8 @@ abbrev pub root_in : ℕ → Shard → Option Root
 root_in unit s = if nat_le s.first unit then slice_get s.roots (unit - s.first) else None
 
 -- the offset of the first node that isn't before the unit; where the unit has a root this is the root's
-abbrev pub first_node : ℕ → List Node → Option ℕ
-first_node unit nodes = option_map (λ n. n.offset) (find (λ n. nat_le unit n.unit) nodes)
+abbrev pub first_node : ℕ → List NodeSeen → Option ℕ
+first_node unit nodes = option_map (λ n. n.facts.offset) (find (λ n. nat_le unit n.facts.unit) nodes)
 
 -- the same, in the nodes of a shard
 abbrev pub node_in : ℕ → Shard → Option ℕ
@@ -47,7 +47,7 @@ importing_in offset s = first_some (imported_from s offset) s.imports
 
 -- the nodes stand in the order of their units
 abbrev pub NodesRise : Shard → Type 0
-NodesRise s = IsNonDecreasingBy (λ n. n.unit) s.nodes
+NodesRise s = IsNonDecreasingBy (λ n. n.facts.unit) s.nodes
 
 -- the language of the unit's root, else that of the unit that imports a partial unit
 abbrev pub language_by_root : List Shard → ℕ → Root → Option ℕ

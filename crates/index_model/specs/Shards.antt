@@ -8,7 +8,7 @@ use Rattle.index_model.specs.Sections.{Section}
 use Rattle.index_model.specs.Program.{Walked, Program}
 use Rattle.index_model.specs.Chains.{is_external, linkage_name_of}
 use Rattle.index_model.specs.Links.{Link, indexed_in, qualified_of}
-use Rattle.index_model.specs.ShardParts.{root_facts, kept_in, IsNodeOf, spans_of, imports_in}
+use Rattle.index_model.specs.ShardParts.{root_facts, kept_in, IsSeenOf, spans_of, imports_in}
 
 -- ---- walks
 
@@ -21,7 +21,7 @@ first_number (w ∷ ws) n = n ≡ w.number
 pub record StandsFor (ss : List Section) (s : Shard) (run : List Walked) : Type 0 where
   pub first : first_number run s.first
   pub roots : s.roots ≡ map root_facts run
-  pub nodes : AllZip (IsNodeOf ss) (s.nodes) (kept_in run)
+  pub nodes : AllZip (IsSeenOf ss) s.nodes (kept_in run)
   pub spans : s.spans ≡ flat_map spans_of run
   pub imports : s.imports ≡ flat_map (imports_in ss) run
 

@@ -1,11 +1,12 @@
 //! The language of a unit, by what shards keep of roots and imports (DWARF 5, sections 3.1.1 and 3.2.5).
 
-ghost use Rattle.std.specs.Prelude.{◌≡◌, map, option_map, slice_get, All};
+ghost use Rattle.std.specs.Prelude.{◌≡◌, map, All};
 ghost use Rattle.std.specs.Arc.{arc_value};
 ghost use Rattle.std.specs.List.Sorted.{IsNonDecreasingBy};
 ghost use Rattle.index_model.specs.ShardLanguages.{first_node, first_some, imported_from, importing_in, language_by_root, node_in, root_in, IsLanguageAt, NodesRise};
 
-use crate::shard::{Import, Node, Root, Shard};
+use crate::nodes::Nodes;
+use crate::shard::{Import, Root, Shard};
 use std::sync::Arc;
 
 /// The language code of the unit with this number (DWARF 5, section 7.12), at most 65,535: that of its root. The root of a
@@ -47,7 +48,7 @@ fn root_offset(shards: &[Arc<Shard<'_>>], unit: u32) -> Option<u64>
     ensures { All NodesRise (map arc_value shards.now) → result ≡ first_some (node_in unit) (map arc_value shards.now) }
 {
     for shard in shards {
-        if let Some(offset) = first_node(shard.nodes.as_slice(), unit) {
+        if let Some(offset) = first_node(&shard.nodes, unit) {
             return Some(offset);
         }
     }
@@ -75,17 +76,10 @@ fn root_in(shard: &Shard<'_>, unit: u32) -> Option<Root>
 }
 
 // The offset of the first node of the unit or of one behind it.
-fn first_node(nodes: &[Node<'_>], unit: u32) -> Option<u64>
-    ensures { IsNonDecreasingBy (λ n. n.unit) nodes.now → result ≡ first_node unit nodes.now }
+fn first_node(nodes: &Nodes<'_>, unit: u32) -> Option<u64>
+    ensures { IsNonDecreasingBy (λ n. n.facts.unit) nodes.now → result ≡ first_node unit nodes.now }
 {
-    offset_at(nodes, nodes.partition_point(|node| node.unit < unit))
-}
-
-// The offset of the node at a place.
-fn offset_at(nodes: &[Node<'_>], place: usize) -> Option<u64>
-    ensures { result ≡ option_map (λ n. n.offset) (slice_get nodes.now place) }
-{
-    Some(nodes.get(place)?.offset)
+    nodes.offset_at(nodes.count_of_units_before(unit))
 }
 
 // The language of the shard's first unit that has one itself and imports the entry at the offset.

@@ -27,6 +27,7 @@ mod place;
 mod query;
 mod range;
 mod rules;
+mod searches;
 mod shard;
 mod span_leaf;
 mod spans;

@@ -1,10 +1,13 @@
 //! What is kept of a run of consecutive units once their entries were read, and what their references give.
 //!
 //! Most entries are neither indexed nor named by a reference. So a node is kept only of a root and of an entry that may be
-//! visited, and a span of each entry with children: from the spans the lexical parent of every entry is known (DWARF 5,
-//! section 2.3), and an entry without a node is read again from the file. Names are borrowed from the file.
+//! visited and whose tag an index may list, and a span of each entry with children: from the spans the lexical parent of every
+//! entry is known (DWARF 5, section 2.3), and an entry without a node is read again from the file. Names are borrowed from the
+//! file.
 
 use crate::list::List;
+use crate::nodes::Nodes;
+use crate::spans::Spans;
 
 /// What the root of a unit says of the whole unit (DWARF 5, section 3.1.1).
 #[derive(Clone, Copy)]
@@ -43,7 +46,7 @@ pub enum Raw {
     RangeIndex(u64),
 }
 
-/// A root, or an entry that may be visited.
+/// A root, or an entry that may be visited and whose tag an index may list.
 #[derive(Clone, Copy)]
 pub struct Node<'f> {
     /// The unit's number in section order, counted from 0.
@@ -108,10 +111,10 @@ pub struct Shard<'f> {
     pub first: u32,
     /// One of each unit.
     pub roots: List<Root>,
-    /// One of each root and of each entry that may be visited.
-    pub nodes: List<Node<'f>>,
+    /// One of each root, and of each entry that may be visited and whose tag an index may list.
+    pub nodes: Nodes<'f>,
     /// One of each entry with children.
-    pub spans: List<Span>,
+    pub spans: Spans,
     pub imports: List<Import>,
 }
 

@@ -2,6 +2,8 @@ pub mod Entries
 mod SignedLaws
 pub mod NodeLaws
 mod AdaLaws
+mod OpenedTags
+mod PlaceLaws
 mod VisitLaws
 mod ChainLaws
 mod SignatureLaws

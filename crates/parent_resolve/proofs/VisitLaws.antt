@@ -1,11 +1,9 @@
 -- Whether an entry is visited, by the nodes of a shard.
-use Rattle.std.proofs.Common.{◌≡◌, ℕ, ◌<◌, ◌≤◌, Bool, true, false, cond, eqb, not, ◌||◌, List, ◌++◌, length, take, flat_map, get_or, Option, Some, None, option_map, Ok, refl, sym, ap, subst, ◌∙◌, arith, ⊎_elim}
-use denote.Ref.{Bor}
+use Rattle.std.proofs.Common.{◌≡◌, ℕ, ◌<◌, ◌≤◌, Bool, true, false, cond, eqb, not, ◌||◌, List, ◌++◌, length, flat_map, get_or, Option, Some, None, option_map, Ok, refl, sym, ap, subst, ◌∙◌, arith, ⊎_elim}
 use Rattle.std.specs.Prelude.{Contains, find, is_none, is_some, IfSome, IsNone}
 use Rattle.std.specs.List.Sorted.{IsNonDecreasingBy}
-use Rattle.std.proofs.lemmas.Bool.{eq-eqb, ne_eqb, cases_lt, true≢false, false≢true}
-use Rattle.std.proofs.lemmas.List.{get_or_default, get_or-take, length-take}
-use Rattle.std.proofs.lemmas.List.Sorted.{IsNonDecreasingBy-take}
+use Rattle.std.proofs.lemmas.Bool.{eq-eqb, ne_eqb, cases_lt, true≢false, false≢true, and_parts, and_from}
+use Rattle.std.proofs.lemmas.List.{get_or_default}
 use Rattle.std.proofs.lemmas.Option.{same_Some}
 use Rattle.common_laws.proofs.Members.{of_filter, to_filter}
 use Rattle.index_model.specs.declared.shard.Node.{Node}
@@ -13,11 +11,12 @@ use Rattle.index_model.specs.declared.shard.Shard.{Shard}
 use Rattle.index_model.specs.declared.rules.Parent.TheVariants.{Root, Other, Seen}
 use Rattle.index_model.specs.Faults.{program_of}
 use Rattle.index_model.specs.Languages.{class_of_unit}
+use Rattle.index_model.specs.NodeSeen.{NodeSeen, node_seen}
 use Rattle.index_model.specs.LawsOrder.{IsInOrder}
 use Rattle.index_model.specs.Program.{Walked, Program, Located, items_of, located}
-use Rattle.index_model.specs.Rules.{is_ada, is_visited, is_visited_under, parent_as}
+use Rattle.index_model.specs.Rules.{is_ada, is_in_table, is_visited, is_visited_under, opens, parent_as}
 use Rattle.index_model.specs.Sections.{Section}
-use Rattle.index_model.specs.ShardParts.{IsNodeOf, is_kept, kept_in, may_be_ada, root_facts}
+use Rattle.index_model.specs.ShardParts.{IsNodeOf, IsSeenOf, is_kept, kept_in, may_be_ada, may_be_followed, root_facts}
 use Rattle.index_model.specs.ShardLanguages.{root_in}
 use Rattle.index_model.specs.Shards.{IsRunOf, StandsFor}
 use Rattle.index_model.specs.Walk.{Item, parent_of}
@@ -28,7 +27,8 @@ use Rattle.index_model.proofs.VisitedLaws.{visited_by_parent}
 use Rattle.index_model.proofs.Located.{Before, at_home, located_before}
 use Rattle.parent_resolve.specs.Visits.{IsVisitedBy, MayBeVisitedBy, takes_importers_class, IsNodeAt, HasNoneAt}
 use Rattle.parent_resolve.proofs.Entries.{order, home_of, entry_of, found_at, above, top, IsAbove}
-use Rattle.parent_resolve.proofs.NodeLaws.{node_parts, node_unit, node_parent, offset_in, of_node, to_node, nodes_below, nodes_rise}
+use Rattle.parent_resolve.proofs.NodeLaws.{node_parts, seen_parts, node_unit, node_parent, offset_in, of_node, to_node, nodes_below, nodes_rise}
+use Rattle.parent_resolve.proofs.OpenedTags.{opens_listed}
 use Rattle.parent_resolve.proofs.AdaLaws.{known_class, may_be_visited}
 
 pub none_says : (o : Option ℕ) (r b : Bool) → is_some o ≡ not r → r ≡ b → is_none o ≡ b
@@ -51,15 +51,16 @@ pub record IsEntryIn (s : Shard) (node : Node) (ada : Bool) (d : Located) : Type
   pub stands : StandsFor p.sections s run
   pub member : Contains (flat_map located run) d
   pub is_node : IsNodeOf p.sections node d
+  pub table : is_in_table d.item.tag ≡ true
   pub class : ada ≡ is_ada (class_of_unit p d.home)
 
 -- The entry is visited if the one at hand is, of which this is the parent's offset. Nodes behind the place stand behind it.
-pub record Climbs (ada : Bool) (nodes : List Node) (d : Located) (up : Option ℕ) (before : ℕ) : Type 0 where
+pub record Climbs (ada : Bool) (nodes : List NodeSeen) (d : Located) (up : Option ℕ) (before : ℕ) : Type 0 where
   pub entry : Item
   pub member : Contains (items_of d.home) entry
   pub same : is_visited ada (items_of d.home) d.item ≡ is_visited ada (items_of d.home) entry
   pub parent : up ≡ offset_in (parent_of (items_of d.home) entry)
-  pub behind : (k : ℕ) (n : Node) → before ≤ k → k < length nodes → entry.at ≤ (get_or nodes k n).offset
+  pub behind : (k : ℕ) (n : NodeSeen) → before ≤ k → k < length nodes → entry.at ≤ (get_or nodes k n).facts.offset
 
 no_offset : (o : Option Item) → None ≡ offset_in o → o ≡ None
 no_offset None h = refl
@@ -94,7 +95,7 @@ module _ (s : Shard) (node : Node) (ada : Bool) (d : Located) (h : IsEntryIn s n
   ordered : IsInOrder w
   ordered = order ss w (apart.walks w home.0)
 
-  pub rising : IsNonDecreasingBy (λ n. n.offset) s.nodes
+  pub rising : IsNonDecreasingBy (λ n. n.facts.offset) s.nodes
   rising = nodes_rise s.nodes (nodes_below ss s.nodes (kept_in h.run) h.stands.nodes (pairs_filter Before (λ e. is_kept e.home e.item) entries below))
 
   pub start : Climbs ada s.nodes d node.parent (length s.nodes)
@@ -141,30 +142,38 @@ module _ (s : Shard) (node : Node) (ada : Bool) (d : Located) (h : IsEntryIn s n
     own_offset : node.offset ≡ d.item.at
     own_offset = (node_parts ss node d h.is_node).0
 
-    kept_is : is_kept w d.item ≡ is_visited (may_be_ada w) ds d.item
-    kept_is = ap (λ (b : Bool). b || is_visited (may_be_ada w) ds d.item) not_root
+    kept_is : is_kept w d.item ≡ may_be_followed w d.item
+    kept_is = ap (λ (b : Bool). b || may_be_followed w d.item) not_root
 
-    pub kept_may_be : (k : ℕ) (a : Node) → IsNodeAt s.nodes node.offset k a → true ≡ is_visited (may_be_ada w) ds d.item
-    kept_may_be k a at =
+    visited_of : may_be_followed w d.item ≡ true → is_visited (may_be_ada w) ds d.item ≡ true
+    unfolding may_be_followed
+    visited_of on = (and_parts (is_in_table d.item.tag) (is_visited (may_be_ada w) ds d.item) on).1
+
+    followed_of : is_visited (may_be_ada w) ds d.item ≡ true → may_be_followed w d.item ≡ true
+    unfolding may_be_followed
+    followed_of on = and_from (is_in_table d.item.tag) (is_visited (may_be_ada w) ds d.item) h.table on
+
+    kept_may_be : (before k : ℕ) (a : NodeSeen) → IsNodeAt s.nodes before node.offset k a → true ≡ is_visited (may_be_ada w) ds d.item
+    kept_may_be before k a at =
         let r = of_node ss s.nodes (kept_in h.run) h.stands.nodes k a at.within in
-        let own : IsNodeOf ss a r.0 = subst (λ (n : Node). IsNodeOf ss n r.0) (sym at.is) r.2 in
+        let own : IsSeenOf ss a r.0 = subst (λ (n : NodeSeen). IsSeenOf ss n r.0) (sym at.is) r.2 in
         let f = of_filter (λ e. is_kept e.home e.item) entries r.0 r.1 in
-        let same : r.0 ≡ at_home w d.item = once r.0 f.0 d.item home.1 (sym (node_parts ss a r.0 own).0 ∙ at.offset ∙ own_offset) in
-        sym f.1 ∙ ap (λ (e : Located). is_kept e.home e.item) same ∙ kept_is
+        let same : r.0 ≡ at_home w d.item = once r.0 f.0 d.item home.1 (sym (seen_parts ss a r.0 own).0 ∙ at.offset ∙ own_offset) in
+        sym (visited_of (sym kept_is ∙ sym (ap (λ (e : Located). is_kept e.home e.item) same) ∙ f.1))
 
-    pub unkept_may_not : HasNoneAt s.nodes node.offset → false ≡ is_visited (may_be_ada w) ds d.item
+    unkept_may_not : HasNoneAt s.nodes (length s.nodes) node.offset → false ≡ is_visited (may_be_ada w) ds d.item
     unkept_may_not none = by (is_visited (may_be_ada w) ds d.item) refl
       where
         by : (v : Bool) → is_visited (may_be_ada w) ds d.item ≡ v → false ≡ v
         by false e = refl
         by true e =
-            let r = to_node ss s.nodes (kept_in h.run) h.stands.nodes d (to_filter (λ x. is_kept x.home x.item) entries d h.member (kept_is ∙ e)) in
-            absurd (none r.0 node r.1 ((node_parts ss (get_or s.nodes r.0 node) d (r.2 node)).0 ∙ sym own_offset))
+            let r = to_node ss s.nodes (kept_in h.run) h.stands.nodes d (to_filter (λ x. is_kept x.home x.item) entries d h.member (kept_is ∙ followed_of e)) in
+            absurd (none r.0 (node_seen node) r.1 r.1 ((seen_parts ss (get_or s.nodes r.0 (node_seen node)) d (r.2 (node_seen node))).0 ∙ sym own_offset))
 
     -- so it may be visited where a node has its offset
-    pub kept_by : (nodes : List Node) (o : Option (ℕ × Bor Node)) → nodes ≡ s.nodes → IfSome o (λ x. IsNodeAt nodes node.offset x.0 x.1.now) → (IsNone o → IsNonDecreasingBy (λ n. n.offset) nodes → HasNoneAt nodes node.offset) → is_some o ≡ is_visited (may_be_ada w) ds d.item
-    kept_by nodes None same found none = unkept_may_not (subst (λ (ns : List Node). HasNoneAt ns node.offset) same (none refl (subst (λ (ns : List Node). IsNonDecreasingBy (λ n. n.offset) ns) (sym same) rising)))
-    kept_by nodes (Some x) same found none = kept_may_be x.0 x.1.now (subst (λ (ns : List Node). IsNodeAt ns node.offset x.0 x.1.now) same found)
+    pub kept_by : (before : ℕ) → before ≡ length s.nodes → (o : Option (ℕ × Node)) → IfSome o (λ x. IsNodeAt s.nodes before node.offset x.0 (node_seen x.1)) → (IsNone o → IsNonDecreasingBy (λ n. n.facts.offset) s.nodes → HasNoneAt s.nodes before node.offset) → is_some o ≡ is_visited (may_be_ada w) ds d.item
+    kept_by before whole None found none = unkept_may_not (subst (λ (k : ℕ). HasNoneAt s.nodes k node.offset) whole (none refl rising))
+    kept_by before whole (Some x) found none = kept_may_be before x.0 (node_seen x.1) found
 
   -- ---- upwards
 
@@ -195,31 +204,43 @@ module _ (s : Shard) (node : Node) (ada : Bool) (d : Located) (h : IsEntryIn s n
       there = entry_of h.run w m home.0 over.member
 
       -- where no node before the place has the offset the parent isn't kept, and so it isn't visited
-      module _ (missing : (k : ℕ) (n : Node) → k < before → k < length s.nodes → (get_or s.nodes k n).offset ≡ o → ⊥) where
+      module _ (missing : HasNoneAt s.nodes before o) where
         not_kept : is_kept w m ≡ true → ⊥
         not_kept kept =
             let r = to_node ss s.nodes (kept_in h.run) h.stands.nodes (at_home w m) (to_filter (λ e. is_kept e.home e.item) entries (at_home w m) there kept) in
-            let offset : (get_or s.nodes r.0 node).offset ≡ m.at = (node_parts ss (get_or s.nodes r.0 node) (at_home w m) (r.2 node)).0 in
+            let none = node_seen node in
+            let offset : (get_or s.nodes r.0 none).facts.offset ≡ m.at = (seen_parts ss (get_or s.nodes r.0 none) (at_home w m) (r.2 none)).0 in
             ⊎_elim
-            (λ (lt : r.0 < before). missing r.0 node lt r.1 (offset ∙ mother.2))
-            (λ (ge : before ≤ r.0). let far = c.behind r.0 node ge r.1 in let early = over.earlier in omega (arith, far, offset, early))
+            (λ (lt : r.0 < before). missing r.0 none lt r.1 (offset ∙ mother.2))
+            (λ (ge : before ≤ r.0). let far = c.behind r.0 none ge r.1 in let early = over.earlier in omega (arith, far, offset, early))
             (cases_lt r.0 before)
 
-        pub unkept : false ≡ visited d.item
-        unkept = by (eqb m.depth 0) (is_visited (may_be_ada w) ds m) (visited m) not_kept (λ v. may_be_visited h.p w m (subst (λ (b : Bool). is_visited b ds m ≡ true) h.class v)) by_mother
+        -- what isn't kept but visited doesn't open its children
+        shut : may_be_followed w m ≡ false → visited m ≡ true → opens ada m.tag ≡ false
+        unfolding may_be_followed
+        shut off on = by (opens ada m.tag) refl
           where
-            by : (root may v : Bool) → ((root || may) ≡ true → ⊥) → (v ≡ true → may ≡ true) → visited d.item ≡ is_visited_under (cond root Root (cond v (Seen m.tag) Other)) ada → false ≡ visited d.item
-            by true may v miss up e = absurd (miss refl)
-            by false true v miss up e = absurd (miss refl)
-            by false false true miss up e = absurd (false≢true (up refl))
-            by false false false miss up e = sym e
+            by : (b : Bool) → opens ada m.tag ≡ b → b ≡ false
+            by false e = refl
+            by true e =
+                let may = may_be_visited h.p w m (subst (λ (b : Bool). is_visited b ds m ≡ true) h.class on) in
+                absurd (true≢false (sym (and_from (is_in_table m.tag) (is_visited (may_be_ada w) ds m) (opens_listed ada m.tag e) may) ∙ off))
+
+        pub unkept : false ≡ visited d.item
+        unkept = by (eqb m.depth 0) (may_be_followed w m) refl (visited m) refl not_kept by_mother
+          where
+            by : (root followed : Bool) → may_be_followed w m ≡ followed → (v : Bool) → visited m ≡ v → ((root || followed) ≡ true → ⊥) → visited d.item ≡ is_visited_under (cond root Root (cond v (Seen m.tag) Other)) ada → false ≡ visited d.item
+            by true followed f v s miss e = absurd (miss refl)
+            by false true f v s miss e = absurd (miss refl)
+            by false false f true s miss e = sym (e ∙ shut f s)
+            by false false f false s miss e = sym e
 
       -- the node of the parent
-      module _ (k : ℕ) (a : Node) (within : k < length s.nodes) (at : a ≡ get_or s.nodes k a) (offset : a.offset ≡ o) where
+      module _ (k : ℕ) (a : Node) (within : k < length s.nodes) (at : node_seen a ≡ get_or s.nodes k (node_seen a)) (offset : a.offset ≡ o) where
         is_parent : IsNodeOf ss a (at_home w m)
         is_parent =
-            let r = of_node ss s.nodes (kept_in h.run) h.stands.nodes k a within in
-            let own : IsNodeOf ss a r.0 = subst (λ (n : Node). IsNodeOf ss n r.0) (sym at) r.2 in
+            let r = of_node ss s.nodes (kept_in h.run) h.stands.nodes k (node_seen a) within in
+            let own : IsNodeOf ss a r.0 = subst (λ (n : NodeSeen). IsSeenOf ss n r.0) (sym at) r.2 in
             let same : r.0 ≡ at_home w m = once r.0 (of_filter (λ e. is_kept e.home e.item) entries r.0 r.1).0 m over.member (sym (node_parts ss a r.0 own).0 ∙ offset ∙ sym mother.2) in
             subst (IsNodeOf ss a) same own
 
@@ -257,7 +278,7 @@ module _ (s : Shard) (node : Node) (ada : Bool) (d : Located) (h : IsEntryIn s n
           parent = parent_at;
           behind = λ j n le lt.
               let rise = rising k j n le lt in
-              let mine : a.offset ≡ (get_or s.nodes k n).offset = ap (λ (x : Node). x.offset) (at ∙ get_or_default s.nodes k a n within) in
+              let mine : a.offset ≡ (get_or s.nodes k n).facts.offset = ap (λ (x : NodeSeen). x.facts.offset) (at ∙ get_or_default s.nodes k (node_seen a) n within) in
               let place = mother.2 in
               omega (arith, rise, mine, place, offset);
         }
@@ -268,35 +289,12 @@ module _ (s : Shard) (node : Node) (ada : Bool) (d : Located) (h : IsEntryIn s n
 
 -- an answer for every entry that the node may be that of
 pub for_each : (s : Shard) (node : Node) (ada answer : Bool) → ((d : Located) → IsEntryIn s node ada d → answer ≡ is_visited ada (items_of d.home) d.item) → IsVisitedBy s node ada answer
-for_each s node ada answer go file p run of_file is_run stands d member is_node class = go d (record { file = file; p = p; run = run; of_file = of_file; is_run = is_run; stands = stands; member = member; is_node = is_node; class = class })
-
--- a node of the front of a list
-module _ (nodes all : List Node) (before at : ℕ) (same : nodes ≡ all) where
-  pub in_front : (k : ℕ) (a : Node) → IsNodeAt (take before nodes) at k a → IsNodeAt all at k a × (k < before)
-  in_front k a h =
-      let short = length-take before nodes in
-      let within = h.within in
-      let early : k < before = omega (arith, short, within) in (
-        record {
-          within = omega (arith, short, within, ap (λ (ns : List Node). length ns) same);
-          is = h.is ∙ get_or-take before nodes k a early ∙ ap (λ (ns : List Node). get_or ns k a) same;
-          offset = h.offset;
-        },
-        early,
-      )
-
-  pub none_in_front : HasNoneAt (take before nodes) at → (k : ℕ) (n : Node) → k < before → k < length all → (get_or all k n).offset ≡ at → ⊥
-  none_in_front none k n early within is =
-      let short = length-take before nodes in
-      none k n (omega (arith, short, early, within, ap (λ (ns : List Node). length ns) same)) (ap (λ (x : Node). x.offset) (get_or-take before nodes k n early ∙ ap (λ (ns : List Node). get_or ns k n) same) ∙ is)
-
-  pub front_rises : IsNonDecreasingBy (λ n. n.offset) all → IsNonDecreasingBy (λ n. n.offset) (take before nodes)
-  front_rises rise = IsNonDecreasingBy-take (λ n. n.offset) before nodes (subst (λ (ns : List Node). IsNonDecreasingBy (λ n. n.offset) ns) (sym same) rise)
+for_each s node ada answer go file p run of_file is_run stands d member is_node table class = go d (record { file = file; p = p; run = run; of_file = of_file; is_run = is_run; stands = stands; member = member; is_node = is_node; table = table; class = class })
 
 -- the same for what may be visited
 pub for_each_kept : (s : Shard) (node : Node) (answer : Bool) → ((ada : Bool) (d : Located) → IsEntryIn s node ada d → answer ≡ is_visited (may_be_ada d.home) (items_of d.home) d.item) → MayBeVisitedBy s node answer
-for_each_kept s node answer go file p run of_file is_run stands d member is_node = go (is_ada (class_of_unit p d.home)) d (record { file = file; p = p; run = run; of_file = of_file; is_run = is_run; stands = stands; member = member; is_node = is_node; class = refl })
+for_each_kept s node answer go file p run of_file is_run stands d member is_node table = go (is_ada (class_of_unit p d.home)) d (record { file = file; p = p; run = run; of_file = of_file; is_run = is_run; stands = stands; member = member; is_node = is_node; table = table; class = refl })
 
 -- where the class isn't that of an importing unit the one answer is the other
 pub for_kept : (s : Shard) (node : Node) (ada answer : Bool) → takes_importers_class (root_in node.unit s) ≡ false → MayBeVisitedBy s node answer → IsVisitedBy s node ada answer
-for_kept s node ada answer own kept = for_each s node ada answer (λ d h. by_class s node ada d h own answer (kept h.file h.p h.run h.of_file h.is_run h.stands d h.member h.is_node))
+for_kept s node ada answer own kept = for_each s node ada answer (λ d h. by_class s node ada d h own answer (kept h.file h.p h.run h.of_file h.is_run h.stands d h.member h.is_node h.table))

@@ -5,32 +5,34 @@ use Rattle.index_model.specs.declared.shard.Root.{Root}
 use Rattle.index_model.specs.declared.shard.Shard.{Shard}
 use Rattle.index_model.specs.Faults.{program_of}
 use Rattle.index_model.specs.Languages.{class_of_unit}
+use Rattle.index_model.specs.NodeSeen.{NodeSeen}
 use Rattle.index_model.specs.Program.{Walked, Program, Located, items_of, located}
-use Rattle.index_model.specs.Rules.{is_ada, is_visited}
+use Rattle.index_model.specs.Rules.{is_ada, is_in_table, is_visited}
 use Rattle.index_model.specs.ShardParts.{IsNodeOf, may_be_ada}
 use Rattle.index_model.specs.Shards.{IsRunOf, StandsFor}
 
--- Whatever run of a file's units the shard stands for: the answer is whether the entry of the node is visited, where its unit's class is Ada or isn't.
+-- Whatever run of a file's units the shard stands for: the answer is whether the entry of the node is visited, if its tag may be listed, where its unit's class is Ada or isn't.
 abbrev pub IsVisitedBy : Shard → Node → Bool → Bool → Type 0
 IsVisitedBy s node ada answer = (file : List ℕ) (p : Program) (run : List Walked) → program_of file ≡ Ok p → IsRunOf p run → StandsFor p.sections s run →
-    (d : Located) → Contains (flat_map located run) d → IsNodeOf p.sections node d → ada ≡ is_ada (class_of_unit p d.home) → answer ≡ is_visited ada (items_of d.home) d.item
+    (d : Located) → Contains (flat_map located run) d → IsNodeOf p.sections node d → is_in_table d.item.tag ≡ true → ada ≡ is_ada (class_of_unit p d.home) → answer ≡ is_visited ada (items_of d.home) d.item
 
 -- the same of what a shard keeps: whether the entry of the node may be visited
 abbrev pub MayBeVisitedBy : Shard → Node → Bool → Type 0
 MayBeVisitedBy s node answer = (file : List ℕ) (p : Program) (run : List Walked) → program_of file ≡ Ok p → IsRunOf p run → StandsFor p.sections s run →
-    (d : Located) → Contains (flat_map located run) d → IsNodeOf p.sections node d → answer ≡ is_visited (may_be_ada d.home) (items_of d.home) d.item
+    (d : Located) → Contains (flat_map located run) d → IsNodeOf p.sections node d → is_in_table d.item.tag ≡ true → answer ≡ is_visited (may_be_ada d.home) (items_of d.home) d.item
 
 -- whether a unit with this root is partial and has no language itself
 abbrev pub takes_importers_class : Option Root → Bool
 takes_importers_class (Some root) = root.partial && is_none root.language
 takes_importers_class None = true
 
--- the node has the offset, and stands at the place
-pub record IsNodeAt (nodes : List Node) (at place : ℕ) (n : Node) : Type 0 where
+-- the node has the offset, and stands at the place, before another
+pub record IsNodeAt (nodes : List NodeSeen) (before at place : ℕ) (n : NodeSeen) : Type 0 where
   pub within : place < length nodes
+  pub early : place < before
   pub is : n ≡ slice_index_or nodes place n
-  pub offset : n.offset ≡ at
+  pub offset : n.facts.offset ≡ at
 
--- no node has the offset
-abbrev pub HasNoneAt : List Node → ℕ → Type 0
-HasNoneAt nodes offset = (k : ℕ) (n : Node) → k < length nodes → (slice_index_or nodes k n).offset ≡ offset → ⊥
+-- no node before the place has the offset
+abbrev pub HasNoneAt : List NodeSeen → ℕ → ℕ → Type 0
+HasNoneAt nodes before offset = (k : ℕ) (n : NodeSeen) → k < before → k < length nodes → (slice_index_or nodes k n).facts.offset ≡ offset → ⊥

@@ -71,8 +71,10 @@ fn links_of<'f>(
     ensures { ForStanding paths.old shard.now (λ p run. GivesFor (λ v. AreLinksOf p v.items) result (links_at p (kept_in run))) }
 {
     let mut entries = Vec::new(alloc);
-    for node in shard.nodes.as_slice() {
-        add_link(alloc, shard, languages, paths, node, &mut entries)?;
+    for k in 0..shard.nodes.len() {
+        if let Some(node) = shard.nodes.get(k) {
+            add_link(alloc, shard, languages, paths, &node, &mut entries)?;
+        }
     }
     Ok(entries)
 }

@@ -1,17 +1,19 @@
 //! Which entries of a shard are visited.
 //!
-//! A shard keeps what may be visited: there a partial unit without a language counts as Ada, since the unit that imports it
-//! may be in Ada (DWARF 5, section 3.2.5). In all other units what is kept below the root is what is visited.
+//! Of the entries whose tags an index may list a shard keeps those that may be visited: there a partial unit without a language
+//! counts as Ada, since the unit that imports it may be in Ada (DWARF 5, section 3.2.5). In all other units what is kept below
+//! the root is what is visited. Each tag that opens its children to visits is one that an index may list.
 
 ghost use Rattle.std.specs.Prelude.{◌≡◌, IfSome, IsNone};
 ghost use Rattle.std.specs.List.Sorted.{IsNonDecreasingBy};
+ghost use Rattle.index_model.specs.NodeSeen.{node_seen};
 ghost use Rattle.index_model.specs.ShardLanguages.{root_in};
 ghost use Rattle.parent_resolve.specs.Visits.{HasNoneAt, IsNodeAt, IsVisitedBy, MayBeVisitedBy, takes_importers_class};
 
 use entry_rules::visited;
-use index_model::{Node, Parent, Root, Shard};
+use index_model::{Node, Nodes, Parent, Root, Shard};
 
-/// Whether an entry of the shard's units is visited, in a unit whose class is Ada or isn't.
+/// Whether an entry of the shard's units whose tag an index may list is visited, in a unit whose class is Ada or isn't.
 pub(crate) fn is_visited(shard: &Shard<'_>, node: &Node<'_>, ada: bool) -> bool
     ensures { IsVisitedBy shard.now node.now ada result }
 {
@@ -47,19 +49,18 @@ fn may_be_visited(shard: &Shard<'_>, node: &Node<'_>) -> bool
     if node.parent.is_none() {
         return false;
     }
-    node_at(shard.nodes.as_slice(), node.offset).is_some()
+    node_at(&shard.nodes, shard.nodes.len(), node.offset).is_some()
 }
 
 // Whether all entries above it but the root open their children.
 fn is_visited_upwards(shard: &Shard<'_>, node: &Node<'_>, ada: bool) -> bool
     ensures { IsVisitedBy shard.now node.now ada result }
 {
-    let nodes = shard.nodes.as_slice();
     let mut parent = node.parent;
     // The entries above stand before it.
-    let mut before = nodes.len();
+    let mut before = shard.nodes.len();
     while let Some(offset) = parent {
-        let Some((place, above)) = node_at(&nodes[..before], offset) else {
+        let Some((place, above)) = node_at(&shard.nodes, before, offset) else {
             return false;
         };
         if above.parent.is_none() {
@@ -74,12 +75,15 @@ fn is_visited_upwards(shard: &Shard<'_>, node: &Node<'_>, ada: bool) -> bool
     false
 }
 
-// The node at an offset with its place, if there is one.
-fn node_at<'s, 'f>(nodes: &'s [Node<'f>], offset: u64) -> Option<(usize, &'s Node<'f>)>
-    ensures found { IfSome result (λ x. IsNodeAt nodes.now offset x.0 x.1.now) }
-    ensures none { IsNone result → IsNonDecreasingBy (λ n. n.offset) nodes.now → HasNoneAt nodes.now offset }
+// The node at an offset with its place, if there is one before this place.
+fn node_at<'f>(nodes: &Nodes<'f>, before: usize, offset: u64) -> Option<(usize, Node<'f>)>
+    ensures found { IfSome result (λ x. IsNodeAt nodes.now before offset x.0 (node_seen x.1)) }
+    ensures none { IsNone result → IsNonDecreasingBy (λ n. n.facts.offset) nodes.now → HasNoneAt nodes.now before offset }
 {
-    let place = nodes.partition_point(|node| node.offset < offset);
+    let place = nodes.count_before(offset);
+    if before <= place {
+        return None;
+    }
     let node = nodes.get(place)?;
     if node.offset == offset {
         Some((place, node))

@@ -11,6 +11,7 @@ use Rattle.index_model.specs.Rules.{kind_of}
 use Rattle.index_model.specs.Sections.{Section}
 use Rattle.index_model.specs.ShardParts.{IsNodeOf, node_facts}
 use Rattle.qualified_names.specs.declared.indexed.Indexed.{Indexed}
+use Rattle.qualified_names.specs.Nodes.{indexed_seen}
 use Rattle.qualified_names.specs.Indexed.{IsIndexed}
 
 abbrev made : ℕ → ℕ → ℕ → Kind → Bool → Bool → List ℕ → ℕ → Entry
@@ -26,7 +27,7 @@ pub taken : (ss : List Section) (x : Indexed) (d : Located) → IsNodeOf ss x.no
 unfolding node_facts
 taken ss x d h = record { unit = ap (λ n. n.unit) h.facts; offset = ap (λ n. n.offset) h.facts; tag = ap (λ n. n.tag) h.facts }
 
-pub entry_is : (p : Program) (x : Indexed) (k : Link) → IsIndexed p x k → (kind : Kind) → kind ≡ unwrap_or (kind_of x.node.tag) Other → (local : Bool) → local ≡ is_link_static k → (name : List ℕ) → qualified_of k ≡ Some name → (tail : ℕ) → tail ≡ length (unwrap_or (option_map (simple_name k.class) (name_in k)) []) →
+pub entry_is : (p : Program) (x : Indexed) (k : Link) → IsIndexed p (indexed_seen x) k → (kind : Kind) → kind ≡ unwrap_or (kind_of x.node.tag) Other → (local : Bool) → local ≡ is_link_static k → (name : List ℕ) → qualified_of k ≡ Some name → (tail : ℕ) → tail ≡ length (unwrap_or (option_map (simple_name k.class) (name_in k)) []) →
     made x.node.unit x.node.offset x.node.tag kind local false name tail ≡ entry_of k
 unfolding entry_of
 entry_is p x k h kind kind_ local local_ name name_ tail tail_ =

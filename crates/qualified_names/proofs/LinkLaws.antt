@@ -31,6 +31,7 @@ use Rattle.parent_resolve.specs.declared.followed.Followed.{Followed}
 use Rattle.parent_resolve.specs.Followed.{Named, followed_of, all_entries, IsFollowed}
 use Rattle.parent_resolve.proofs.Outwards.{ok_and}
 use Rattle.qualified_names.specs.declared.indexed.Indexed.{Indexed}
+use Rattle.qualified_names.specs.Nodes.{indexed_seen}
 use Rattle.qualified_names.specs.Indexed.{HasLink, IsEnd, IsIndexed}
 use Rattle.qualified_names.specs.Paths.{HasPath}
 
@@ -136,7 +137,7 @@ named k name is on within =
       tail = tail;
     }
 
-module _ (p : Program) (x : Indexed) (k : Link) (h : IsIndexed p x k) where
+module _ (p : Program) (x : Indexed) (k : Link) (h : IsIndexed p (indexed_seen x) k) where
   pub parts : LinkParts p k.entry k
   parts = link_parts p k.entry k h.own
 
@@ -170,7 +171,7 @@ tag_fits k on = in_rows (facts_of k) k.entry.item.tag table refl (asked k on).al
 
 -- ---- the end of the chain
 
-pub end_is : (p : Program) (x : Indexed) (k : Link) → IsIndexed p x k → (f : Followed) (at : ℕ) → IsOkAnd (at_place at (followed_of p k.entry)) (IsFollowed p k.entry f) → IsEnd p k f.end
+pub end_is : (p : Program) (x : Indexed) (k : Link) → IsIndexed p (indexed_seen x) k → (f : Followed) (at : ℕ) → IsOkAnd (at_place at (followed_of p k.entry)) (IsFollowed p k.entry f) → IsEnd p k f.end
 end_is p x k h f at given =
     let n = ok_and (IsFollowed p k.entry f) at (followed_of p k.entry) given in
     let same = same_ok n.0 (record { chain = k.chain; spelled = k.spelled }) (sym n.1 ∙ follows p k.entry k (parts p x k h)) in

@@ -24,7 +24,7 @@ use Rattle.parent_resolve.proofs.Entries.{home_in}
 use Rattle.qualified_names.specs.declared.indexed.Indexed.{Indexed}
 use Rattle.qualified_names.specs.declared.sought.Sought.TheVariants.{Said, Named}
 use Rattle.qualified_names.specs.Indexed.{IsIndexed}
-use Rattle.qualified_names.specs.Nodes.{all_indexed, indexed_nodes}
+use Rattle.qualified_names.specs.Nodes.{all_indexed, indexed_nodes, indexed_seen, IndexedSeen}
 use Rattle.qualified_names.specs.Sought.{is_main_by, IsFound}
 use Rattle.qualified_names.proofs.LinkLaws.{parts}
 
@@ -42,7 +42,7 @@ pub node_tag : (ss : List Section) (x : Indexed) (d : Located) → IsNodeOf ss x
 unfolding node_facts
 node_tag ss x d h = ap (λ n. n.tag) h.facts
 
-module _ (f : List ℕ) (p : Program) (file : program_of f ≡ Ok p) (shards : List Shard) (are : AreShardsOf p shards) (x : Indexed) (k : Link) (h : IsIndexed p x k) (language : ℕ) (at : IsLanguageAt shards x.node.unit language) where
+module _ (f : List ℕ) (p : Program) (file : program_of f ≡ Ok p) (shards : List Shard) (are : AreShardsOf p shards) (x : Indexed) (k : Link) (h : IsIndexed p (indexed_seen x) k) (language : ℕ) (at : IsLanguageAt shards x.node.unit language) where
   pub language_here : language ≡ language_of p k.entry.home
   language_here = at f p file are k.entry.home (home_in p k.entry h.there).0 (sym (node_unit p.sections x k.entry h.node))
 
@@ -131,18 +131,18 @@ module _ (p : Program) where
   none_found None h = refl
   none_found (Some k) h = absurd h
 
-  pub one_found : (x : Indexed) (a : Option Link) → IsFound p (Some x) a → (k : Link) × (a ≡ Some k) × IsIndexed p x k
+  pub one_found : (x : Indexed) (a : Option Link) → IsFound p (Some x) a → (k : Link) × (a ≡ Some k) × IsIndexed p (indexed_seen x) k
   one_found x None h = absurd h
   one_found x (Some k) h = (k, refl, h)
 
   -- the entries that are left, of which the first that is told is the first of all
-  pub record Left (q : Link → Bool) (ks : List Link) (xs : List Indexed) : Type 0 where
+  pub record Left (q : Link → Bool) (ks : List Link) (xs : List IndexedSeen) : Type 0 where
     pub rest : List Link
     pub zip : AllZip (IsIndexed p) xs rest
     pub same : find q ks ≡ find q rest
 
   module _ (q : Link → Bool) (ks : List Link) where
-    pub all_left : (xs : List Indexed) → AllZip (IsIndexed p) xs ks → Left q ks xs
+    pub all_left : (xs : List IndexedSeen) → AllZip (IsIndexed p) xs ks → Left q ks xs
     all_left xs z = record { rest = ks; zip = z; same = refl }
 
     pub none_left : Left q ks [] → find q ks ≡ None
@@ -152,7 +152,7 @@ module _ (p : Program) where
         by [] z same = same
         by (k ∷ rest) z same = absurd z
 
-    pub first_left : (x : Indexed) (xs : List Indexed) → Left q ks (x ∷ xs) → (k : Link) × IsIndexed p x k × (q k ≡ true → find q ks ≡ Some k) × (q k ≡ false → Left q ks xs)
+    pub first_left : (x : IndexedSeen) (xs : List IndexedSeen) → Left q ks (x ∷ xs) → (k : Link) × IsIndexed p x k × (q k ≡ true → find q ks ≡ Some k) × (q k ≡ false → Left q ks xs)
     first_left x xs l = by l.rest l.zip l.same
       where
         by : (rest : List Link) → AllZip (IsIndexed p) (x ∷ xs) rest → find q ks ≡ find q rest → (k : Link) × IsIndexed p x k × (q k ≡ true → find q ks ≡ Some k) × (q k ≡ false → Left q ks xs)
@@ -165,12 +165,12 @@ module _ (p : Program) where
         )
 
     -- some entries in front, and all others
-    pub front_left : (xs ys : List Indexed) → Left q ks (xs ++ ys) → (front : List Link) × (back : List Link) × AllZip (IsIndexed p) xs front × AllZip (IsIndexed p) ys back × (find q ks ≡ option_or (find q front) (find q back))
+    pub front_left : (xs ys : List IndexedSeen) → Left q ks (xs ++ ys) → (front : List Link) × (back : List Link) × AllZip (IsIndexed p) xs front × AllZip (IsIndexed p) ys back × (find q ks ≡ option_or (find q front) (find q back))
     front_left xs ys l =
         let s = split xs l.rest l.zip in
         (s.0, s.1, s.3, s.4, l.same ∙ ap (find q) (sym s.2) ∙ find_append q s.0 s.1)
       where
-        split : (us : List Indexed) (rest : List Link) → AllZip (IsIndexed p) (us ++ ys) rest → (front : List Link) × (back : List Link) × (front ++ back ≡ rest) × AllZip (IsIndexed p) us front × AllZip (IsIndexed p) ys back
+        split : (us : List IndexedSeen) (rest : List Link) → AllZip (IsIndexed p) (us ++ ys) rest → (front : List Link) × (back : List Link) × (front ++ back ≡ rest) × AllZip (IsIndexed p) us front × AllZip (IsIndexed p) ys back
         split [] rest z = ([], rest, refl, tt, z)
         split (u ∷ us) [] z = absurd z
         split (u ∷ us) (k ∷ rest) z = let s = split us rest z.1 in (k ∷ s.0, s.1, ap (λ (ls : List Link). k ∷ ls) s.2, (z.0, s.3), s.4)
@@ -214,7 +214,7 @@ drop_all [] (suc k) le = refl
 drop_all (x ∷ xs) zero le = absurd (omega (arith, le))
 drop_all (x ∷ xs) (suc k) le = drop_all xs k (omega (arith, le))
 
-abbrev pub from_place : List Shard → List Linked → ℕ → List Indexed
+abbrev pub from_place : List Shard → List Linked → ℕ → List IndexedSeen
 from_place shards linked k = all_indexed (drop k shards) (drop k linked)
 
 pub next_place : (shards : List Shard) (linked : List Linked) (k : ℕ) (s : Shard) (l : Linked) → slice_get shards k ≡ Some s → slice_get linked k ≡ Some l → from_place shards linked k ≡ indexed_nodes s.nodes l.entries ++ from_place shards linked (suc k)

@@ -20,16 +20,15 @@ use Rattle.shard_build.specs.Entries.{AreShardsOfFile}
 use Rattle.parent_resolve.proofs.RunLinks.{RunAt, each_append, run_at}
 use Rattle.range_lists.specs.Units.{AreLinkedOf, IsLinkedRun}
 use Rattle.range_lists.proofs.Runs.{zip_length}
-use Rattle.qualified_names.specs.declared.indexed.Indexed.{Indexed}
 use Rattle.qualified_names.specs.Files.{AreLinkedOfFile}
 use Rattle.qualified_names.specs.Indexed.{IsIndexed}
-use Rattle.qualified_names.specs.Nodes.{all_indexed, indexed_nodes}
+use Rattle.qualified_names.specs.Nodes.{all_indexed, indexed_nodes, IndexedSeen}
 use Rattle.qualified_names.proofs.Sides.{all_of, headed, of_run, one, zip_at}
 
 -- ---- entries that were written
 
 -- the entries of some links were written, and these indexed entries are left
-pub record Written (p : Program) (ks : List Link) (entries : List Entry) (xs : List Indexed) : Type 0 where
+pub record Written (p : Program) (ks : List Link) (entries : List Entry) (xs : List IndexedSeen) : Type 0 where
   pub done : List Link
   pub rest : List Link
   pub whole : done ++ rest ≡ ks
@@ -37,13 +36,13 @@ pub record Written (p : Program) (ks : List Link) (entries : List Entry) (xs : L
   pub is : entries ≡ flat_map (entries_of_link p) done
 
 module _ (p : Program) (ks : List Link) where
-  pub none_written : (xs : List Indexed) → AllZip (IsIndexed p) xs ks → (entries : List Entry) → entries ≡ [] → Written p ks entries xs
+  pub none_written : (xs : List IndexedSeen) → AllZip (IsIndexed p) xs ks → (entries : List Entry) → entries ≡ [] → Written p ks entries xs
   none_written xs z entries none = record { done = []; rest = ks; whole = refl; zip = z; is = none }
 
-  pub head_written : (entries : List Entry) (x : Indexed) (xs : List Indexed) → Written p ks entries (x ∷ xs) → (k : Link) × IsIndexed p x k
+  pub head_written : (entries : List Entry) (x : IndexedSeen) (xs : List IndexedSeen) → Written p ks entries (x ∷ xs) → (k : Link) × IsIndexed p x k
   head_written entries x xs h = let z = headed (IsIndexed p) x xs h.rest h.zip in (z.head, z.first)
 
-  pub one_written : (entries : List Entry) (x : Indexed) (xs : List Indexed) → Written p ks entries (x ∷ xs) → (more : List Entry) → ((k : Link) → IsIndexed p x k → more ≡ entries ++ entries_of_link p k) → Written p ks more xs
+  pub one_written : (entries : List Entry) (x : IndexedSeen) (xs : List IndexedSeen) → Written p ks entries (x ∷ xs) → (more : List Entry) → ((k : Link) → IsIndexed p x k → more ≡ entries ++ entries_of_link p k) → Written p ks more xs
   one_written entries x xs h more grown =
       let z = headed (IsIndexed p) x xs h.rest h.zip in
       record {

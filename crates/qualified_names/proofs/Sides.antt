@@ -11,13 +11,13 @@ use Rattle.common_laws.proofs.Lists.{all_zip_append}
 use Rattle.ix_base.specs.declared.fault.Fault.{Fault}
 use Rattle.index_model.specs.declared.shard.Linked.{Linked}
 use Rattle.index_model.specs.declared.shard.LinkedEntry.{LinkedEntry}
-use Rattle.index_model.specs.declared.shard.Node.{Node}
+use Rattle.index_model.specs.NodeSeen.{NodeSeen}
 use Rattle.index_model.specs.declared.shard.Shard.{Shard}
 use Rattle.index_model.specs.Faults.{program_of}
 use Rattle.index_model.specs.Links.{Link, followed, indexed_in, is_link_indexed, link_of, links_in}
 use Rattle.index_model.specs.Meaning.{◌>>=◌, at_place, each}
 use Rattle.index_model.specs.Program.{Walked, Program, Located, located}
-use Rattle.index_model.specs.ShardParts.{is_kept, kept_in, IsNodeOf}
+use Rattle.index_model.specs.ShardParts.{is_kept, kept_in, IsSeenOf}
 use Rattle.index_model.specs.Shards.{IsLinkedEntryOf, IsRunOf, StandsFor}
 use Rattle.index_model.proofs.EachLaws.{in_two}
 use Rattle.index_model.proofs.Meanings.{bind_ok, same_ok}
@@ -27,14 +27,13 @@ use Rattle.index_model.proofs.UnitsApart.{run_apart}
 use Rattle.parent_resolve.specs.Followed.{all_entries}
 use Rattle.parent_resolve.specs.Runs.{is_followed}
 use Rattle.parent_resolve.proofs.KeptLaws.{kept_followed}
-use Rattle.parent_resolve.proofs.NodeLaws.{node_parts}
+use Rattle.parent_resolve.proofs.NodeLaws.{seen_parts}
 use Rattle.parent_resolve.proofs.NodeLinks.{kept_there}
 use Rattle.range_lists.specs.Units.{IsLinkedRun}
 use Rattle.index_model.proofs.Followed.{links_are}
 use Rattle.index_model.proofs.Located.{Before, located_before}
-use Rattle.qualified_names.specs.declared.indexed.Indexed.{Indexed}
 use Rattle.qualified_names.specs.Indexed.{IsIndexed}
-use Rattle.qualified_names.specs.Nodes.{all_indexed, from_offset, indexed_nodes}
+use Rattle.qualified_names.specs.Nodes.{all_indexed, from_offset, indexed_nodes, IndexedSeen}
 use Rattle.qualified_names.proofs.LinkLaws.{link_parts}
 
 -- ---- lists
@@ -78,7 +77,7 @@ module _ (p : Program) where
   abbrev AreTold : List Located → List Link → List LinkedEntry → Type 0
   AreTold ds ks es = (each one (filter (is_followed p) ds) ≡ Ok ks) × AllZip (IsLinkedEntryOf p) es (indexed_in ks)
 
-  abbrev Given : List Located → List Node → Type 0
+  abbrev Given : List Located → List NodeSeen → Type 0
   Given ds ns = (es : List LinkedEntry) (ks : List Link) → AreTold ds ks es → AllZip (IsIndexed p) (indexed_nodes ns es) (indexed_in ks)
 
   -- the entry of an indexed link is one of these
@@ -88,14 +87,14 @@ module _ (p : Program) where
       let a = links_are p (filter (is_followed p) ds) ks is in
       (of_filter (is_followed p) ds k.entry (subst (λ (xs : List Located). Contains xs k.entry) a.entries (to_map (λ (l : Link). l.entry) ks k own))).0
 
-  module _ (d : Located) (ds : List Located) (n : Node) (ns : List Node) (node : IsNodeOf p.sections n d) (later : (e : Located) → Contains ds e → Before d e) (there : Contains (all_entries p) d) (again : Given ds ns) where
+  module _ (d : Located) (ds : List Located) (n : NodeSeen) (ns : List NodeSeen) (node : IsSeenOf p.sections n d) (later : (e : Located) → Contains ds e → Before d e) (there : Contains (all_entries p) d) (again : Given ds ns) where
     -- the node's entry isn't indexed
     passed_over : (es : List LinkedEntry) (ks : List Link) → AreTold ds ks es → AllZip (IsIndexed p) (indexed_nodes (n ∷ ns) es) (indexed_in ks)
     passed_over [] ks told = zip_none (IsLinkedEntryOf p) (IsIndexed p) (indexed_in ks) told.1
     passed_over (e ∷ es) ks told =
         let h = headed (IsLinkedEntryOf p) e es (indexed_in ks) told.1 in
         let inside = told_there ds ks told.0 h.head (subst (λ (xs : List Link). Contains xs h.head) (sym h.is) (contains_here h.head h.rest)) in
-        let apart : eqb n.offset e.offset ≡ false = ne_eqb n.offset e.offset (λ same. let lt = later h.head.entry inside in omega (arith, same, lt, h.first.offset, (node_parts p.sections n d node).0)) in
+        let apart : eqb n.facts.offset e.offset ≡ false = ne_eqb n.facts.offset e.offset (λ same. let lt = later h.head.entry inside in omega (arith, same, lt, h.first.offset, (seen_parts p.sections n d node).0)) in
         subst (λ (b : Bool). AllZip (IsIndexed p) (cond b (record { node = n; links = e } ∷ indexed_nodes ns es) (indexed_nodes ns (e ∷ es))) (indexed_in ks)) (sym apart) (again (e ∷ es) ks told)
 
     -- the node's entry is indexed
@@ -107,11 +106,11 @@ module _ (p : Program) where
         let here : IsIndexed p (record { node = n; links = e }) k = record {
           own = ap (link_of p) entry ∙ own;
           there = subst (Contains (all_entries p)) back there;
-          node = subst (IsNodeOf p.sections n) back node;
+          node = subst (IsSeenOf p.sections n) back node;
           links = z.0;
           indexed = on;
         } in
-        let same : eqb n.offset e.offset ≡ true = eq-eqb n.offset e.offset ((node_parts p.sections n d node).0 ∙ ap (λ (x : Located). x.item.at) back ∙ sym z.0.offset) in
+        let same : eqb n.facts.offset e.offset ≡ true = eq-eqb n.facts.offset e.offset ((seen_parts p.sections n d node).0 ∙ ap (λ (x : Located). x.item.at) back ∙ sym z.0.offset) in
         subst (λ (b : Bool). AllZip (IsIndexed p) (cond b (record { node = n; links = e } ∷ indexed_nodes ns es) (indexed_nodes ns (e ∷ es))) (k ∷ indexed_in ks)) (sym same) (here, again es ks (rest, z.1))
 
     followed_one : is_followed p d ≡ true → Given (d ∷ ds) (n ∷ ns)
@@ -139,7 +138,7 @@ module _ (p : Program) where
         by true on = followed_one on
         by false off = unfollowed off
 
-  side_by_side : (ds : List Located) (ns : List Node) → AllZip (IsNodeOf p.sections) ns ds → Pairs Before ds → ((d : Located) → Contains ds d → Contains (all_entries p) d) → Given ds ns
+  side_by_side : (ds : List Located) (ns : List NodeSeen) → AllZip (IsSeenOf p.sections) ns ds → Pairs Before ds → ((d : Located) → Contains ds d → Contains (all_entries p) d) → Given ds ns
   side_by_side [] [] z rise there es ks told = subst (λ (xs : List Link). AllZip (IsIndexed p) [] (indexed_in xs)) (same_ok [] ks told.0) tt
   side_by_side [] (n ∷ ns) z rise there es ks told = absurd z
   side_by_side (d ∷ ds) [] z rise there es ks told = absurd z
@@ -175,19 +174,19 @@ module _ (p : Program) where
 
 -- ---- the next indexed entry
 
-abbrev pub begun : List Node → LinkedEntry → List LinkedEntry → List Indexed
+abbrev pub begun : List NodeSeen → LinkedEntry → List LinkedEntry → List IndexedSeen
 begun [] l links = []
 begun (n ∷ nodes) l links = record { node = n; links = l } ∷ indexed_nodes nodes links
 
 -- it begins where the links' offset is found
-pub begins : (nodes : List Node) (l : LinkedEntry) (links : List LinkedEntry) → indexed_nodes nodes (l ∷ links) ≡ begun (from_offset l.offset nodes) l links
+pub begins : (nodes : List NodeSeen) (l : LinkedEntry) (links : List LinkedEntry) → indexed_nodes nodes (l ∷ links) ≡ begun (from_offset l.offset nodes) l links
 begins [] l links = refl
-begins (n ∷ nodes) l links = by (eqb n.offset l.offset) (begins nodes l links)
+begins (n ∷ nodes) l links = by (eqb n.facts.offset l.offset) (begins nodes l links)
   where
     by : (b : Bool) → indexed_nodes nodes (l ∷ links) ≡ begun (from_offset l.offset nodes) l links → cond b (record { node = n; links = l } ∷ indexed_nodes nodes links) (indexed_nodes nodes (l ∷ links)) ≡ begun (cond b (n ∷ nodes) (from_offset l.offset nodes)) l links
     by true more = refl
     by false more = more
 
-pub no_links : (nodes : List Node) → indexed_nodes nodes [] ≡ []
+pub no_links : (nodes : List NodeSeen) → indexed_nodes nodes [] ≡ []
 no_links [] = refl
 no_links (n ∷ nodes) = refl

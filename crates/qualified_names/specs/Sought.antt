@@ -13,6 +13,7 @@ use Rattle.qualified_names.specs.declared.indexed.Indexed.{Indexed}
 use Rattle.qualified_names.specs.declared.sought.Sought.{Sought}
 use Rattle.qualified_names.specs.declared.sought.Sought.TheVariants.{Said, Named}
 use Rattle.qualified_names.specs.Indexed.{IsIndexed}
+use Rattle.qualified_names.specs.Nodes.{IndexedSeen, indexed_seen}
 
 -- how an entry is told to be main
 abbrev pub is_told : Sought → Link → Bool
@@ -25,10 +26,10 @@ is_main_by p sought k = not (language_of p k.entry.home == 0) && is_told sought 
 
 -- whatever link the entry has in the file of these shards
 abbrev pub ForCounted : List Shard → Indexed → (Program → Link → Type 0) → Type 0
-ForCounted shards x Holds = (f : List ℕ) (p : Program) → program_of f ≡ Ok p → AreShardsOf p shards → (k : Link) → IsIndexed p x k → Holds p k
+ForCounted shards x Holds = (f : List ℕ) (p : Program) → program_of f ≡ Ok p → AreShardsOf p shards → (k : Link) → IsIndexed p (indexed_seen x) k → Holds p k
 
 -- whatever links the entries have
-abbrev pub ForAllCounted : List Shard → List Indexed → (Program → List Link → Type 0) → Type 0
+abbrev pub ForAllCounted : List Shard → List IndexedSeen → (Program → List Link → Type 0) → Type 0
 ForAllCounted shards xs Holds = (f : List ℕ) (p : Program) → program_of f ≡ Ok p → AreShardsOf p shards → (ks : List Link) → AllZip (IsIndexed p) xs ks → Holds p ks
 
 -- the entry is that of the link, or there is neither
@@ -36,4 +37,4 @@ abbrev pub IsFound : Program → Option Indexed → Option Link → Type 0
 IsFound p None None = ⊤
 IsFound p None (Some k) = ⊥
 IsFound p (Some x) None = ⊥
-IsFound p (Some x) (Some k) = IsIndexed p x k
+IsFound p (Some x) (Some k) = IsIndexed p (indexed_seen x) k

@@ -1,28 +1,29 @@
 //! The indexed entries of a shard.
 
-ghost use Rattle.std.specs.Prelude.{◌≡◌, ◌∷◌, [], MatchOption};
-ghost use Rattle.qualified_names.specs.Nodes.{from_offset, indexed_nodes};
+ghost use Rattle.std.specs.Prelude.{◌≡◌, ◌≤◌, ◌∷◌, [], drop, length, option_map, slice_get, MatchOption};
+ghost use Rattle.qualified_names.specs.Nodes.{from_offset, has_offset, indexed_nodes, indexed_seen};
 
 use crate::indexed::Indexed;
-use index_model::{Linked, LinkedEntry, Node, Shard};
+use index_model::{Linked, LinkedEntry, Nodes, Shard};
 use std::marker::Model;
 
 /// The indexed entries that are left, in section order. Nodes and links are in one order, so both are gone through
 /// side by side, and a node without links is passed over.
 #[derive(Drop)]
 pub(crate) struct IndexedNodes<'r, 'f> {
-    nodes: &'r [Node<'f>],
+    nodes: &'r Nodes<'f>,
+    // The index of the first node that is left.
+    from: usize,
     links: &'r [LinkedEntry<'f>],
 }
 
 impl<'r, 'f> Model for IndexedNodes<'r, 'f> {
-    ghost use Rattle.std.specs.Prelude.{List};
-    ghost use Rattle.qualified_names.specs.declared.indexed.Indexed.{Indexed};
-    ghost use Rattle.qualified_names.specs.Nodes.{indexed_nodes};
+    ghost use Rattle.std.specs.Prelude.{List, drop};
+    ghost use Rattle.qualified_names.specs.Nodes.{indexed_nodes, IndexedSeen};
 
-    ghost Value = { List Indexed };
+    ghost Value = { List IndexedSeen };
 
-    ghost view = { λ s. indexed_nodes s.nodes.now s.links.now };
+    ghost view = { λ s. indexed_nodes (drop s.from s.nodes.now) s.links.now };
 }
 
 impl<'r, 'f> IndexedNodes<'r, 'f> {
@@ -31,34 +32,50 @@ impl<'r, 'f> IndexedNodes<'r, 'f> {
         ensures { result ≡ indexed_nodes shard.now.nodes linked.now.entries }
     {
         IndexedNodes {
-            nodes: shard.nodes.as_slice(),
+            nodes: &shard.nodes,
+            from: 0,
             links: linked.entries.as_slice(),
         }
     }
 
     /// The first indexed entry, and those behind it.
     pub(crate) fn split_first(self) -> Option<(Indexed<'f>, IndexedNodes<'r, 'f>)>
-        ensures { MatchOption result (self.entry ≡ []) (λ first. self.entry ≡ first.0 ∷ first.1) }
+        ensures { MatchOption result (self.entry ≡ []) (λ first. self.entry ≡ indexed_seen first.0 ∷ first.1) }
     {
         let (own, links) = self.links.split_first()?;
-        let (node, nodes) = from_offset(self.nodes, own.offset).split_first()?;
-        let indexed = Indexed {
-            node: *node,
-            links: *own,
+        let place = place_from(self.nodes, self.from, own.offset);
+        if self.nodes.len() <= place {
+            return None;
+        }
+        let node = self.nodes.get(place)?;
+        let indexed = Indexed { node, links: *own };
+        let left = IndexedNodes {
+            nodes: self.nodes,
+            from: place + 1,
+            links,
         };
-        Some((indexed, IndexedNodes { nodes, links }))
+        Some((indexed, left))
     }
 }
 
-// The nodes from that at the offset on.
-fn from_offset<'r, 'f>(mut nodes: &'r [Node<'f>], offset: u64) -> &'r [Node<'f>]
-    ensures { result.now ≡ from_offset offset nodes.entry.now }
+// The index of the first node from an index on that has the offset, or how many nodes there are.
+fn place_from(nodes: &Nodes<'_>, from: usize, offset: u64) -> usize
+    ensures { drop result nodes.now ≡ from_offset offset (drop from nodes.now) }
 {
-    while let [node, others @ ..] = nodes {
-        if node.offset == offset {
-            return nodes;
+    for k in from..nodes.len() {
+        if has_offset(nodes, k, offset) {
+            return k;
         }
-        nodes = others;
     }
-    nodes
+    nodes.len()
+}
+
+// Whether the node at an index has the offset.
+fn has_offset(nodes: &Nodes<'_>, index: usize, offset: u64) -> bool
+    ensures { result ≡ has_offset offset (option_map (λ n. n.facts.offset) (slice_get nodes.now index)) }
+{
+    match nodes.offset_at(index) {
+        Some(own) => own == offset,
+        None => false,
+    }
 }

@@ -48,7 +48,7 @@ ranges_back version (Some other) = old_back (leb version 3) (as_unsigned other)
 
 -- ---- nodes
 
-module _ (d : Located) (n : Node) (is : n ≡ node_facts d n) where
+module _ (d : Located) (n : Node) (is : n ≡ node_facts d) where
   pub node_place : n.offset ≡ d.item.at
   unfolding node_facts
   node_place = ap (λ (x : Node). x.offset) is

@@ -26,12 +26,12 @@ use Rattle.index_model.specs.Forms.{Value, Addr, AddrIndex}
 use Rattle.index_model.specs.Tags.{subprogram}
 use Rattle.index_model.specs.Attributes.{attribute, as_address, low_pc}
 use Rattle.index_model.specs.Walk.{Item, Token, Null, Entry}
+use Rattle.index_model.specs.NodeSeen.{NodeSeen}
 use Rattle.index_model.specs.Program.{Walked, Program, Located, items_of, located, root_of}
 use Rattle.index_model.specs.Links.{Link, is_link_indexed, indexed_in}
 use Rattle.index_model.specs.Ranges.{entry_ranges, entries_with_ranges, has_ranges, subprograms_in, ranges_of}
 use Rattle.index_model.specs.Faults.{program_of, links_of}
-use Rattle.index_model.specs.Rules.{is_visited}
-use Rattle.index_model.specs.ShardParts.{IsNodeOf, is_kept, kept_in, may_be_ada, root_facts}
+use Rattle.index_model.specs.ShardParts.{IsSeenOf, node_facts, is_kept, kept_in, may_be_followed, root_facts}
 use Rattle.index_model.specs.Shards.{IsRunOf, AreShardsOf}
 use Rattle.index_model.specs.ShardLanguages.{first_some, root_in, NodesRise}
 use Rattle.index_model.proofs.Meanings.{same_ok}
@@ -45,7 +45,7 @@ use Rattle.index_model.proofs.UnitsApart.{program_apart, run_apart}
 use Rattle.index_model.proofs.Located.{Before, located_before, of_located, at_home}
 use Rattle.range_lists.specs.Homes.{as_value}
 use Rattle.range_lists.specs.Nodes.{node_ranges, all_node_ranges, has_node_ranges, is_linked, is_linked_subprogram, nodes_with_ranges, EntriesRise}
-use Rattle.range_lists.specs.Units.{AreLinkedOf, Keeps, unit_nodes, first_low}
+use Rattle.range_lists.specs.Units.{AreLinkedOf, Keeps, facts_in, unit_nodes, first_low}
 use Rattle.common_laws.proofs.Filters.{filter_within, filter_both}
 use Rattle.range_lists.proofs.Filters.{zip_filter, each_zip, each_map}
 use Rattle.range_lists.proofs.Located.{at_number, home_only}
@@ -84,6 +84,13 @@ to_flat w (v ∷ ws) c d dc = ⊎_elim
     (λ (l : Contains ws w). Contains-append_right (located v) (flat_map located ws) d (to_flat w ws l d dc))
     (contains_cases v ws w c)
 
+-- the facts of nodes are those of their entries
+facts_zip : (ss : List Section) (ns : List NodeSeen) (ds : List Located) → AllZip (IsSeenOf ss) ns ds → AllZip (λ (n : Node) (d : Located). n ≡ node_facts d) (facts_in ns) ds
+facts_zip ss [] [] z = tt
+facts_zip ss [] (d ∷ ds) z = absurd z
+facts_zip ss (n ∷ ns) [] z = absurd z
+facts_zip ss (n ∷ ns) (d ∷ ds) z = (z.0.facts, facts_zip ss ns ds z.1)
+
 address_again : (o : Option Value) → option_and_then as_address (option_and_then as_address o) ≡ option_and_then as_address o
 address_again None = refl
 address_again (Some (Addr a)) = refl
@@ -111,7 +118,10 @@ module _ (f : List ℕ) (p : Program) (ks : List Link) (file : program_of f ≡ 
   before = located_before ss p.walks (program_apart f p file)
 
   abbrev nodes : List Node
-  nodes = unit_nodes w.number s.nodes
+  nodes = unit_nodes w.number (facts_in s.nodes)
+
+  abbrev IsOf : Node → Located → Type 0
+  IsOf n d = n ≡ node_facts d
 
   abbrev is_kept_here : Located → Bool
   is_kept_here d = is_kept d.home d.item
@@ -135,11 +145,11 @@ module _ (f : List ℕ) (p : Program) (ks : List Link) (file : program_of f ≡ 
 
   -- ---- the nodes of the unit
 
-  nodes_zip : AllZip (IsNodeOf ss) nodes kept_items
+  nodes_zip : AllZip IsOf nodes kept_items
   nodes_zip =
-      let z = zip_filter (IsNodeOf ss) (λ (n : Node). eqb n.unit w.number) (λ (d : Located). eqb d.home.number w.number) (λ n d h. ap (λ (k : ℕ). eqb k w.number) (node_unit d n h.facts)) s.nodes (kept_in c.run) c.stands.nodes in
+      let z = zip_filter IsOf (λ (n : Node). eqb n.unit w.number) (λ (d : Located). eqb d.home.number w.number) (λ n d h. ap (λ (k : ℕ). eqb k w.number) (node_unit d n h)) (facts_in s.nodes) (kept_in c.run) (facts_zip ss s.nodes (kept_in c.run) c.stands.nodes) in
       let one = filter_both (λ (d : Located). eqb d.home.number w.number) is_kept_here (at_number w.number is_kept_here) (flat_map located c.run) (λ d dc. refl) ∙ home_only is_kept_here w c.first c.run c.numbered wc in
-      subst (AllZip (IsNodeOf ss) nodes) one z
+      subst (AllZip IsOf nodes) one z
 
   listed_kept : (d : Located) → Contains (located w) d → is_linked es d.item.at ≡ true → is_kept_here d ≡ true
   listed_kept d dc on =
@@ -151,16 +161,16 @@ module _ (f : List ℕ) (p : Program) (ks : List Link) (file : program_of f ≡ 
   abbrev is_counted : Located → Bool
   is_counted d = eqb d.item.tag subprogram && is_linked es d.item.at
 
-  subprograms_zip : AllZip (IsNodeOf ss) (filter (is_linked_subprogram es) nodes) (filter is_counted (located w))
+  subprograms_zip : AllZip IsOf (filter (is_linked_subprogram es) nodes) (filter is_counted (located w))
   subprograms_zip =
-      let z = zip_filter (IsNodeOf ss) (is_linked_subprogram es) is_counted (λ n d h.
-      ap (λ (k : ℕ). eqb k subprogram && is_linked es n.offset) (node_tag d n h.facts) ∙ ap (λ (k : ℕ). eqb d.item.tag subprogram && is_linked es k) (node_place d n h.facts)) nodes kept_items nodes_zip in
+      let z = zip_filter IsOf (is_linked_subprogram es) is_counted (λ n d h.
+      ap (λ (k : ℕ). eqb k subprogram && is_linked es n.offset) (node_tag d n h) ∙ ap (λ (k : ℕ). eqb d.item.tag subprogram && is_linked es k) (node_place d n h)) nodes kept_items nodes_zip in
       let one = filter_within is_kept_here is_counted (located w) (λ d dc on. listed_kept d dc (and_parts (eqb d.item.tag subprogram) (is_linked es d.item.at) on).1) in
-      subst (AllZip (IsNodeOf ss) (filter (is_linked_subprogram es) nodes)) one z
+      subst (AllZip IsOf (filter (is_linked_subprogram es) nodes)) one z
 
-  node_entry : (n : Node) (d : Located) → d.home ≡ w → IsNodeOf ss n d → node_ranges ss w n ≡ entry_ranges ss w d.item
+  node_entry : (n : Node) (d : Located) → d.home ≡ w → IsOf n d → node_ranges ss w n ≡ entry_ranges ss w d.item
   node_entry n d home h =
-      ap (λ (v : Walked). node_ranges ss v n) (sym home) ∙ node_is_entry d n h.facts ss ∙ ap (λ (v : Walked). entry_ranges ss v d.item) home
+      ap (λ (v : Walked). node_ranges ss v n) (sym home) ∙ node_is_entry d n h ss ∙ ap (λ (v : Walked). entry_ranges ss v d.item) home
 
   subprograms_same : each (entry_ranges ss w) (subprograms_in ks w) ≡ each (node_ranges ss w) (filter (is_linked_subprogram es) nodes)
   subprograms_same =
@@ -169,7 +179,7 @@ module _ (f : List ℕ) (p : Program) (ks : List Link) (file : program_of f ≡ 
       subprograms_are p ks links c.run r (program_apart f p file).apart before c.own.links c.own.given es c.own.is w wc ∙ ap (map item) (home_only is_counted w 0 p.walks (program_numbered f p file) in_program) in
       ap (each (entry_ranges ss w)) chosen ∙
       each_map item (entry_ranges ss w) (filter is_counted (located w)) ∙
-      sym (each_zip (IsNodeOf ss) (node_ranges ss w) (λ d. entry_ranges ss w d.item) (filter (is_linked_subprogram es) nodes) (filter is_counted (located w)) (λ n d dc h. node_entry n d (of_located w d (of_filter is_counted (located w) d dc).0).0 h) subprograms_zip)
+      sym (each_zip IsOf (node_ranges ss w) (λ d. entry_ranges ss w d.item) (filter (is_linked_subprogram es) nodes) (filter is_counted (located w)) (λ n d dc h. node_entry n d (of_located w d (of_filter is_counted (located w) d dc).0).0 h) subprograms_zip)
 
   -- ---- the root
 
@@ -184,16 +194,16 @@ module _ (f : List ℕ) (p : Program) (ks : List Link) (file : program_of f ≡ 
   without_root none =
       let root : root_of w ≡ None = ap (find (λ d. eqb d.depth 0)) none in
       let kept_none : kept_items ≡ [] = ap (λ (ds : List Item). filter is_kept_here (map (at_home w) ds)) none in
-      let empty : nodes ≡ [] = zip_none (IsNodeOf ss) nodes (subst (AllZip (IsNodeOf ss) nodes) kept_none nodes_zip) in (
+      let empty : nodes ≡ [] = zip_none IsOf nodes (subst (AllZip IsOf nodes) kept_none nodes_zip) in (
         ap (option_and_then low_pc) root ∙ sym (ap (λ (ns : List Node). option_and_then (λ r. as_address (as_value r)) (first_low ns)) empty),
         ap (λ (o : Option Item). flat (each (entry_ranges ss w) (entries_with_ranges ks w o))) root ∙ sym (ap (λ (ns : List Node). all_node_ranges ss w (nodes_with_ranges es ns)) empty),
       )
 
-  ranges_at : (root : Item) → root_of w ≡ Some root → (n : Node) (rest : List Node) → nodes ≡ n ∷ rest → IsNodeOf ss n (at_home w root) → ranges_of p ks w ≡ all_node_ranges ss w (nodes_with_ranges es nodes)
+  ranges_at : (root : Item) → root_of w ≡ Some root → (n : Node) (rest : List Node) → nodes ≡ n ∷ rest → IsOf n (at_home w root) → ranges_of p ks w ≡ all_node_ranges ss w (nodes_with_ranges es nodes)
   unfolding ranges_of entries_with_ranges
   ranges_at root first n rest is h =
       ap (λ (o : Option Item). flat (each (entry_ranges ss w) (entries_with_ranges ks w o))) first ∙
-      ap flat (by (has_ranges w.unit.version root) (node_has (at_home w root) n h.facts)) ∙
+      ap flat (by (has_ranges w.unit.version root) (node_has (at_home w root) n h)) ∙
       sym (ap (λ (ns : List Node). all_node_ranges ss w (nodes_with_ranges es ns)) is)
     where
       own_ranges : node_ranges ss w n ≡ entry_ranges ss w root
@@ -212,12 +222,12 @@ module _ (f : List ℕ) (p : Program) (ks : List Link) (file : program_of f ≡ 
   with_root root rest is top =
       let first : root_of w ≡ Some root = ap (find (λ d. eqb d.depth 0)) is ∙ ap (λ (b : Bool). cond b (Some root) (find (λ (d : Item). eqb d.depth 0) rest)) (eq-eqb root.depth 0 top) in
       let others = filter is_kept_here (map (at_home w) rest) in
-      let root_kept : is_kept_here (at_home w root) ≡ true = ap (λ (b : Bool). b || is_visited (may_be_ada w) (items_of w) root) (eq-eqb root.depth 0 top) in
+      let root_kept : is_kept_here (at_home w root) ≡ true = ap (λ (b : Bool). b || may_be_followed w root) (eq-eqb root.depth 0 top) in
       let kept_some : kept_items ≡ at_home w root ∷ others =
       ap (λ (ds : List Item). filter is_kept_here (map (at_home w) ds)) is ∙ ap (λ (b : Bool). cond b (at_home w root ∷ others) others) root_kept in
-      let z = zip_some (IsNodeOf ss) nodes (at_home w root) others (subst (AllZip (IsNodeOf ss) nodes) kept_some nodes_zip) in
+      let z = zip_some IsOf nodes (at_home w root) others (subst (AllZip IsOf nodes) kept_some nodes_zip) in
       let n = z.head in
-      let facts = z.first.facts in
+      let facts = z.first in
       let low = by_value n.low ∙ ap (option_and_then as_address) (node_low (at_home w root) n facts) ∙ address_again (attribute 0x11 root) in (
         ap (option_and_then low_pc) first ∙ sym (ap (λ (ns : List Node). option_and_then (λ r. as_address (as_value r)) (first_low ns)) z.is ∙ low),
         ranges_at root first n z.rest z.is z.first,
@@ -245,7 +255,7 @@ root_there f p file shards h w wc unit number =
 
 -- what the shard and the links at a place keep of a unit, and its ranges
 abbrev Found : Image → Program → List Link → Shard → Linked → Walked → ℕ → Type 0
-Found image p ks s l w unit = Keeps image s l unit w × (ranges_of p ks w ≡ all_node_ranges image.sections w (nodes_with_ranges l.entries (unit_nodes unit s.nodes)))
+Found image p ks s l w unit = Keeps image s l unit w × (ranges_of p ks w ≡ all_node_ranges image.sections w (nodes_with_ranges l.entries (unit_nodes unit (facts_in s.nodes))))
 
 module _ (image : Image) (of_file : image_of image.file ≡ Ok image) (p : Program) (ks : List Link) (file : program_of image.file ≡ Ok p) (links : links_of p ≡ Ok ks) where
   parts : Parts image.file image
@@ -272,7 +282,7 @@ module _ (image : Image) (of_file : image_of image.file ≡ Ok image) (p : Progr
         nodes = nodes_rise image.file p ks file links s l c w m.0;
         entries = entries_rise image.file p ks file links s l c w m.0;
       } in
-      (keeps, r.1 ∙ ap (λ (secs : List Section). all_node_ranges secs w (nodes_with_ranges l.entries (unit_nodes w.number s.nodes))) same_sections)
+      (keeps, r.1 ∙ ap (λ (secs : List Section). all_node_ranges secs w (nodes_with_ranges l.entries (unit_nodes w.number (facts_in s.nodes)))) same_sections)
 
   pub found_at : (shards : List Shard) (linked : List Linked) (h : AreShardsOf p shards) → AreLinkedOf p shards h linked → (w : Walked) → Contains p.walks w → (unit : ℕ) → w.number ≡ unit →
       (k : ℕ) (s : Shard) (l : Linked) → slice_get shards k ≡ Some s → slice_get linked k ≡ Some l → is_some (root_in unit s) ≡ true → Found image p ks s l w unit

@@ -1,5 +1,5 @@
 -- The ranges of a unit, by the shards and links of its file.
-use Rattle.std.specs.Prelude.{◌≡◌, ℕ, ◌==◌, List, [], ◌∷◌, filter, slice_get, Contains, Option, Some, None, option_and_then, Result, Ok}
+use Rattle.std.specs.Prelude.{◌≡◌, ℕ, ◌==◌, List, [], ◌∷◌, filter, map, slice_get, Contains, Option, Some, None, option_and_then, Result, Ok}
 use Rattle.std.specs.List.{AllZip}
 use Rattle.ix_base.specs.declared.fault.Fault.{Fault}
 use Rattle.file_image.specs.Images.{Image}
@@ -9,6 +9,7 @@ use Rattle.index_model.specs.declared.shard.Node.{Node}
 use Rattle.index_model.specs.declared.shard.Shard.{Shard}
 use Rattle.index_model.specs.declared.shard.Linked.{Linked}
 use Rattle.index_model.specs.Attributes.{low_pc, as_address}
+use Rattle.index_model.specs.NodeSeen.{NodeSeen}
 use Rattle.index_model.specs.Program.{Walked, Program, root_of}
 use Rattle.index_model.specs.Links.{Link, links_in}
 use Rattle.index_model.specs.Ranges.{ranges_of}
@@ -37,6 +38,10 @@ ForUnit image shards linked unit Holds = (p : Program) (ks : List Link) → prog
 
 -- ---- one shard
 
+-- nodes without their texts
+abbrev pub facts_in : List NodeSeen → List Node
+facts_in nodes = map (λ n. n.facts) nodes
+
 -- the nodes of a unit
 abbrev pub unit_nodes : ℕ → List Node → List Node
 unit_nodes unit nodes = filter (λ n. n.unit == unit) nodes
@@ -50,10 +55,10 @@ first_low (n ∷ nodes) = n.low
 pub record Keeps (image : Image) (shard : Shard) (linked : Linked) (unit : ℕ) (w : Walked) : Type 0 where
   pub header : slice_get image.units unit ≡ Some w.unit
   pub root : root_in unit shard ≡ Some (root_facts w)
-  pub low : option_and_then low_pc (root_of w) ≡ option_and_then (λ r. as_address (as_value r)) (first_low (unit_nodes unit shard.nodes))
+  pub low : option_and_then low_pc (root_of w) ≡ option_and_then (λ r. as_address (as_value r)) (first_low (unit_nodes unit (facts_in shard.nodes)))
   pub nodes : NodesRise shard
   pub entries : EntriesRise linked.entries
 
 -- Whatever walk they keep: what holds of its ranges by its nodes.
 abbrev pub ForWalk : Image → Shard → Linked → ℕ → (Result (List Range) Fault → Type 0) → Type 0
-ForWalk image shard linked unit Holds = (w : Walked) → Keeps image shard linked unit w → Holds (all_node_ranges image.sections w (nodes_with_ranges linked.entries (unit_nodes unit shard.nodes)))
+ForWalk image shard linked unit Holds = (w : Walked) → Keeps image shard linked unit w → Holds (all_node_ranges image.sections w (nodes_with_ranges linked.entries (unit_nodes unit (facts_in shard.nodes))))

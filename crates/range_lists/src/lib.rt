@@ -13,6 +13,7 @@ mod node;
 mod refusal;
 mod run;
 mod unit;
+mod unit_nodes;
 
 pub use index_model::Range;
 pub use unit::unit_ranges;

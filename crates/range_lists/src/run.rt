@@ -1,12 +1,11 @@
 //! What a shard keeps of one unit, and which entries are linked.
 
-ghost use Rattle.std.specs.Prelude.{◌≡◌, ◌==◌, ◌<◌, filter, length, IfSome, is_some, option_map, position, slice_get};
+ghost use Rattle.std.specs.Prelude.{◌≡◌, ◌<◌, length, IfSome, is_some, option_map, position, slice_get};
 ghost use Rattle.std.specs.Arc.{arc_value};
-ghost use Rattle.std.specs.List.Sorted.{IsNonDecreasingBy};
 ghost use Rattle.index_model.specs.ShardLanguages.{root_in};
 ghost use Rattle.range_lists.specs.Nodes.{is_linked, EntriesRise};
 
-use index_model::{LinkedEntry, Node, Root, Shard};
+use index_model::{LinkedEntry, Root, Shard};
 use std::sync::Arc;
 
 /// The index of the shard whose run has the unit.
@@ -25,14 +24,6 @@ pub(crate) fn root_in(shard: &Shard<'_>, unit: u32) -> Option<Root>
 {
     let place = unit.checked_sub(shard.first)?;
     shard.roots.as_slice().get(place as usize).copied()
-}
-
-/// The nodes of a unit, among nodes in the order of their units.
-pub(crate) fn nodes_of<'a, 'f>(nodes: &'a [Node<'f>], unit: u32) -> &'a [Node<'f>]
-    ensures { IsNonDecreasingBy (λ n. n.unit) nodes.now → result.now ≡ filter (λ n. n.unit == unit) nodes.now }
-{
-    let from = &nodes[nodes.partition_point(|node| node.unit < unit)..];
-    &from[..from.partition_point(|node| node.unit <= unit)]
 }
 
 /// Whether the entry at the offset is one of these, whose offsets rise.

@@ -1,6 +1,6 @@
 //! The ranges of a unit (DWARF 5, section 2.17, and 3.1.1 for the base of its lists).
 
-ghost use Rattle.std.specs.Prelude.{◌≡◌, filter, map, slice_get};
+ghost use Rattle.std.specs.Prelude.{◌≡◌, ◌<◌, IfSome, filter, map, slice_get};
 ghost use Rattle.std.specs.Arc.{arc_value};
 ghost use Rattle.index_model.specs.Gives.{Gives};
 ghost use Rattle.file_image.specs.Images.{image_of};
@@ -11,10 +11,11 @@ ghost use Rattle.range_lists.specs.Nodes.{all_node_ranges, is_linked_subprogram,
 
 use crate::home::Home;
 use crate::node::has_ranges;
-use crate::run::{is_linked, nodes_of, root_in, run_of};
+use crate::run::{is_linked, root_in, run_of};
+use crate::unit_nodes::UnitNodes;
 use file_image::Image;
 use index_model::{Linked, LinkedEntry, Node, Range, Raw, Shard, Unit};
-use ix_base::Stop;
+use ix_base::{MAX_UNITS, Stop};
 use std::alloc::Global;
 use std::sync::Arc;
 
@@ -29,19 +30,20 @@ fn is_linked_subprogram(node: &Node<'_>, entries: &[LinkedEntry<'_>]) -> bool
 }
 
 // The low_pc of the first node.
-fn first_low(nodes: &[Node<'_>]) -> Option<Raw>
+fn first_low(nodes: &UnitNodes<'_, '_>) -> Option<Raw>
     ensures { result ≡ first_low nodes.now }
 {
-    match nodes {
-        [root, ..] => root.low,
-        [] => None,
+    if nodes.len() == 0 {
+        return None;
     }
+    nodes.node(0).low
 }
 
 // The header of a unit.
 fn header_of(image: &Image<'_>, unit: u32) -> Option<Unit>
     ensures value { result ≡ slice_get image.now.units unit }
     ensures of_file { image_of image.now.file ≡ Ok image.now }
+    ensures few { IfSome result (λ _. unit < MAX_UNITS) }
 {
     image.units().get(unit as usize).copied()
 }
@@ -51,14 +53,15 @@ impl Home<'_> {
     fn add_subprograms(
         &self,
         ranges: &mut Vec<Range>,
-        nodes: &[Node<'_>],
+        nodes: &UnitNodes<'_, '_>,
         entries: &[LinkedEntry<'_>],
     ) -> Result<(), Stop>
         ensures { EntriesRise entries.now → Gives (λ _. ranges.new.items) result (behind ranges.old.items (all_node_ranges self.now.sections.now (unit_with self.now) (filter (is_linked_subprogram entries.now) nodes.now))) }
     {
-        for node in nodes {
-            if is_linked_subprogram(node, entries) {
-                self.add_node(ranges, node)?;
+        for k in 0..nodes.len() {
+            let node = nodes.node(k);
+            if is_linked_subprogram(&node, entries) {
+                self.add_node(ranges, &node)?;
             }
         }
         Ok(())
@@ -68,14 +71,19 @@ impl Home<'_> {
     fn add_nodes(
         &self,
         ranges: &mut Vec<Range>,
-        nodes: &[Node<'_>],
+        nodes: &UnitNodes<'_, '_>,
         entries: &[LinkedEntry<'_>],
     ) -> Result<(), Stop>
         ensures { EntriesRise entries.now → Gives (λ _. ranges.new.items) result (behind ranges.old.items (all_node_ranges self.now.sections.now (unit_with self.now) (nodes_with_ranges entries.now nodes.now))) }
     {
-        match nodes {
-            [root, ..] if has_ranges(root) => self.add_node(ranges, root),
-            _ => self.add_subprograms(ranges, nodes, entries),
+        if nodes.len() == 0 {
+            return Ok(());
+        }
+        let root = nodes.node(0);
+        if has_ranges(&root) {
+            self.add_node(ranges, &root)
+        } else {
+            self.add_subprograms(ranges, nodes, entries)
         }
     }
 
@@ -83,7 +91,7 @@ impl Home<'_> {
     pub(crate) fn ranges_of_nodes(
         &self,
         alloc: Global,
-        nodes: &[Node<'_>],
+        nodes: &UnitNodes<'_, '_>,
         entries: &[LinkedEntry<'_>],
     ) -> Result<Vec<Range>, Stop>
         ensures { EntriesRise entries.now → Gives (λ v. v.items) result (all_node_ranges self.now.sections.now (unit_with self.now) (nodes_with_ranges entries.now nodes.now)) }
@@ -108,15 +116,15 @@ fn ranges_in_run(
     let (Some(header), Some(root)) = (header_of(image, unit), root_in(shard, unit)) else {
         return Ok(Vec::new(alloc));
     };
-    let nodes = nodes_of(shard.nodes.as_slice(), unit);
+    let nodes = UnitNodes::of(shard, unit);
     let home = Home {
         sections: image.sections(),
         header,
         addr_base: root.addr_base,
         rnglists_base: root.rnglists_base,
-        low: first_low(nodes),
+        low: first_low(&nodes),
     };
-    home.ranges_of_nodes(alloc, nodes, linked.entries.as_slice())
+    home.ranges_of_nodes(alloc, &nodes, linked.entries.as_slice())
 }
 
 /// The ranges of the unit with this number, in the order of their lists: those of its root, if it has ranges or low_pc with

@@ -1,8 +1,9 @@
 //! index_model: what shards say of parents and languages.
 
-use index_model::{Import, List, Node, Root, Shard, Span, Text, language};
+use index_model::{Import, List, Node, Nodes, Places, Root, Shard, Span, Spans, Text, language};
 use std::alloc::{AllocError, Global};
 use std::sync::Arc;
+use std::test::Fail;
 
 fn holds(text: Text<'_>, bytes: &[u8]) -> bool {
     text.bytes() == bytes
@@ -33,13 +34,16 @@ fn span(entry: u64, depth: u32, from: u64, to: u64) -> Span {
 }
 
 // The parents at three places in a shard of the third unit with these spans.
-fn parents(alloc: Global, spans: &[Span]) -> Result<[Option<u64>; 3], AllocError> {
-    let spans = list(alloc, spans)?;
+fn parents(alloc: Global, spans: &[Span]) -> Result<[Option<u64>; 3], Fail> {
+    let mut own = Spans::new(alloc);
+    for span in spans {
+        own.push(*span)?;
+    }
     let shard = Shard {
         first: 2,
         roots: List::of(Vec::new(alloc)),
-        nodes: List::of(Vec::new(alloc)),
-        spans,
+        nodes: Nodes::new(alloc, &[]),
+        spans: own,
         imports: List::of(Vec::new(alloc)),
     };
     Ok([
@@ -51,7 +55,7 @@ fn parents(alloc: Global, spans: &[Span]) -> Result<[Option<u64>; 3], AllocError
 
 // The root has a namespace, which has a class, which has a function.
 #[test]
-fn a_parent_is_the_innermost_around_an_entry(rt: HostRuntime) -> Result<(), AllocError> {
+fn a_parent_is_the_innermost_around_an_entry(rt: HostRuntime) -> Result<(), Fail> {
     let spans = [
         span(0x4a, 0, 0x51, 0x5e),
         span(0x51, 1, 0x55, 0x5d),
@@ -100,16 +104,24 @@ fn shard(
     roots: &[Root],
     nodes: &[Node<'static>],
     imports: &[Import],
-) -> Result<Shard<'static>, AllocError> {
+) -> Result<Shard<'static>, Fail> {
     let roots = list(alloc, roots)?;
-    let nodes = list(alloc, nodes)?;
+    let mut own = Nodes::new(alloc, &[]);
+    for node in nodes {
+        own.push(
+            node,
+            Places {
+                name: 0,
+                linkage: 0,
+            },
+        )?;
+    }
     let imports = list(alloc, imports)?;
-    let spans = List::of(Vec::new(alloc));
     Ok(Shard {
         first: 0,
         roots,
-        nodes,
-        spans,
+        nodes: own,
+        spans: Spans::new(alloc),
         imports,
     })
 }
@@ -122,7 +134,7 @@ fn first_language(alloc: Global, shard: Shard<'static>) -> Result<u16, AllocErro
 
 // The first unit is partial, and the second imports it and is in Ada.
 #[test]
-fn a_partial_unit_has_its_importers_language(rt: HostRuntime) -> Result<(), AllocError> {
+fn a_partial_unit_has_its_importers_language(rt: HostRuntime) -> Result<(), Fail> {
     let import = Import {
         unit: 1,
         target: 0xc,

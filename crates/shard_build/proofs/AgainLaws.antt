@@ -12,7 +12,7 @@ use Rattle.index_model.specs.Faults.{none_or, scanned}
 use Rattle.index_model.specs.Meaning.{◌>>◌, at_place, each}
 use Rattle.index_model.specs.LawsTexts.{StandsIn}
 use Rattle.index_model.specs.Parents.{parent_offset}
-use Rattle.index_model.specs.ShardParts.{IsNodeOf}
+use Rattle.index_model.specs.ShardParts.{IsNodeOf, IsSeenOf}
 use Rattle.index_model.specs.declared.shard.Node.{Node}
 use Rattle.index_model.specs.Program.{Walked, Located, walked, items_of, located, root_of}
 use Rattle.index_model.specs.Sections.{Section, section_bytes}
@@ -27,8 +27,9 @@ use Rattle.index_model.proofs.Located.{at_home}
 use Rattle.entry_scan.specs.Inside.{walked_of}
 use Rattle.file_image.specs.Images.{unit_bytes}
 use Rattle.shard_build.specs.Texts.{texts_by, HoldsTexts}
-use Rattle.shard_build.specs.Kept.{NodeSeen, node_seen, node_under}
-use Rattle.shard_build.proofs.NodeLaws.{place_of, IsSeenOf, is_node, seen_under}
+use Rattle.index_model.specs.NodeSeen.{NodeSeen, node_seen}
+use Rattle.shard_build.specs.Kept.{node_under}
+use Rattle.shard_build.proofs.NodeLaws.{place_of, seen_under}
 use Rattle.shard_build.proofs.RunLaws.{body_is}
 
 -- ---- the root
@@ -124,4 +125,4 @@ walk_is ss u a bytes w own header found is =
 -- a node that is made of an entry with its parent and its texts is that of the entry
 pub node_again : (ss : List Section) (w : Walked) (d : Item) (t : Texts) → texts_of ss (at_home w d) ≡ Ok t → (n : Node) (o : ℕ) → parent_offset (at_home w d) ≡ Some o → node_seen n ≡ node_under ss (w.number, w.unit) (Some o) d t → IsNodeOf ss n (at_home w d)
 node_again ss w d t read n o parent seen =
-    is_node ss n (at_home w d) (subst (λ (x : NodeSeen). IsSeenOf ss x (at_home w d)) (sym seen) (seen_under ss w d t read (Some o) (sym parent ∙ sym (place_of w (parent_of (items_of w) d)))))
+    subst (λ (x : NodeSeen). IsSeenOf ss x (at_home w d)) (sym seen) (seen_under ss w d t read (Some o) (sym parent ∙ sym (place_of w (parent_of (items_of w) d))))

@@ -3,12 +3,13 @@ use Rattle.std.proofs.Common.{◌≡◌, ℕ, Bool, cond, List, [], ◌∷◌, �
 use Rattle.ix_base.specs.declared.fault.Fault.{Fault}
 use Rattle.index_model.specs.declared.unit.Unit.{Unit as UnitHeader}
 use Rattle.index_model.specs.Meaning.{◌>>=◌, at_place}
+use Rattle.index_model.specs.NodeSeen.{NodeSeen}
 use Rattle.index_model.specs.Sections.{Section}
 use Rattle.index_model.specs.Strings.{Texts}
 use Rattle.index_model.specs.Walk.{Item, Token, Entry}
 use Rattle.shard_build.specs.declared.frame.Frame.{Frame}
 use Rattle.shard_build.specs.Frames.{frame_at}
-use Rattle.shard_build.specs.Kept.{Behind, NodeSeen, innermost, is_visited_in, opened_by, spans_by, imports_by, node_by, nodes_by, has_node, entered, behind_all}
+use Rattle.shard_build.specs.Kept.{Behind, innermost, is_visited_in, opened_by, spans_by, imports_by, node_by, nodes_by, has_node, entered, behind_all}
 use Rattle.shard_build.specs.Texts.{texts_by}
 
 module _ (ss : List Section) (u : ℕ × UnitHeader) (b : Behind) (d : Item) where

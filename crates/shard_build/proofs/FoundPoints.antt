@@ -8,7 +8,7 @@ use Rattle.std.proofs.lemmas.List.{take-append-drop}
 use Rattle.std.proofs.lemmas.List.Elements.{Contains-append_left}
 use Rattle.std.proofs.lemmas.Option.{same_Some}
 use Rattle.common_laws.proofs.Members.{contains_here, contains_later, of_filter}
-use Rattle.index_model.specs.declared.shard.Node.{Node}
+use Rattle.index_model.specs.NodeSeen.{NodeSeen}
 use Rattle.shard_build.proofs.FoundNodes.{has_offset}
 
 -- ---- the last that passes
@@ -30,29 +30,29 @@ last_member {A = A} p xs n (Some x) is =
 
 -- ---- the node at an offset
 
-none_later : (o : ℕ) (nodes : List Node) → ((k : ℕ) (d : Node) → k < length nodes → o < (get_or nodes k d).offset) → find (has_offset o) nodes ≡ None
+none_later : (o : ℕ) (nodes : List NodeSeen) → ((k : ℕ) (d : NodeSeen) → k < length nodes → o < (get_or nodes k d).facts.offset) → find (has_offset o) nodes ≡ None
 none_later o [] later = refl
 none_later o (x ∷ xs) later =
-    ap (λ (b : Bool). cond b (Some x) (find (has_offset o) xs)) (ne_eqb x.offset o (λ same. omega (arith, same, later 0 x (omega arith)))) ∙
+    ap (λ (b : Bool). cond b (Some x) (find (has_offset o) xs)) (ne_eqb x.facts.offset o (λ same. omega (arith, same, later 0 x (omega arith)))) ∙
     none_later o xs (λ k d lt. later (suc k) d (omega (arith, lt)))
 
 -- the node, if it has the offset
-abbrev pub checked : ℕ → Option Node → Option Node
+abbrev pub checked : ℕ → Option NodeSeen → Option NodeSeen
 checked o None = None
 checked o (Some n) = cond (has_offset o n) (Some n) None
 
 module _ (o : ℕ) where
   -- the first n nodes stand before the offset, and the others don't
-  pub node_at_point : (nodes : List Node) (n : ℕ) → IsNonDecreasingBy (λ d. d.offset) nodes → ((k : ℕ) (d : Node) → k < n → (get_or nodes k d).offset < o) → ((k : ℕ) (d : Node) → n ≤ k → k < length nodes → o ≤ (get_or nodes k d).offset) → find (has_offset o) nodes ≡ checked o (slice_get nodes n)
+  pub node_at_point : (nodes : List NodeSeen) (n : ℕ) → IsNonDecreasingBy (λ d. d.facts.offset) nodes → ((k : ℕ) (d : NodeSeen) → k < n → (get_or nodes k d).facts.offset < o) → ((k : ℕ) (d : NodeSeen) → n ≤ k → k < length nodes → o ≤ (get_or nodes k d).facts.offset) → find (has_offset o) nodes ≡ checked o (slice_get nodes n)
   node_at_point [] n rise before behind = refl
   node_at_point (x ∷ xs) zero rise before behind = ⊎_elim
-      (λ (same : x.offset ≡ o). let on = eq-eqb x.offset o same in ap (λ (b : Bool). cond b (Some x) (find (has_offset o) xs)) on ∙ ap (λ (b : Bool). cond b (Some x) None) (sym on))
-      (λ (other : x.offset ≡ o → ⊥).
-      let off = ne_eqb x.offset o other in
+      (λ (same : x.facts.offset ≡ o). let on = eq-eqb x.facts.offset o same in ap (λ (b : Bool). cond b (Some x) (find (has_offset o) xs)) on ∙ ap (λ (b : Bool). cond b (Some x) None) (sym on))
+      (λ (other : x.facts.offset ≡ o → ⊥).
+      let off = ne_eqb x.facts.offset o other in
       let here = behind 0 x (omega arith) (omega arith) in
       let none = none_later o xs (λ k d lt. let up = rise 0 (suc k) d (omega arith) (omega (arith, lt)) in omega (arith, up, here, other)) in
       ap (λ (b : Bool). cond b (Some x) (find (has_offset o) xs)) off ∙ none ∙ ap (λ (b : Bool). cond b (Some x) None) (sym off))
-      (cases_eq x.offset o)
+      (cases_eq x.facts.offset o)
   node_at_point (x ∷ xs) (suc n) rise before behind =
-      ap (λ (b : Bool). cond b (Some x) (find (has_offset o) xs)) (ne_eqb x.offset o (λ same. let lt = before 0 x (omega arith) in omega (arith, same, lt))) ∙
+      ap (λ (b : Bool). cond b (Some x) (find (has_offset o) xs)) (ne_eqb x.facts.offset o (λ same. let lt = before 0 x (omega arith) in omega (arith, same, lt))) ∙
       node_at_point xs n (λ i j d le lt. rise (suc i) (suc j) d (omega (arith, le)) (omega (arith, lt))) (λ k d lt. before (suc k) d (omega (arith, lt))) (λ k d le lt. behind (suc k) d (omega (arith, le)) (omega (arith, lt)))

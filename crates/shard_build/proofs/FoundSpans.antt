@@ -11,10 +11,10 @@ use Rattle.index_model.specs.declared.shard.Shard.{Shard}
 use Rattle.index_model.specs.declared.shard.Span.{Span}
 use Rattle.index_model.specs.Faults.{program_of}
 use Rattle.index_model.specs.LawsSpans.{Holds}
+use Rattle.index_model.specs.NodeSeen.{node_seen}
 use Rattle.index_model.specs.Parents.{IsParentAt, parent_offset}
 use Rattle.index_model.specs.Program.{Walked, Program, Located, items_of, located, item_with_offset}
-use Rattle.index_model.specs.Rules.{is_visited}
-use Rattle.index_model.specs.ShardParts.{may_be_ada, span_of, spans_of, item_in_span}
+use Rattle.index_model.specs.ShardParts.{may_be_followed, span_of, spans_of, item_in_span}
 use Rattle.index_model.specs.Shards.{StandsFor, IsRunOf}
 use Rattle.index_model.specs.Walk.{Item, parent_of}
 use Rattle.index_model.proofs.InnermostLaws.{parent_innermost}
@@ -62,9 +62,9 @@ module _ (f : List ℕ) (p : Program) (is : program_of f ≡ Ok p) (s : Shard) (
   in_run w wc d dc = to_flat_map located run w (at_home w d) wc (to_map (at_home w) (items_of w) d dc)
 
   -- the node is that of the entry
-  pub kept_found : (n : Node) → find (has_offset o) s.nodes ≡ Some n → IsNodeIn p.sections (Some n) (item_with_offset p o)
+  pub kept_found : (n : Node) → find (has_offset o) s.nodes ≡ Some (node_seen n) → IsNodeIn p.sections (Some n) (item_with_offset p o)
   kept_found n found =
-      let k = kept_there p.sections s run (run_apart f p run is part) stands o n found in
+      let k = kept_there p.sections s run (run_apart f p run is part) stands o (node_seen n) found in
       let v = of_flat_map located run k.0 k.1 in
       let whole = to_flat_map located p.walks v.0 k.0 (in_program p run part v.0 v.1) v.2 in
       subst (IsNodeIn p.sections (Some n)) (sym (is_at f p is o k.0 whole k.3)) k.2
@@ -84,7 +84,7 @@ module _ (f : List ℕ) (p : Program) (is : program_of f ≡ Ok p) (s : Shard) (
         let walk = (run_apart f p run is part).walks d.home here in
         ⊎_elim
         (λ (top : d.item.depth ≡ 0).
-        absurd (not_kept p.sections s run (run_apart f p run is part) stands o none d (in_run d.home here d.item h.1) h.2 (ap (λ (b : Bool). b || is_visited (may_be_ada d.home) (items_of d.home) d.item) (eq-eqb d.item.depth 0 top))))
+        absurd (not_kept p.sections s run (run_apart f p run is part) stands o none d (in_run d.home here d.item h.1) h.2 (ap (λ (b : Bool). b || may_be_followed d.home d.item) (eq-eqb d.item.depth 0 top))))
         (λ (other : d.item.depth ≡ 0 → ⊥).
         let deep : 0 < d.item.depth = omega (arith, other) in
         let i = parent_innermost p.sections walk.0 d.home walk.1 d.item h.1 deep in

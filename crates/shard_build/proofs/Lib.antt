@@ -1,6 +1,5 @@
 mod KeepLaws
 mod FoundLaws
-mod SpanSteps
 mod TokenSteps
 mod EntrySteps
 mod SpanEnds

@@ -1,54 +1,16 @@
 -- The node of an entry has its facts and its texts.
-use Rattle.std.proofs.Common.{◌≡◌, ℕ, List, [], ◌∷◌, Option, Some, None, option_map, Result, Ok, refl, sym, ap, ◌∙◌}
-use Rattle.std.specs.Prelude.{map}
-use Rattle.std.specs.List.{AllZip}
-use Rattle.index_model.specs.declared.shard.Node.{Node}
+use Rattle.std.proofs.Common.{◌≡◌, ℕ, List, Option, Some, None, option_map, Result, Ok, refl, sym, ap, ◌∙◌}
 use Rattle.index_model.specs.Meaning.{value_of}
 use Rattle.index_model.specs.Sections.{Section}
 use Rattle.index_model.specs.Attributes.{name_value, linkage_value}
 use Rattle.index_model.specs.Program.{Walked, Located, items_of}
-use Rattle.index_model.specs.ShardParts.{node_facts, IsNodeOf}
+use Rattle.index_model.specs.ShardParts.{node_facts, IsSeenOf}
 use Rattle.index_model.specs.Strings.{Texts, text_in, texts_of, some_text, own_name, own_linkage_name}
 use Rattle.index_model.specs.Walk.{Item, parent_of}
 use Rattle.index_model.proofs.Meanings.{bind_ok, same_ok}
 use Rattle.index_model.proofs.Located.{at_home}
 use Rattle.shard_build.specs.declared.open.Open.{Open}
-use Rattle.shard_build.specs.Kept.{NodeSeen, node_seen, node_by, node_under}
-
--- the node, with its texts apart, is that of the entry
-pub record IsSeenOf (ss : List Section) (n : NodeSeen) (d : Located) : Type 0 where
-  pub facts : (m : Node) → n.facts ≡ record (node_facts d m) { name = None; linkage = None }
-  pub name : n.name ≡ own_name ss d
-  pub linkage : n.linkage ≡ own_linkage_name ss d
-
--- so it is the node of the entry
-pub is_node : (ss : List Section) (n : Node) (d : Located) → IsSeenOf ss (node_seen n) d → IsNodeOf ss n d
-unfolding node_facts
-is_node ss n d h = record {
-  facts = ap (λ (m : Node). record m { name = n.name; linkage = n.linkage }) (h.facts n);
-  name = h.name;
-  linkage = h.linkage;
-}
-
-pub are_nodes : (ss : List Section) (ns : List Node) (ds : List Located) → AllZip (IsSeenOf ss) (map node_seen ns) ds → AllZip (IsNodeOf ss) ns ds
-are_nodes ss [] [] h = tt
-are_nodes ss [] (d ∷ ds) h = h
-are_nodes ss (n ∷ ns) [] h = h
-are_nodes ss (n ∷ ns) (d ∷ ds) h = (is_node ss n d h.0, are_nodes ss ns ds h.1)
-
-seen_is : (ss : List Section) (n : Node) (d : Located) → IsNodeOf ss n d → IsSeenOf ss (node_seen n) d
-unfolding node_facts
-seen_is ss n d h = record {
-  facts = λ m. ap (λ (x : Node). record x { name = None; linkage = None }) h.facts;
-  name = h.name;
-  linkage = h.linkage;
-}
-
-pub are_seen : (ss : List Section) (ns : List Node) (ds : List Located) → AllZip (IsNodeOf ss) ns ds → AllZip (IsSeenOf ss) (map node_seen ns) ds
-are_seen ss [] [] h = tt
-are_seen ss [] (d ∷ ds) h = h
-are_seen ss (n ∷ ns) [] h = h
-are_seen ss (n ∷ ns) (d ∷ ds) h = (seen_is ss n d h.0, are_seen ss ns ds h.1)
+use Rattle.shard_build.specs.Kept.{node_by, node_under}
 
 -- the offset of an entry of a unit
 pub place_of : (w : Walked) (o : Option Item) → option_map (λ (e : Item). e.at) o ≡ option_map (λ (e : Located). e.item.at) (option_map (at_home w) o)
@@ -70,7 +32,7 @@ module _ (ss : List Section) (w : Walked) (d : Item) (t : Texts) (is : texts_of 
   pub seen_under : (parent : Option ℕ) → parent ≡ option_map (λ e. e.at) (parent_of (items_of w) d) → IsSeenOf ss (node_under ss (w.number, w.unit) parent d t) (at_home w d)
   unfolding node_under node_facts
   seen_under parent is = record {
-    facts = λ m. ap (λ (p : Option ℕ). record (node_under ss (w.number, w.unit) parent d t).facts { parent = p }) (is ∙ place_of w (parent_of (items_of w) d));
+    facts = ap (λ (p : Option ℕ). record (node_under ss (w.number, w.unit) parent d t).facts { parent = p }) (is ∙ place_of w (parent_of (items_of w) d));
     name = texts_are.0;
     linkage = texts_are.1;
   }

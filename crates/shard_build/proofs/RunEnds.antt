@@ -133,7 +133,7 @@ module _ (ss : List Section) (us : List UnitHeader) (first count : ℕ) (fits : 
           subst (λ (n : ℕ). first_number front n) number (first_of ss x xs front (sym (ap (each (scanned ss)) same) ∙ is))
 
   -- before the first unit nothing is kept
-  pub so_far_none : (r : Run) → r.roots.items ≡ [] → r.kept.nodes.items ≡ [] → r.kept.spans.items ≡ [] → r.kept.imports.items ≡ [] → SoFar ss us first first r
+  pub so_far_none : (r : Run) → r.roots.items ≡ [] → r.kept.nodes ≡ [] → r.kept.spans ≡ [] → r.kept.imports.items ≡ [] → SoFar ss us first first r
   so_far_none r roots nodes spans imports =
       let zero_units : first - first ≡ 0 = omega arith in
       record {

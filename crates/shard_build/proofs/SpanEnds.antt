@@ -10,7 +10,8 @@ use Rattle.index_model.specs.WalkLeft.{levels_after}
 use Rattle.index_model.proofs.Meanings.{same_ok}
 use Rattle.index_model.proofs.TokenReads.{Follow}
 use Rattle.shard_build.specs.declared.open.Open.{Open}
-use Rattle.shard_build.specs.Kept.{Behind, ended_at, closed, role_of, span_from, spans_by, behind_all}
+use Rattle.index_model.specs.Searches.{ended_at}
+use Rattle.shard_build.specs.Kept.{Behind, closed, role_of, span_from, spans_by, behind_all}
 use Rattle.shard_build.proofs.EntrySteps.{made, visited, has_texts}
 
 -- where the children of an entry of this depth end among these tokens

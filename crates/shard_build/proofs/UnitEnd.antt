@@ -13,8 +13,9 @@ use Rattle.index_model.specs.Abbreviations.{Abbrev, table}
 use Rattle.index_model.specs.Faults.{none_or, scanned}
 use Rattle.index_model.specs.Meaning.{◌>>◌, each}
 use Rattle.index_model.specs.Program.{Walked, walked, located, items_of}
+use Rattle.index_model.specs.NodeSeen.{NodeSeen}
 use Rattle.index_model.specs.Sections.{Section, section_bytes}
-use Rattle.index_model.specs.ShardParts.{root_facts, may_be_ada, spans_of, imports_in}
+use Rattle.index_model.specs.ShardParts.{root_facts, may_be_ada, spans_of, imports_in, IsSeenOf}
 use Rattle.index_model.specs.Strings.{Texts}
 use Rattle.index_model.specs.Walk.{Item}
 use Rattle.index_model.proofs.OrderLaws.{walks_in_order, walk_rises}
@@ -24,11 +25,10 @@ use Rattle.index_model.specs.Program.{body}
 use Rattle.shard_build.specs.declared.frame.Frame.{Frame}
 use Rattle.shard_build.specs.declared.open.Open.{Open}
 use Rattle.shard_build.specs.Frames.{blank}
-use Rattle.shard_build.specs.Kept.{Behind, NodeSeen, behind_all}
+use Rattle.shard_build.specs.Kept.{Behind, behind_all}
 use Rattle.shard_build.specs.Tokens.{unless, behind_walk}
 use Rattle.shard_build.proofs.FrameLaws.{frame_by, unit_frame, root_says}
 use Rattle.shard_build.proofs.ImportLaws.{all_imports}
-use Rattle.shard_build.proofs.NodeLaws.{IsSeenOf}
 use Rattle.shard_build.proofs.OpenLaws.{AreOpen}
 use Rattle.shard_build.proofs.SpanEnds.{Ascend, filled, spans_behind, new_spans}
 use Rattle.shard_build.proofs.SpanPlaces.{all_spans}

@@ -1,5 +1,5 @@
 -- What is kept behind the tokens of a walk is what a Shard keeps of the unit.
-use Rattle.std.proofs.Common.{◌≡◌, ℕ, zero, suc, ◌+◌, ◌-◌, ◌<◌, Bool, true, false, cond, eqb, ◌||◌, List, [], ◌∷◌, ◌++◌, length, option_map, Result, Ok, Err, refl, sym, ap, subst, ◌∙◌, arith, append_assoc, append-nil, ⊎_elim}
+use Rattle.std.proofs.Common.{◌≡◌, ℕ, zero, suc, ◌+◌, ◌-◌, ◌<◌, Bool, true, false, cond, eqb, ◌||◌, List, [], ◌∷◌, ◌++◌, length, option_map, Result, Ok, Err, refl, sym, ap, subst, ◌∙◌, arith, append_assoc, append-nil, ⊎_elim, ◌&&◌}
 use Rattle.std.specs.Prelude.{Contains, filter, flat_map, map}
 use Rattle.std.specs.List.{AllZip}
 use Rattle.std.proofs.lemmas.Bool.{eq-eqb, ne_eqb, cases_eq}
@@ -10,11 +10,12 @@ use Rattle.ix_base.specs.Reading.{Input}
 use Rattle.index_model.specs.declared.shard.Import.{Import}
 use Rattle.index_model.specs.declared.unit.Unit.{Unit as UnitHeader}
 use Rattle.index_model.specs.Meaning.{at_place, each}
+use Rattle.index_model.specs.NodeSeen.{NodeSeen}
 use Rattle.index_model.specs.Sections.{Section}
 use Rattle.index_model.specs.LawsOrder.{IsInOrder}
 use Rattle.index_model.specs.Program.{Walked, Located, items_of}
-use Rattle.index_model.specs.Rules.{is_visited}
-use Rattle.index_model.specs.ShardParts.{is_kept, may_be_ada}
+use Rattle.index_model.specs.Rules.{is_visited, is_in_table}
+use Rattle.index_model.specs.ShardParts.{is_kept, may_be_ada, may_be_followed, IsSeenOf}
 use Rattle.index_model.specs.Strings.{Texts, texts_of}
 use Rattle.index_model.specs.Walk.{Item, Token, Null, Entry, Levels, parent_of}
 use Rattle.index_model.specs.WalkLeft.{levels_after}
@@ -24,11 +25,11 @@ use Rattle.index_model.proofs.TokenReads.{Follow}
 use Rattle.index_model.proofs.Located.{at_home}
 use Rattle.shard_build.specs.declared.frame.Frame.{Frame}
 use Rattle.shard_build.specs.declared.open.Open.{Open}
-use Rattle.shard_build.specs.Kept.{Behind, NodeSeen, innermost, is_visited_in, role_of, opened_by, closed, imports_by, node_by, has_node, behind_all}
+use Rattle.shard_build.specs.Kept.{Behind, innermost, is_visited_in, role_of, opened_by, closed, imports_by, node_by, has_node, behind_all}
 use Rattle.shard_build.specs.Texts.{texts_by}
 use Rattle.shard_build.proofs.EntrySteps.{frame, visited, texts, node, made, goes_on, stops}
 use Rattle.shard_build.proofs.FrameLaws.{frame_by, unit_frame, ada_says, texts_say}
-use Rattle.shard_build.proofs.NodeLaws.{IsSeenOf, seen_of}
+use Rattle.shard_build.proofs.NodeLaws.{seen_of}
 use Rattle.shard_build.proofs.OpenLaws.{AreOpen, open_behind, opens, open_closed, is_parent}
 
 -- ---- behind a null
@@ -127,7 +128,8 @@ module _ (ss : List Section) (w : Walked) where
     is_seen = seen_of ss w d t (placed_ok d.at (texts_of ss (at_home w d)) t read) (innermost b.opened) place
 
     same_kept : has_node ss u (frame ss u b d) (innermost b.opened) d ≡ is_kept w d
-    same_kept = ap (λ (v : Bool). eqb d.depth 0 || v) seen
+    unfolding has_node may_be_followed
+    same_kept = ap (λ (v : Bool). eqb d.depth 0 || (is_in_table d.tag && v)) seen
 
     out_entry : (r : Result Behind Fault) → Out ts (made ss u b d t) r → Out (Entry d ∷ ts) b r
     out_entry (Err f) h = later_fault (at_home w d) (homes (entries ts)) t f read h

@@ -1,9 +1,8 @@
 -- What is kept of a unit behind some of its tokens: the form that a scan keeps, one token after the other.
-use Rattle.std.specs.Prelude.{ℕ, zero, suc, ◌+◌, Bool, false, ◌||◌, nat_lt, ◌==◌, if◌then◌else◌, List, [], ◌∷◌, ◌++◌, map, reverse, length, codes, Option, Some, None, option_map, option_and_then, option_to_list, Result, Ok}
+use Rattle.std.specs.Prelude.{ℕ, ◌+◌, Bool, false, ◌&&◌, ◌||◌, nat_lt, ◌==◌, if◌then◌else◌, List, [], ◌∷◌, ◌++◌, reverse, length, codes, Option, Some, None, option_map, option_and_then, option_to_list, Result, Ok}
 use Rattle.ix_base.specs.declared.fault.Fault.{Fault}
 use Rattle.index_model.specs.declared.shard.Import.{Import}
 use Rattle.index_model.specs.declared.shard.Next.{Next}
-use Rattle.index_model.specs.declared.shard.Node.{Node}
 use Rattle.index_model.specs.declared.shard.Span.{Span}
 use Rattle.index_model.specs.declared.rules.Parent.{Parent}
 use Rattle.index_model.specs.declared.rules.Parent.TheVariants.{Root, Other, Seen}
@@ -11,7 +10,9 @@ use Rattle.index_model.specs.declared.unit.Unit.{Unit as UnitHeader}
 use Rattle.index_model.specs.Meaning.{◌>>=◌, at_place}
 use Rattle.index_model.specs.Sections.{Section, section_bytes}
 use Rattle.index_model.specs.Attributes.{low_pc, high_pc, ranges_value, has_address, is_declaration, has_external, has_enum_class, says_main, signature_of, next_reference, import_of}
-use Rattle.index_model.specs.Rules.{has_value, is_visited_under}
+use Rattle.index_model.specs.NodeSeen.{NodeSeen}
+use Rattle.index_model.specs.Rules.{has_value, is_in_table, is_visited_under}
+use Rattle.index_model.specs.Searches.{ended_at}
 use Rattle.index_model.specs.ShardParts.{raw_of, raw_of_high, as_next}
 use Rattle.index_model.specs.Strings.{Texts}
 use Rattle.index_model.specs.Tags.{imported_unit}
@@ -21,20 +22,6 @@ use Rattle.shard_build.specs.declared.kept.Kept.{Kept}
 use Rattle.shard_build.specs.declared.open.Open.{Open}
 use Rattle.shard_build.specs.Frames.{frame_at}
 use Rattle.shard_build.specs.Texts.{texts_by}
-
--- a node, with its texts apart
-pub record NodeSeen : Type 0 where
-  pub facts : Node
-  pub name : Option (List ℕ)
-  pub linkage : Option (List ℕ)
-
--- a node with the bytes of its texts
-abbrev pub node_seen : Node → NodeSeen
-node_seen n = record {
-  facts = record n { name = None; linkage = None };
-  name = option_map (λ t. t.now) n.name;
-  linkage = option_map (λ t. t.now) n.linkage;
-}
 
 -- What is kept: what the root said, the entries whose children are still open, the innermost first, the nodes, the spans and the imports.
 pub record Behind : Type 0 where
@@ -46,7 +33,7 @@ pub record Behind : Type 0 where
 
 -- what a scan has kept
 abbrev pub kept_seen : Kept → Behind
-kept_seen k = record { frame = k.frame; opened = reverse k.opened.items; nodes = map node_seen k.nodes.items; spans = k.spans.items; imports = k.imports.items }
+kept_seen k = record { frame = k.frame; opened = reverse k.opened.items; nodes = k.nodes; spans = k.spans; imports = k.imports.items }
 
 -- ---- the entry in whose children the next one stands
 
@@ -69,12 +56,6 @@ abbrev pub opened_by : Item → Bool → ℕ → List Open → List Open
 opened_by d visited span os = if d.children then record { at = d.at; parent = role_of d.depth d.tag visited; span = span } ∷ os else os
 
 -- ---- spans
-
--- the span at an index ends here
-abbrev pub ended_at : List Span → ℕ → ℕ → List Span
-ended_at [] k after = []
-ended_at (s ∷ ss) zero after = record s { to = after } ∷ ss
-ended_at (s ∷ ss) (suc k) after = s ∷ ended_at ss k after
 
 -- behind a null the innermost entry is closed
 abbrev pub closed : Behind → List Open → ℕ → Behind
@@ -136,8 +117,8 @@ module _ (ss : List Section) (u : ℕ × UnitHeader) where
   node_by outer d t = node_under (option_map (λ o. o.at) outer) d t
 
   -- whether an entry in this one has a node
-  abbrev pub has_node : Frame → Option Open → Item → Bool
-  has_node f outer d = d.depth == 0 || is_visited_in outer f.ada
+  unfoldable pub has_node : Frame → Option Open → Item → Bool
+  has_node f outer d = d.depth == 0 || (is_in_table d.tag && is_visited_in outer f.ada)
 
   -- what the texts of an entry give, or the first fault of them
   abbrev pub with_texts : {A : Type 0} → Option ℕ → Item → (Texts → A) → Result A Fault

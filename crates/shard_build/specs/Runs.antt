@@ -4,15 +4,15 @@ use Rattle.std.specs.List.{AllZip}
 use Rattle.index_model.specs.Abbreviations.{table}
 use Rattle.index_model.specs.Program.{Walked}
 use Rattle.index_model.specs.Sections.{Section}
-use Rattle.index_model.specs.ShardParts.{root_facts, kept_in, IsNodeOf, spans_of, imports_in}
+use Rattle.index_model.specs.ShardParts.{root_facts, kept_in, IsSeenOf, spans_of, imports_in}
 use Rattle.shard_build.specs.declared.run.Run.{Run}
 use Rattle.shard_build.specs.declared.tables.Table.{Table}
 
 -- what is kept is what a Shard keeps of these walks
 pub record Holds (ss : List Section) (r : Run) (ws : List Walked) : Type 0 where
   pub roots : r.roots.items ≡ map root_facts ws
-  pub nodes : AllZip (IsNodeOf ss) r.kept.nodes.items (kept_in ws)
-  pub spans : r.kept.spans.items ≡ flat_map spans_of ws
+  pub nodes : AllZip (IsSeenOf ss) r.kept.nodes (kept_in ws)
+  pub spans : r.kept.spans ≡ flat_map spans_of ws
   pub imports : r.kept.imports.items ≡ flat_map (imports_in ss) ws
 
 -- behind one more unit

@@ -1,17 +1,17 @@
 //! Where an entry of the file is found: among the nodes of a shard, or by the innermost span that holds it.
 
-ghost use Rattle.std.specs.Prelude.{◌≡◌, ◌<◌, ◌==◌, nat_lt, map, length, position, slice_get, find, filter, Contains, IfSome, option_map, None, Ok};
+ghost use Rattle.std.specs.Prelude.{◌≡◌, ◌<◌, ◌==◌, map, length, position, find, Contains, IfSome, option_map, Ok};
 ghost use Rattle.std.specs.Arc.{arc_value};
-ghost use Rattle.std.specs.List.{last_or};
 ghost use Rattle.std.specs.List.Sorted.{IsNonDecreasingBy};
 ghost use Rattle.index_model.specs.Faults.{program_of};
+ghost use Rattle.index_model.specs.NodeSeen.{node_seen};
 ghost use Rattle.index_model.specs.Parents.{IsParentAt};
 ghost use Rattle.index_model.specs.Program.{Program};
 ghost use Rattle.index_model.specs.Shards.{AreShardsOf};
 ghost use Rattle.shard_build.specs.Found.{IsFound, IsFoundIn, IsUnitAt, has_unit};
 
 use file_image::Image;
-use index_model::{Node, Shard, Span};
+use index_model::{Node, Nodes, Shard, Span};
 use std::sync::Arc;
 
 /// What the shards of a file say of the entry at a joint offset.
@@ -42,7 +42,7 @@ impl<'f> Found<'f> {
     fn in_shard(shard: &Shard<'f>, offset: u64) -> Found<'f>
         ensures { IsFoundIn shard.now offset result }
     {
-        if let Some(node) = node_at(shard.nodes.as_slice(), offset) {
+        if let Some(node) = node_at(&shard.nodes, offset) {
             return Found::Kept(node);
         }
         match innermost(shard, offset) {
@@ -76,11 +76,11 @@ fn has_unit(shard: &Shard<'_>, unit: u32) -> bool
 }
 
 // The node at the offset, among nodes whose offsets rise.
-fn node_at<'f>(nodes: &[Node<'f>], offset: u64) -> Option<Node<'f>>
-    ensures { IsNonDecreasingBy (λ n. n.offset) nodes.now → result ≡ find (λ n. n.offset == offset) nodes.now }
+fn node_at<'f>(nodes: &Nodes<'f>, offset: u64) -> Option<Node<'f>>
+    ensures { IsNonDecreasingBy (λ n. n.facts.offset) nodes.now → option_map node_seen result ≡ find (λ n. n.facts.offset == offset) nodes.now }
 {
-    let place = nodes.partition_point(|node| node.offset < offset);
-    let node = at_place(nodes, place)?;
+    let place = nodes.count_before(offset);
+    let node = nodes.get(place)?;
     if node.offset == offset {
         Some(node)
     } else {
@@ -88,31 +88,11 @@ fn node_at<'f>(nodes: &[Node<'f>], offset: u64) -> Option<Node<'f>>
     }
 }
 
-// The node at a place.
-fn at_place<'f>(nodes: &[Node<'f>], place: usize) -> Option<Node<'f>>
-    ensures { result ≡ slice_get nodes.now place }
-{
-    nodes.get(place).copied()
-}
-
 // The innermost span that holds the entry at the offset: the last that begins there or before it and ends behind it.
 fn innermost(shard: &Shard<'_>, offset: u64) -> Option<Span>
     ensures parent { IsParentAt shard.now offset (option_map (λ s. s.entry) result) }
     ensures member { IfSome result (Contains shard.now.spans) }
 {
-    let spans = shard.spans.as_slice();
-    let begun = spans.partition_point(|span| span.from <= offset);
-    last_open(&spans[..begun], offset)
-}
-
-// The last of these spans that ends behind the offset.
-fn last_open(spans: &[Span], offset: u64) -> Option<Span>
-    ensures { result ≡ last_or None (filter (λ s. nat_lt offset s.to) spans.now) }
-{
-    for k in (0..spans.len()).rev() {
-        if offset < spans[k].to {
-            return Some(spans[k]);
-        }
-    }
-    None
+    let begun = shard.spans.count_begun(offset);
+    shard.spans.last_open(begun, offset)
 }

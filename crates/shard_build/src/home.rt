@@ -1,9 +1,10 @@
 //! The unit of an entry, and what it adds to the entry's own facts.
 
 ghost use Rattle.std.specs.Prelude.{◌≡◌, ◌+◌, ◌<◌, ◌≤◌, ◌^◌, nat_lt, slice_get, if◌then◌else◌, length, codes, Some, None, option_to_list};
+ghost use Rattle.index_model.specs.NodeSeen.{node_seen};
 ghost use Rattle.index_model.specs.Sections.{section_bytes};
 ghost use Rattle.file_image.specs.Images.{unit_bytes};
-ghost use Rattle.shard_build.specs.Kept.{node_seen, node_by, node_under, target_by, span_from, imports_by};
+ghost use Rattle.shard_build.specs.Kept.{node_by, node_under, target_by, span_from, imports_by};
 ghost use Rattle.shard_build.specs.Texts.{texts_seen};
 
 use crate::attributes::Attributes;

@@ -1,16 +1,18 @@
 //! What is kept of the entries.
 
-ghost use Rattle.std.specs.Prelude.{◌≡◌, ◌+◌, ◌<◌, ◌^◌, ◌++◌, ◌∷◌, [], ℕ, length, map, reverse, OnOk};
+ghost use Rattle.std.specs.Prelude.{◌≡◌, ◌+◌, ◌<◌, ◌^◌, ◌++◌, ◌∷◌, [], ℕ, length, reverse, OnOk};
 ghost use Rattle.index_model.specs.Gives.{Gives};
-ghost use Rattle.shard_build.specs.Kept.{node_seen, node_by, nodes_added, with_texts, spans_by, opened_by, imports_by, ended_at};
+ghost use Rattle.shard_build.specs.Kept.{has_node, node_by, nodes_added, with_texts, spans_by, opened_by, imports_by};
 ghost use Rattle.shard_build.specs.Texts.{HoldsTexts};
 
 use crate::attributes::Attributes;
 use crate::frame::Frame;
 use crate::home::Home;
 use crate::open::{Open, innermost, is_visited_in, role_of};
+use crate::text_places::TextPlaces;
+use entry_rules::in_table;
 use entry_scan::Item;
-use index_model::{Import, Node, Span};
+use index_model::{Import, Nodes, Spans};
 use ix_base::{NoMemory, Stop};
 
 /// What is kept of the entries of a run behind some of its tokens.
@@ -20,44 +22,57 @@ pub(crate) struct Kept<'f> {
     pub frame: Frame,
     // Its entries whose children are still to come, the outermost first.
     pub opened: Vec<Open>,
-    pub nodes: Vec<Node<'f>>,
-    pub spans: Vec<Span>,
+    pub nodes: Nodes<'f>,
+    pub spans: Spans,
     pub imports: Vec<Import>,
+    // Where texts stand in the file.
+    pub places: TextPlaces,
 }
 
 // Adds the node of an entry that has one. The texts of others are tested alone.
 #[tactic(auto, unfolding(crate::specs::Kept::nodes_by))]
 pub(crate) fn add_node<'f>(
-    nodes: &mut Vec<Node<'f>>,
+    nodes: &mut Nodes<'f>,
+    places: &TextPlaces,
     home: &Home<'_, 'f>,
     frame: &Frame,
     outer: Option<Open>,
     entry: &Attributes<'_>,
 ) -> Result<(), Stop>
     requires { HoldsTexts home.now.bytes.now home.now.unit entry.now }
-    ensures { Gives (λ _. map node_seen nodes.new.items) result (nodes_added home.now.sections.now (home.now.number, home.now.unit) frame.now outer (map node_seen nodes.old.items) entry.now) }
+    ensures { Gives (λ _. nodes.new) result (nodes_added home.now.sections.now (home.now.number, home.now.unit) frame.now outer nodes.old entry.now) }
 {
     let base = frame.str_offsets_base;
-    if entry.item().depth() == 0 || is_visited_in(outer, frame.ada) {
-        add_node_with_texts(nodes, home, base, outer, entry)
+    if has_node(home, frame, outer, entry.item()) {
+        add_node_with_texts(nodes, places, home, base, outer, entry)
     } else {
         Ok(home.test(base, entry)?)
     }
 }
 
+// Whether an entry in this one has a node.
+#[tactic(auto, unfolding(crate::specs::Kept::has_node))]
+fn has_node(home: &Home<'_, '_>, frame: &Frame, outer: Option<Open>, item: &Item<'_>) -> bool
+    ensures { result ≡ has_node home.now.sections.now (home.now.number, home.now.unit) frame.now outer item.now }
+{
+    item.depth() == 0 || (in_table(item.tag()) && is_visited_in(outer, frame.ada))
+}
+
 // Adds the node of an entry, with its texts.
 fn add_node_with_texts<'f>(
-    nodes: &mut Vec<Node<'f>>,
+    nodes: &mut Nodes<'f>,
+    places: &TextPlaces,
     home: &Home<'_, 'f>,
     base: Option<u64>,
     outer: Option<Open>,
     entry: &Attributes<'_>,
 ) -> Result<(), Stop>
     requires { HoldsTexts home.now.bytes.now home.now.unit entry.now }
-    ensures { Gives (λ _. map node_seen nodes.new.items) result (with_texts home.now.sections.now (home.now.number, home.now.unit) base entry.now (λ t. map node_seen nodes.old.items ++ node_by home.now.sections.now (home.now.number, home.now.unit) outer entry.now t ∷ [])) }
+    ensures { Gives (λ _. nodes.new) result (with_texts home.now.sections.now (home.now.number, home.now.unit) base entry.now (λ t. nodes.old ++ node_by home.now.sections.now (home.now.number, home.now.unit) outer entry.now t ∷ [])) }
 {
     let texts = home.texts(base, entry)?;
-    nodes.push(home.node(outer, entry, texts))?;
+    let node = home.node(outer, entry, texts);
+    nodes.push(&node, places.of_entry(home, base, entry))?;
     Ok(())
 }
 
@@ -78,12 +93,12 @@ pub(crate) fn add_import(
 
 // Adds the span of an entry with children.
 pub(crate) fn add_span(
-    spans: &mut Vec<Span>,
+    spans: &mut Spans,
     home: &Home<'_, '_>,
     item: &Item<'_>,
 ) -> Result<(), NoMemory>
     requires { home.now.unit.start + home.now.unit.length < 2 ^ 63 }
-    ensures { OnOk result (spans.new.items ≡ spans.old.items ++ spans_by home.now.sections.now (home.now.number, home.now.unit) item.now) }
+    ensures { OnOk result (spans.new ≡ spans.old ++ spans_by home.now.sections.now (home.now.number, home.now.unit) item.now) }
 {
     if item.children() {
         spans.push(home.span(item))?;
@@ -108,13 +123,4 @@ pub(crate) fn open(
         })?;
     }
     Ok(())
-}
-
-// The span at an index ends here.
-pub(crate) fn end_span(spans: &mut Vec<Span>, index: usize, after: u64)
-    ensures { spans.new.items ≡ ended_at spans.old.items index after }
-{
-    if index < spans.len() {
-        spans[index].to = after;
-    }
 }

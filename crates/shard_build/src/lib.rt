@@ -15,6 +15,7 @@ mod open;
 mod run;
 mod shard;
 mod tables;
+mod text_places;
 mod texts;
 mod unit;
 

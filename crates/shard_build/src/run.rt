@@ -13,8 +13,9 @@ ghost use Rattle.shard_build.specs.Runs.{Holds, HoldsOneMore};
 use crate::frame::Frame;
 use crate::home::Home;
 use crate::kept::Kept;
+use crate::text_places::TextPlaces;
 use entry_scan::{Abbrevs, Walk};
-use index_model::{List, Root, Shard};
+use index_model::{List, Nodes, Root, Shard, Spans};
 use ix_base::Stop;
 use std::alloc::Global;
 
@@ -26,11 +27,11 @@ pub(crate) struct Run<'f> {
 }
 
 impl<'f> Run<'f> {
-    /// A run of no units.
-    pub fn new(alloc: Global) -> Run<'f>
+    /// A run of no units of a file.
+    pub fn new(alloc: Global, file: &'f [u8]) -> Run<'f>
         ensures roots { result.roots.items ≡ [] }
-        ensures nodes { result.kept.nodes.items ≡ [] }
-        ensures spans { result.kept.spans.items ≡ [] }
+        ensures nodes { result.kept.nodes ≡ [] }
+        ensures spans { result.kept.spans ≡ [] }
         ensures imports { result.kept.imports.items ≡ [] }
     {
         Run {
@@ -38,9 +39,10 @@ impl<'f> Run<'f> {
             kept: Kept {
                 frame: Frame::blank(),
                 opened: Vec::new(alloc),
-                nodes: Vec::new(alloc),
-                spans: Vec::new(alloc),
+                nodes: Nodes::new(alloc, file),
+                spans: Spans::new(alloc),
                 imports: Vec::new(alloc),
+                places: TextPlaces::of(file),
             },
         }
     }
@@ -73,12 +75,13 @@ impl<'f> Run<'f> {
             nodes,
             spans,
             imports,
+            places: _,
         } = kept;
         Shard {
             first,
             roots: List::of(roots),
-            nodes: List::of(nodes),
-            spans: List::of(spans),
+            nodes,
+            spans,
             imports: List::of(imports),
         }
     }

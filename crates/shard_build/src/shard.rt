@@ -31,7 +31,7 @@ pub fn scan<'f>(alloc: Global, image: &Image<'f>, first: u32, count: u32) -> Res
 {
     // There are at most `MAX_UNITS` of them, so their numbers don't wrap.
     let _units = image.units();
-    let mut run = Run::new(alloc);
+    let mut run = Run::new(alloc, image.file());
     let mut at_hand = None;
     for number in first..first + count {
         add_unit(alloc, image, number, &mut run, &mut at_hand)?;

@@ -11,7 +11,7 @@ ghost use Rattle.shard_build.specs.Tokens.{OnEntry, ended, behind_walk};
 
 use crate::attributes::Attributes;
 use crate::home::Home;
-use crate::kept::{Kept, add_import, add_node, add_span, end_span, open};
+use crate::kept::{Kept, add_import, add_node, add_span, open};
 use crate::open::{innermost, is_visited_in};
 use entry_scan::{Token, Walk};
 use ix_base::{Fault, NoMemory, Stop};
@@ -27,7 +27,14 @@ impl<'f> Kept<'f> {
         self.frame = self.frame.at(entry);
         let outer = innermost(&self.opened);
         let visited = is_visited_in(outer, self.frame.ada);
-        add_node(&mut self.nodes, home, &self.frame, outer, entry)?;
+        add_node(
+            &mut self.nodes,
+            &self.places,
+            home,
+            &self.frame,
+            outer,
+            entry,
+        )?;
         self.add_others(home, entry, visited)?;
         Ok(())
     }
@@ -48,11 +55,12 @@ impl<'f> Kept<'f> {
     }
 
     // Takes in a null, which ends the children of the innermost open entry.
-    fn close(&mut self, after: u64)
-        ensures { kept_seen self.new ≡ closed (kept_seen self.old) (reverse self.old.opened.items) after }
+    fn close(&mut self, after: u64) -> Result<(), NoMemory>
+        ensures { OnOk result (kept_seen self.new ≡ closed (kept_seen self.old) (reverse self.old.opened.items) after) }
     {
-        if let Some(open) = self.opened.pop() {
-            end_span(&mut self.spans, open.span, after);
+        match self.opened.pop() {
+            Some(open) => self.spans.end(open.span, after),
+            None => Ok(()),
         }
     }
 
@@ -64,7 +72,7 @@ impl<'f> Kept<'f> {
     {
         match token {
             Token::Null { after, .. } => {
-                self.close(after);
+                self.close(after)?;
                 Ok(())
             }
             Token::Entry(item) => self.enter(home, &Attributes::of(item)),

@@ -3,9 +3,9 @@ use Rattle.parent_resolve.specs.Runs.{ForStanding}
 use Rattle.parent_resolve.proofs.RunLinks.{IsTaken}
 use Rattle.parent_resolve.proofs.links.links_of.Given as goal
 
-abbrev pub invariant-loop-node : goal.invariant-loop-node
-invariant-loop-node l = record {
+abbrev pub invariant-loop-k : goal.invariant-loop-k
+invariant-loop-k l = record {
   paths : l.paths ≡ l.initial.paths;
   languages : l.languages ≡ l.initial.languages;
-  taken : ForStanding l.initial.paths l.shard (λ p run. IsTaken p run l.node-index l.entries.items);
+  taken : ForStanding l.initial.paths l.shard (λ p run. IsTaken p run l.k l.entries.items);
 }

@@ -8,4 +8,4 @@ returns-then-is_none c = for_each_kept c.args.shard.now c.args.node.now _ (λ ad
 pub returns : goal.returns
 returns c = for_each_kept c.args.shard.now c.args.node.now _ (λ ada d h.
     let some = none_says c.args.node.now.parent _ false c.is_none.ensures c.if-is_none.false in
-    c.is_some.ensures ∙ kept_by c.args.shard.now c.args.node.now ada d h some c.as_slice.result.now c.node_at.result c.as_slice.ensures c.node_at.ensures.found c.node_at.ensures.none)
+    c.is_some.ensures ∙ kept_by c.args.shard.now c.args.node.now ada d h some c.len.result c.len.ensures c.node_at.result c.node_at.ensures.found c.node_at.ensures.none)

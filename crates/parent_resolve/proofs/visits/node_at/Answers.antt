@@ -1,32 +1,26 @@
-use Rattle.std.proofs.Common.{◌<◌, ◌≤◌, ltb, rules, of_calls, sym, ap, ◌∙◌, arith, ⊎_elim}
-use Rattle.std.proofs.lemmas.Bool.{ltb-true, ltb-false, cases_lt}
-use Rattle.std.proofs.lemmas.List.{get_or_default}
-use Rattle.std.proofs.lemmas.List.Sorted.{IsPartitionPoint-from_clause, IsPartitionedBy-ltb}
+use Rattle.std.proofs.Common.{◌≡◌, Some, None, sym, ap, ◌∙◌, arith}
+use Rattle.std.specs.Option.{option_map}
 use Rattle.index_model.specs.declared.shard.Node.{Node}
+use Rattle.index_model.specs.NodeSeen.{node_seen}
+use Rattle.parent_resolve.proofs.PlaceLaws.{found_there, none_before, none_past, none_other}
 use Rattle.parent_resolve.proofs.visits.node_at.Goals as goal
 
-pub returns-else-node-offset-clause-none : goal.returns-else-node-offset-clause-none
-returns-else-node-offset-clause-none c none rise k n lt same =
-    let o = c.args.offset in
-    let ns = c.args.nodes.now in
-    let i = c.partition_point-place.result in
-    let point = IsPartitionPoint-from_clause (λ t. ltb t.offset o) ns i c.partition_point-place.ensures.partitioned (IsPartitionedBy-ltb (λ t. t.offset) ns o rise) (λ a r f k. search (rules, of_calls)) in
-    let l = c.in_ok-node.ensures.lookup in
-    ⊎_elim
-    (λ (early : k < i). let before = ltb-true _ o (point.0 k n (omega arith) early) in omega (arith, before, same))
-    (λ (late : i ≤ k).
-    let here = ltb-false _ o (point.1 i n (omega arith) (omega (arith, late, lt))) in
-    let up = rise i k n late lt in
-    let there = ap (λ (x : Node). x.offset) (l.1 ∙ get_or_default ns i c.in_ok-node.node.now n (omega (arith, late, lt))) in
-    c.if-node-offset.false (omega (arith, here, up, there, same)))
-    (cases_lt k i)
+pub returns-then-before-place-clause-none : goal.returns-then-before-place-clause-none
+returns-then-before-place-clause-none c none rise = none_before c.args.nodes.now c.args.before c.args.offset c.count_before-place.result (c.count_before-place.ensures.parted rise) c.if-before-place.true
 
 pub returns-in_err-node-clause-none : goal.returns-in_err-node-clause-none
-returns-in_err-node-clause-none c none rise k n lt same =
-    let o = c.args.offset in
-    let ns = c.args.nodes.now in
-    let i = c.partition_point-place.result in
-    let point = IsPartitionPoint-from_clause (λ t. ltb t.offset o) ns i c.partition_point-place.ensures.partitioned (IsPartitionedBy-ltb (λ t. t.offset) ns o rise) (λ a r f k. search (rules, of_calls)) in
-    let past = ltb-false i _ (sym c.in_err-node.ensures.lookup.0) in
-    let before = ltb-true _ o (point.0 k n (omega arith) (omega (arith, past, lt))) in
-    omega (arith, before, same)
+returns-in_err-node-clause-none c none rise =
+    let was : c.get.result ≡ None = c.in_err-node.was in
+    none_past c.args.nodes.now c.args.before c.args.offset c.count_before-place.result (c.count_before-place.ensures.parted rise) (sym c.get.ensures ∙ ap (option_map node_seen) was)
+
+pub returns-then-node-offset-clause-found : goal.returns-then-node-offset-clause-found
+returns-then-node-offset-clause-found c =
+    let node : Node = c.in_ok-node.node in
+    let was : c.get.result ≡ Some node = c.in_ok-node.was in
+    found_there c.args.nodes.now c.args.before c.args.offset c.count_before-place.result (node_seen node) (sym c.get.ensures ∙ ap (option_map node_seen) was) (omega (arith, c.if-before-place.false)) c.if-node-offset.true
+
+pub returns-else-node-offset-clause-none : goal.returns-else-node-offset-clause-none
+returns-else-node-offset-clause-none c none rise =
+    let node : Node = c.in_ok-node.node in
+    let was : c.get.result ≡ Some node = c.in_ok-node.was in
+    none_other c.args.nodes.now c.args.before c.args.offset c.count_before-place.result (c.count_before-place.ensures.parted rise) rise (node_seen node) (sym c.get.ensures ∙ ap (option_map node_seen) was) c.if-node-offset.false

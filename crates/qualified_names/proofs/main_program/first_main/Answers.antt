@@ -8,9 +8,8 @@ use Rattle.index_model.specs.declared.shard.Linked.{Linked}
 use Rattle.index_model.specs.declared.shard.Shard.{Shard}
 use Rattle.index_model.specs.Links.{Link}
 use Rattle.index_model.specs.Shards.{AreShardsOf}
-use Rattle.qualified_names.specs.declared.indexed.Indexed.{Indexed}
 use Rattle.qualified_names.specs.Indexed.{IsIndexed}
-use Rattle.qualified_names.specs.Nodes.{all_indexed, indexed_nodes}
+use Rattle.qualified_names.specs.Nodes.{all_indexed, indexed_nodes, IndexedSeen}
 use Rattle.qualified_names.specs.Sought.{is_main_by, IsFound}
 use Rattle.qualified_names.proofs.Mains.{Left, all_left, drop_all, found_or, from_place, front_left, next_place, none_found, none_left}
 use Rattle.qualified_names.proofs.main_program.first_main.Goals as goal
@@ -34,7 +33,7 @@ returns-in-Some-clause-value c f p file are ks z =
     let inv = c.loop-k.invariant in
     let fl = front_left p q ks (indexed_nodes s.nodes l.entries) (from_place S L (suc k)) (subst (Left p q ks) (next_place S L k s l si li) (inv.left f p file are ks z)) in
     let shards = subst (AreShardsOf p) (sym inv.kept) are in
-    let here = c.in-Some.ensures.value f p file shards fl.0 (subst (λ (xs : List Indexed). AllZip (IsIndexed p) xs fl.0) (sym c.of-nodes.ensures) fl.2) in
+    let here = c.in-Some.ensures.value f p file shards fl.0 (subst (λ (xs : List IndexedSeen). AllZip (IsIndexed p) xs fl.0) (sym c.of-nodes.ensures) fl.2) in
     subst (IsFound p (Some c.in-Some.found)) (sym fl.4) (found_or p c.in-Some.found (find q fl.0) (find q fl.1) here)
 
 pub loop-k-preserved : goal.loop-k-preserved
@@ -53,7 +52,7 @@ loop-k-preserved c =
           let q = is_main_by p c.args.sought in
           let fl = front_left p q ks (indexed_nodes s.nodes l.entries) (from_place S L (suc k)) (subst (Left p q ks) (next_place S L k s l si li) (inv.left f p file are ks z)) in
           let shards = subst (AreShardsOf p) (sym inv.kept) are in
-          let none = none_found p (find q fl.0) (c.in_default.ensures.value f p file shards fl.0 (subst (λ (xs : List Indexed). AllZip (IsIndexed p) xs fl.0) (sym c.of-nodes.ensures) fl.2)) in
+          let none = none_found p (find q fl.0) (c.in_default.ensures.value f p file shards fl.0 (subst (λ (xs : List IndexedSeen). AllZip (IsIndexed p) xs fl.0) (sym c.of-nodes.ensures) fl.2)) in
           let next : suc k ≡ k + 1 = omega arith in
           subst (λ (n : ℕ). Left p q ks (from_place S L n)) next (record { rest = fl.1; zip = fl.3; same = fl.4 ∙ ap (λ (o : Option Link). option_or o (find q fl.1)) none });
     }

@@ -4,7 +4,7 @@ use Rattle.index_model.specs.Faults.{program_of}
 use Rattle.index_model.specs.Links.{indexed_in}
 use Rattle.index_model.specs.Shards.{AreShardsOf}
 use Rattle.shard_build.specs.Entries.{EntriesOf}
-use Rattle.qualified_names.specs.declared.indexed.Indexed.{Indexed}
+use Rattle.qualified_names.specs.Nodes.{IndexedSeen, indexed_seen}
 use Rattle.qualified_names.specs.Indexed.{IsIndexed}
 use Rattle.qualified_names.proofs.RunLaws.{Written, all_written, entries_are, head_written, none_written, one_written}
 use Rattle.qualified_names.proofs.run.entries_of.Goals as goal
@@ -13,7 +13,7 @@ pub loop-indexed-init : goal.loop-indexed-init
 loop-indexed-init c = record {
   names = refl;
   written = λ p file own ks zip.
-      none_written p (indexed_in ks) c.of-left.result (subst (λ (xs : List Indexed). AllZip (IsIndexed p) xs (indexed_in ks)) (sym c.of-left.ensures) zip) c.in_ok-entries.entries.items c.in_ok-entries.ensures.items;
+      none_written p (indexed_in ks) c.of-left.result (subst (λ (xs : List IndexedSeen). AllZip (IsIndexed p) xs (indexed_in ks)) (sym c.of-left.ensures) zip) c.in_ok-entries.entries.items c.in_ok-entries.ensures.items;
 }
 
 pub push_entries-requires : goal.push_entries-requires
@@ -21,7 +21,7 @@ push_entries-requires c =
     let r = c.requires in
     let inv = c.loop-indexed.invariant in
     let left = subst (Written r.program (indexed_in r.links) c.loop-indexed.entries.items) c.in-Some.ensures (inv.written r.program r.file r.shards r.links r.are) in
-    let head = head_written r.program (indexed_in r.links) c.loop-indexed.entries.items c.in-Some.indexed c.in-Some.others left in
+    let head = head_written r.program (indexed_in r.links) c.loop-indexed.entries.items (indexed_seen c.in-Some.indexed) c.in-Some.others left in
     record {
       program = r.program;
       file = ap (λ (e : EntriesOf). program_of e.image.file) inv.names ∙ r.file;
@@ -39,7 +39,7 @@ loop-indexed-preserved c =
           let left = subst (Written p (indexed_in ks) c.loop-indexed.entries.items) c.in-Some.ensures (inv.written p file own ks zip) in
           let here = ap (λ (e : EntriesOf). program_of e.image.file) inv.names ∙ file in
           let shards = subst (AreShardsOf p) (sym (ap (λ (e : EntriesOf). e.shards) inv.names)) own in
-          one_written p (indexed_in ks) c.loop-indexed.entries.items c.in-Some.indexed c.in-Some.others left c.push_entries.new.entries.items (λ k one. c.in_ok-push_entries.ensures.value p here shards k one);
+          one_written p (indexed_in ks) c.loop-indexed.entries.items (indexed_seen c.in-Some.indexed) c.in-Some.others left c.push_entries.new.entries.items (λ k one. c.in_ok-push_entries.ensures.value p here shards k one);
     }
 
 pub loop-indexed-smaller : goal.loop-indexed-smaller

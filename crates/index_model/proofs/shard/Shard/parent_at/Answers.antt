@@ -1,13 +1,15 @@
-use Rattle.std.proofs.Common.{leb, rules, of_calls, subst, sym}
-use Rattle.std.proofs.lemmas.List.Sorted.{IsPartitionPoint-from_clause}
+use Rattle.std.proofs.Common.{subst, sym, ◌∙◌}
+use Rattle.std.specs.Option.{option_map}
 use Rattle.index_model.specs.Parents.{IsParentAt}
-use Rattle.index_model.proofs.SpanOrder.{parent_right}
+use Rattle.index_model.proofs.SpanOrder.{entry, parent_right}
 use Rattle.index_model.proofs.shard.Shard.parent_at.Goals as goal
 
-pub returns : goal.returns
-returns c =
-    let spans = c.as_slice-spans.result.now in
-    let n = c.partition_point-begun.result in
-    subst (IsParentAt c.args.self.now c.args.offset) (sym c.last_open.ensures)
-    (parent_right c.args.self.now c.args.offset spans n c.as_slice-spans.ensures c.partition_point-begun.ensures.bound
-    (λ parted. IsPartitionPoint-from_clause (λ t. leb t.from c.args.offset) spans n c.partition_point-begun.ensures.partitioned parted (λ a r f k. search (rules, of_calls))))
+pub returns-in-Some : goal.returns-in-Some
+returns-in-Some c =
+    let s = c.args.self.now in
+    subst (λ o. IsParentAt s c.args.offset (option_map entry o)) (sym c.last_open.ensures ∙ c.in-Some.is) (parent_right s c.args.offset c.count_begun-begun.result c.count_begun-begun.ensures.within c.count_begun-begun.ensures.parted)
+
+pub returns-in-None : goal.returns-in-None
+returns-in-None c =
+    let s = c.args.self.now in
+    subst (λ o. IsParentAt s c.args.offset (option_map entry o)) (sym c.last_open.ensures ∙ c.in-None.is) (parent_right s c.args.offset c.count_begun-begun.result c.count_begun-begun.ensures.within c.count_begun-begun.ensures.parted)

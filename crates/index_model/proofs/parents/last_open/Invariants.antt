@@ -1,7 +1,0 @@
-use Rattle.std.proofs.Common.{◌≡◌, filter, nat_lt, take, None}
-use Rattle.std.specs.List.{last_or}
-use Rattle.index_model.proofs.parents.last_open.Given as goal
-
--- no span from k on is open
-abbrev pub invariant-loop-k : goal.invariant-loop-k
-invariant-loop-k l = last_or None (filter (λ s. nat_lt l.offset s.to) l.spans) ≡ last_or None (filter (λ s. nat_lt l.offset s.to) (take l.k l.spans))

@@ -1,0 +1,134 @@
+//! Where in the file the texts of entries are thought to stand. Nothing rests on it: a list of nodes compares the bytes there.
+
+use crate::attributes::Attributes;
+use crate::home::Home;
+use entry_scan::Item;
+use file_image::SectionTable;
+use index_model::{Part, Places, Value};
+use ix_base::{Cursor, MAX_FILE_BYTES};
+use memchr::memmem;
+
+/// Where in the file the sections begin in which texts stand, 0 where there is no such section.
+#[derive(Clone, Copy)]
+pub(crate) struct TextPlaces {
+    info: u64,
+    types: u64,
+    str: u64,
+    line_str: u64,
+}
+
+impl TextPlaces {
+    /// The places in a file.
+    pub fn of(file: &[u8]) -> TextPlaces {
+        let mut places = TextPlaces {
+            info: 0,
+            types: 0,
+            str: 0,
+            line_str: 0,
+        };
+        if file.len() as u64 <= MAX_FILE_BYTES {
+            if let Ok(table) = SectionTable::open(file) {
+                places.info = place_of(file, &table, b".debug_info\0");
+                places.types = place_of(file, &table, b".debug_types\0");
+                places.str = place_of(file, &table, b".debug_str\0");
+                places.line_str = place_of(file, &table, b".debug_line_str\0");
+            }
+        }
+        places
+    }
+
+    /// Where the texts of an entry stand, whose unit's part of `.debug_str_offsets` begins at the base.
+    pub fn of_entry(
+        &self,
+        home: &Home<'_, '_>,
+        base: Option<u64>,
+        entry: &Attributes<'_>,
+    ) -> Places {
+        let item = entry.item();
+        Places {
+            name: self.of_value(home, base, item, entry.name()),
+            linkage: self.of_value(home, base, item, entry.linkage_name()),
+        }
+    }
+
+    // Where the text of a value stands, 0 where there is none.
+    fn of_value(
+        &self,
+        home: &Home<'_, '_>,
+        base: Option<u64>,
+        item: &Item<'_>,
+        value: Option<Value<'_>>,
+    ) -> u64 {
+        match value {
+            Some(Value::Inline(text)) => self.of_inline(home, item, text),
+            Some(Value::Str(at)) => self.str.saturating_add(at),
+            Some(Value::LineStr(at)) => self.line_str.saturating_add(at),
+            Some(Value::StrIndex(index)) => {
+                self.str.saturating_add(indexed_offset(home, base, index))
+            }
+            _ => 0,
+        }
+    }
+
+    // Where a text that stands in an entry itself stands.
+    fn of_inline(&self, home: &Home<'_, '_>, item: &Item<'_>, text: &[u8]) -> u64 {
+        let end = home.bytes.len();
+        let from = item
+            .offset()
+            .saturating_sub(home.unit.start)
+            .min(end as u64) as usize;
+        let to = item.after().saturating_sub(home.unit.start).min(end as u64) as usize;
+        match memmem::find(&home.bytes[from.min(to)..to], text) {
+            Some(at) => self
+                .of_unit(home)
+                .saturating_add(from as u64)
+                .saturating_add(at as u64),
+            None => 0,
+        }
+    }
+
+    // Where a unit begins.
+    fn of_unit(&self, home: &Home<'_, '_>) -> u64 {
+        match home.unit.part {
+            Part::Info => self.info.saturating_add(home.unit.start),
+            Part::Types => {
+                let base = home.sections.debug_info().len() as u64;
+                self.types
+                    .saturating_add(home.unit.start.saturating_sub(base))
+            }
+        }
+    }
+}
+
+// The offset that stands at an index of a unit's part of `.debug_str_offsets`, 0 where none does.
+fn indexed_offset(home: &Home<'_, '_>, base: Option<u64>, index: u64) -> u64 {
+    let size = if home.unit.wide { 8 } else { 4 };
+    let at = base.unwrap_or(0).saturating_add(index.saturating_mul(size));
+    let offsets = home.sections.debug_str_offsets();
+    let at = at.min(offsets.len() as u64);
+    Cursor::new(offsets, at as usize)
+        .offset(home.unit.wide)
+        .unwrap_or(0)
+}
+
+// Where the first section of a name begins in the file, 0 where there is none. A zero ends the name.
+fn place_of(file: &[u8], table: &SectionTable<'_>, name: &[u8]) -> u64 {
+    let names = match table.header(table.names()) {
+        Some(header) => header.at,
+        None => 0,
+    };
+    for index in 1..table.count() {
+        if let Some(header) = table.header(index) {
+            if stands_at(file, names.saturating_add(header.name as u64), name) {
+                return header.at;
+            }
+        }
+    }
+    0
+}
+
+// Whether a text stands in the file at a place.
+fn stands_at(file: &[u8], at: u64, text: &[u8]) -> bool {
+    let at = at.min(file.len() as u64) as usize;
+    file[at..].starts_with(text)
+}
