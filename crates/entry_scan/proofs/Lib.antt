@@ -5,6 +5,7 @@ mod AbbreviationLookup
 mod AbbreviationSorting
 mod Takes
 mod ValueLaws
+mod FrontLaws
 mod Steady
 mod EntryLaws
 mod LeftLaws
