@@ -6,6 +6,8 @@ mod AbbreviationSorting
 mod Takes
 mod ValueLaws
 mod FrontLaws
+mod MarkLaws
+mod FirstLaws
 mod Steady
 mod EntryLaws
 mod LeftLaws

@@ -8,6 +8,7 @@ ghost use Rattle.entry_scan.specs.GivesTable.{GivesOrFails, AddsOrFails};
 ghost use Rattle.entry_scan.specs.SeenAbbreviations.{spec_seen};
 ghost use Rattle.entry_scan.specs.AbbreviationTables.{head_seen, heads_seen, IsWithin, IsSplit, Extends};
 
+use crate::marks::Marks;
 use crate::sizes::{Front, front_of};
 use ix_base::Cursor;
 use std::alloc::{AllocError, AllocFailed, Global};
@@ -66,6 +67,7 @@ pub(crate) struct Head {
     pub(crate) start: usize,
     pub(crate) end: usize,
     pub(crate) front: Front,
+    pub(crate) marks: Marks,
     pub(crate) children: bool,
 }
 
@@ -140,6 +142,7 @@ fn read_head(code: u64, specs: &mut Vec<Spec>, cursor: &mut Cursor<'_>) -> Resul
         start,
         end,
         front: front_of(&specs[start..end]),
+        marks: Marks::of(&specs[start..end]),
         children,
     })
 }

@@ -6,8 +6,10 @@ ghost use Rattle.entry_scan.specs.GivesTable.{GivesOrFails};
 ghost use Rattle.entry_scan.specs.SeenAbbreviations.{abbrev_seen};
 ghost use Rattle.entry_scan.specs.AbbreviationTables.{AreInOrder, Cuts};
 ghost use Rattle.entry_scan.specs.Fronts.{IsFront};
+ghost use Rattle.entry_scan.specs.Marks.{AreMarks};
 
 use crate::abbreviation::{BadAbbrev, Head, Parts, Place, Spec, read_parts};
+use crate::marks::Marks;
 use crate::sizes::Front;
 use std::alloc::Global;
 use std::marker::Model;
@@ -20,11 +22,12 @@ pub struct Abbrev<'t> {
     pub specs: &'t [Spec],
 }
 
-/// An abbreviation, and the front of its attributes.
+/// An abbreviation, the front of its attributes, and which it may have.
 #[derive(Clone, Copy)]
 pub(crate) struct Shape<'t> {
     pub abbrev: Abbrev<'t>,
     pub front: Front,
+    pub marks: Marks,
 }
 
 /// The abbreviations of a table, in the order in which they stand there.
@@ -78,10 +81,11 @@ impl Abbrevs {
         Some(self.shape(code)?.abbrev)
     }
 
-    /// The same, with its front.
+    /// The same, with what is known of its attributes.
     pub(crate) fn shape(&self, code: u64) -> Option<Shape<'_>>
         ensures value { option_map (λ s. abbrev_seen code s.abbrev) result ≡ abbrev_of self.now code }
         ensures front { IfSome result (λ s. IsFront s.abbrev.specs.now s.front) }
+        ensures marks { IfSome result (λ s. AreMarks s.abbrev.specs.now s.marks) }
     {
         let head = self.heads[self.index_of(code)?];
         Some(Shape {
@@ -91,6 +95,7 @@ impl Abbrevs {
                 specs: &self.specs[head.start..head.end],
             },
             front: head.front,
+            marks: head.marks,
         })
     }
 

@@ -5,6 +5,7 @@ ghost use Rattle.ix_base.specs.Moves.{MovesOn};
 ghost use Rattle.index_model.specs.Gives.{GivesAlways};
 ghost use Rattle.index_model.specs.Tags.{is_root_tag};
 ghost use Rattle.entry_scan.specs.Fronts.{IsFront};
+ghost use Rattle.entry_scan.specs.Marks.{AreMarks};
 
 use crate::abbreviations::{Abbrevs, Shape};
 use crate::attributes::Attributes;
@@ -112,6 +113,7 @@ impl<'a> Frame<'a> {
     ) -> Result<Token<'a>, u8>
         requires place { at < 2 ^ 63 }
         requires front { IsFront shape.abbrev.specs.now shape.front }
+        requires marks { AreMarks shape.abbrev.specs.now shape.marks }
         requires small { self.now.unit.start + cursor.old.at + length cursor.old.rest < 2 ^ 63 }
         ensures value { GivesAlways (λ t. (token_seen t, joint self.now.unit.start cursor.new)) result
             (entry_at self.now.unit self.now.abbrevs.now (levels_seen levels) at (abbrev_seen 0 shape.entry.abbrev) (joint self.now.unit.start cursor.old)) }
@@ -121,7 +123,11 @@ impl<'a> Frame<'a> {
         if levels.depth > MAX_DEPTH {
             return Err(DEPTH);
         }
-        let Shape { abbrev, front } = shape;
+        let Shape {
+            abbrev,
+            front,
+            marks,
+        } = shape;
         if !may_stand(levels.root, abbrev.tag) {
             return Err(BAD_ROOT);
         }
@@ -139,6 +145,7 @@ impl<'a> Frame<'a> {
             depth: levels.depth,
             children: abbrev.children,
             tag: abbrev.tag,
+            marks,
             values: Attributes::new(abbrev.specs, begin, format),
         }))
     }

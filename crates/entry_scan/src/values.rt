@@ -41,7 +41,7 @@ pub(crate) fn read<'a>(
 }
 
 // Passes the value at the cursor, by its spec. Where its size is known it isn't read.
-fn pass_one(spec: &Spec, format: Format, cursor: &mut Cursor<'_>) -> Result<(), u8>
+pub(crate) fn pass_one(spec: &Spec, format: Format, cursor: &mut Cursor<'_>) -> Result<(), u8>
     ensures value { GivesAlways (λ _. cursor.new) result (place_read (value_at format.version format.wide spec.now.form spec.now.constant cursor.old)) }
     ensures place { MovesOn cursor.old cursor.new }
 {
