@@ -2,9 +2,13 @@ mod FrontLaws
 pub mod ResultLaws
 pub mod TextOrder
 mod SortLaws
-mod GroupLaws
+mod SeenLaws
 mod PairLaws
+mod MarkLaws
+mod GroupLaws
 mod NamesLaws
+mod CountingLaws
+mod RankLaws
 mod SearchLaws
 pub mod CountLaws
 mod PlainLaws

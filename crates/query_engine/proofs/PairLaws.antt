@@ -12,6 +12,7 @@ use Rattle.query_engine.specs.declared.way.Way.{Way}
 use Rattle.query_engine.specs.Asked.{is_counted, text_of, is_asked}
 use Rattle.query_engine.specs.Pairs.{Pair, pairs_in, has_text}
 use Rattle.query_engine.specs.Sorted.{text_of_place}
+use Rattle.query_engine.proofs.SeenLaws.{enumerate_push}
 
 abbrev Placed : Type 0
 Placed = ℕ × Entry
@@ -24,12 +25,6 @@ module _ (way : Way) where
   counted e = is_counted way e.1
 
   -- ---- one entry more
-
-  enumerate_push : (n : ℕ) (es : List Entry) (e : Entry) → enumerate_from n (es ++ e ∷ []) ≡ enumerate_from n es ++ (n + length es, e) ∷ []
-  enumerate_push n [] e = ap (λ (k : ℕ). (k, e) ∷ []) (omega arith)
-  enumerate_push n (x ∷ es) e =
-      let step : n + 1 + length es ≡ n + suc (length es) = omega arith in
-      ap (λ w. (n, x) ∷ w) (enumerate_push (n + 1) es e ∙ ap (λ (k : ℕ). enumerate_from (n + 1) es ++ (k, e) ∷ []) step)
 
   one : (k : ℕ) (e : Entry) → List Pair
   one k e = map pair (filter counted ((k, e) ∷ []))

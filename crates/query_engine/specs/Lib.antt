@@ -1,9 +1,12 @@
 pub mod Asked
+pub mod Counting
 pub mod Counts
 pub mod Front
 pub mod Groups
 pub mod Halving
+pub mod Marks
 pub mod Pairs
+pub mod Ranks
 pub mod Seen
 pub mod Sorted
 pub mod Tables

@@ -1,11 +1,16 @@
--- What contracts see of sorted keys.
-use Rattle.std.specs.Prelude.{List, map}
+-- What contracts see of texts and of sorted keys.
+use Rattle.std.specs.Prelude.{ℕ, List, map}
 use Rattle.query_engine.specs.declared.key.Key.{Key}
+use Rattle.query_engine.specs.declared.spelling.Spelling.{Spelling}
 use Rattle.query_engine.specs.Pairs.{Pair}
+
+-- the bytes of texts
+abbrev pub texts_seen : List Spelling → List (List ℕ)
+texts_seen texts = map (λ t. t.bytes.now) texts
 
 -- the key as a pair
 abbrev pub pair_seen : Key → Pair
-pair_seen k = (k.place, k.text.bytes.now)
+pair_seen k = (k.number, k.text.bytes.now)
 
 -- the keys as pairs
 abbrev pub pairs_seen : List Key → List Pair

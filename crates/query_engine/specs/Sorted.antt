@@ -1,9 +1,9 @@
 -- What sorted texts are for a list of entries.
-use Rattle.std.specs.Prelude.{◌≡◌, ◌≢◌, ℕ, ◌<◌, ◌≤◌, List, [], length, All, slice_get, slice_index, slice_range, option_map, unwrap_or}
+use Rattle.std.specs.Prelude.{◌≡◌, ◌≢◌, ℕ, ◌<◌, ◌≤◌, List, [], length, slice_get, slice_index, slice_range, option_map, unwrap_or}
 use Rattle.index_model.specs.declared.entry.Entry.{Entry}
 use Rattle.index_model.specs.Answers.{places}
 use Rattle.query_engine.specs.declared.way.Way.{Way}
-use Rattle.query_engine.specs.declared.runs.Group.{Group}
+use Rattle.query_engine.specs.declared.groups.Group.{Group}
 use Rattle.query_engine.specs.declared.names.Names.{Names}
 use Rattle.query_engine.specs.Asked.{text_of, is_asked}
 use Rattle.query_engine.specs.Front.{IsFrontOf}
@@ -26,6 +26,7 @@ name_at es n k = group_text es n (group_at n.groups.items k)
 pub record IsGroup (es : List Entry) (n : Names) (g : Group) : Type 0 where
   pub some : g.start < g.end
   pub within : g.end ≤ length n.places.items
+  pub place : slice_index n.places.items g.start < length es
   pub front : IsFrontOf g.front (group_text es n g)
   pub members : slice_range n.places.items g.start g.end ≡ places (is_asked n.way (group_text es n g)) es
 
@@ -34,4 +35,3 @@ pub record AreNamesOf (es : List Entry) (n : Names) : Type 0 where
   pub each : (k : ℕ) → k < length n.groups.items → IsGroup es n (group_at n.groups.items k)
   pub ascending : (i j : ℕ) → i < j → j < length n.groups.items → ComesBefore (name_at es n i) (name_at es n j)
   pub all : (text : List ℕ) → ((k : ℕ) → k < length n.groups.items → name_at es n k ≢ text) → places (is_asked n.way text) es ≡ []
-  pub places : All (λ p. p < length es) n.places.items

@@ -1,26 +1,24 @@
-//! What is sorted: the texts of entries, each with the place of its entry.
+//! What is sorted: texts, each with its number.
 
-ghost use Rattle.std.specs.Prelude.{◌≡◌, ◌<◌, ◌^◌, length, nat_eq, Some, refl, IfOk, OnOk, map};
+ghost use Rattle.std.specs.Prelude.{◌≡◌, ◌<◌, ◌^◌, length, nat_eq, Some, refl, IfOk, OnOk};
+ghost use Rattle.std.specs.List.{enumerate_from};
 ghost use Rattle.std.specs.Ordering.{nat_cmp};
 ghost use Rattle.std.specs.Cmp.{partial_equiv_from_equiv, on_per, on_equiv, on_po, on_total};
 ghost use Rattle.std.specs.Cmp.Lexicographic.{pointwise, slice_cmp, nat_list_eq_equiv, nat_list_cmp_total, texts_ties, texts_po};
-ghost use Rattle.query_engine.specs.Asked.{TailsFit};
-ghost use Rattle.query_engine.specs.Pairs.{pairs_in, IsSortOf};
-ghost use Rattle.query_engine.specs.Seen.{pairs_seen};
+ghost use Rattle.query_engine.specs.Pairs.{IsSortOf};
+ghost use Rattle.query_engine.specs.Seen.{pairs_seen, texts_seen};
 
 use crate::spelling::Spelling;
-use crate::way::Way;
-use index_model::Entry;
 use rayon::slice::par_sort;
 use std::alloc::{AllocError, Global};
 use std::cmp::Ordering;
 use std::thread::Threads;
 
-/// The text of an entry, and the entry's place. Keys are ordered by their texts alone.
+/// A text and its number. Keys are ordered by their texts alone.
 #[derive(Drop)]
 pub(crate) struct Key<'r> {
     pub text: Spelling<'r>,
-    pub place: u32,
+    pub number: u32,
 }
 
 impl PartialEq for Key<'_> {
@@ -61,46 +59,36 @@ impl Ord for Key<'_> {
     }
 }
 
-// The keys of all entries that can be found this way, in the order of the entries.
-fn keys_of<'r>(
-    alloc: Global,
-    way: Way,
-    entries: &'r [Entry<'_>],
-) -> Result<Vec<Key<'r>>, AllocError>
-    requires few { length entries.now < 2 ^ 32 }
-    requires tails { TailsFit entries.now }
-    ensures { IfOk result (λ v. pairs_seen v.items ≡ pairs_in way entries.now) }
-{
-    let mut keys = Vec::with_capacity(alloc, entries.len())?;
-    for (place, entry) in entries.iter().enumerate() {
-        if way.counts(entry) {
-            let text = Spelling::new(way.text(entry));
-            keys.push(Key {
-                text,
-                place: place as u32,
-            })?;
-        }
-    }
-    Ok(keys)
-}
-
-/// The keys of all entries that can be found this way, sorted by text.
+/// The keys of texts, sorted. A text's number is its index.
 pub(crate) fn sorted_keys<'r, R: Threads + Sync>(
     rt: &R,
     alloc: Global,
-    way: Way,
-    entries: &'r [Entry<'_>],
+    texts: &[Spelling<'r>],
 ) -> Result<Vec<Key<'r>>, AllocError>
-    requires few { length entries.now < 2 ^ 32 }
-    requires tails { TailsFit entries.now }
-    ensures { IfOk result (λ v. IsSortOf (pairs_in way entries.now) (pairs_seen v.items)) }
+    requires few { length texts.now < 2 ^ 32 }
+    ensures { IfOk result (λ v. IsSortOf (enumerate_from 0 (texts_seen texts.now)) (pairs_seen v.items)) }
 {
-    let mut keys = keys_of(alloc, way, entries)?;
+    let mut keys = keys_of(alloc, texts)?;
     sort_keys(rt, alloc, keys.as_mut_slice())?;
     Ok(keys)
 }
 
-// Sorts keys by text. Those with one text stay in their order.
+// The keys of texts, in their order.
+fn keys_of<'r>(alloc: Global, texts: &[Spelling<'r>]) -> Result<Vec<Key<'r>>, AllocError>
+    requires few { length texts.now < 2 ^ 32 }
+    ensures { IfOk result (λ v. pairs_seen v.items ≡ enumerate_from 0 (texts_seen texts.now)) }
+{
+    let mut keys = Vec::with_capacity(alloc, texts.len())?;
+    for (number, text) in texts.iter().enumerate() {
+        keys.push(Key {
+            text: *text,
+            number: number as u32,
+        })?;
+    }
+    Ok(keys)
+}
+
+// Sorts keys by text.
 fn sort_keys<R: Threads + Sync>(
     rt: &R,
     alloc: Global,
@@ -109,11 +97,4 @@ fn sort_keys<R: Threads + Sync>(
     ensures { OnOk result (IsSortOf (pairs_seen keys.old) (pairs_seen keys.new)) }
 {
     par_sort(rt, alloc, keys)
-}
-
-/// The places of keys, in the order of the keys.
-pub(crate) fn places_of(alloc: Global, keys: &[Key<'_>]) -> Result<Vec<u32>, AllocError>
-    ensures { IfOk result (λ v. v.items ≡ map (λ k. k.place) keys.now) }
-{
-    keys.iter().map(|key| key.place).collect(alloc)
 }

@@ -4,12 +4,16 @@
 //! copied: it is read from the first entry that has it.
 #![tactic(auto)]
 
+mod counting;
+mod groups;
 mod key;
+mod marks;
 mod names;
-mod runs;
+mod ranks;
 mod search;
 mod spelling;
 mod table;
+mod texts;
 mod way;
 
 pub use table::Table;

@@ -1,6 +1,6 @@
 //! Sorted texts, each once, with the places of their entries.
 
-ghost use Rattle.std.specs.Prelude.{◌≡◌, ◌<◌, ◌^◌, ◌+◌, length, IfOk, All};
+ghost use Rattle.std.specs.Prelude.{◌≡◌, ◌<◌, ◌^◌, ◌+◌, length, slice_index, IfOk, All};
 ghost use Rattle.std.specs.List.{list_any};
 ghost use Rattle.std.specs.Ordering.{nat_cmp};
 ghost use Rattle.std.specs.Cmp.Lexicographic.{slice_cmp};
@@ -10,8 +10,10 @@ ghost use Rattle.query_engine.specs.Counts.{name_count, without_linkage, is_plai
 ghost use Rattle.query_engine.specs.declared.way.Way.TheVariants.{ByName};
 ghost use Rattle.query_engine.specs.Sorted.{AreNamesOf, name_at, group_text};
 
-use crate::key::{places_of, sorted_keys};
-use crate::runs::{Group, groups_of};
+use crate::counting::places_of;
+use crate::groups::{Group, groups_of};
+use crate::marks::{marks_of, rank_marks};
+use crate::ranks::ranks_of;
 use crate::spelling::Spelling;
 use crate::way::Way;
 use index_model::{Entry, Steps};
@@ -43,13 +45,15 @@ impl Names {
         ensures way { IfOk result (λ n. n.way ≡ way) }
         ensures names { IfOk result (AreNamesOf entries.now) }
     {
-        let keys = sorted_keys(rt, alloc, way, entries)?;
-        let groups = groups_of(alloc, &keys)?;
-        let places = places_of(alloc, &keys)?;
+        let mut marked = marks_of(alloc, way, entries)?;
+        let ranks = ranks_of(rt, alloc, &marked.texts.list)?;
+        rank_marks(&mut marked.marks, &ranks.ranks);
+        let placed = places_of(alloc, &marked.marks, ranks.distinct.len())?;
+        let groups = groups_of(alloc, &ranks.distinct, &placed.ends)?;
         Ok(Names {
             way,
             groups,
-            places,
+            places: placed.places,
         })
     }
 
@@ -121,8 +125,8 @@ impl Names {
     // The text of a group: that of its first entry.
     fn text_of<'r>(&self, entries: &'r [Entry<'_>], group: Group) -> &'r [u8]
         requires tails { TailsFit entries.now }
-        requires places { All (λ p. p < length entries.now) self.now.places.items }
         requires group { group.start < length self.now.places.items }
+        requires place { slice_index self.now.places.items group.start < length entries.now }
         ensures { result.now ≡ group_text entries.now self.now group }
     {
         let place = self.places[group.start as usize];

@@ -1,7 +1,7 @@
 use Rattle.std.proofs.Common.{◌≡◌, take}
-use Rattle.query_engine.specs.Pairs.{pairs_in}
-use Rattle.query_engine.specs.Seen.{pairs_seen}
+use Rattle.std.specs.List.{enumerate_from}
+use Rattle.query_engine.specs.Seen.{pairs_seen, texts_seen}
 use Rattle.query_engine.proofs.key.keys_of.Given as goal
 
-abbrev pub invariant-loop-place : goal.invariant-loop-place
-invariant-loop-place l = pairs_seen l.keys.items ≡ pairs_in l.way (take l.place l.entries)
+abbrev pub invariant-loop-number : goal.invariant-loop-number
+invariant-loop-number l = pairs_seen l.keys.items ≡ enumerate_from 0 (texts_seen (take l.number l.texts))

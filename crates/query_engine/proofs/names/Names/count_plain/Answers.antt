@@ -5,9 +5,13 @@ use Rattle.query_engine.specs.declared.way.Way.{Way}
 use Rattle.query_engine.specs.Asked.{is_asked}
 use Rattle.query_engine.specs.Counts.{is_plain}
 use Rattle.query_engine.specs.Sorted.{name_at}
+use Rattle.query_engine.proofs.PlacedEntries.{places_within}
 use Rattle.query_engine.proofs.PlainLaws.{has_plain, plain_more, plain_all}
 use Rattle.query_engine.proofs.names.Names.count_plain.Goals as goal
 use Rattle.query_engine.proofs.names.Names.count_plain.Goals.{then-has_plain, else-has_plain}
+
+pub has_plain-requires : goal.has_plain-requires
+has_plain-requires c = rw c.places_at.ensures (places_within _ c.args.entries.now)
 
 pub loop-index-preserved : goal.loop-index-preserved
 loop-index-preserved c =

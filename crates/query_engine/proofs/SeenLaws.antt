@@ -1,0 +1,25 @@
+-- What contracts see of texts, one text more.
+use Rattle.std.proofs.Common.{◌≡◌, ℕ, suc, ◌+◌, ◌<◌, List, [], ◌∷◌, ◌++◌, length, get_or, take, map, sym, ap, ◌∙◌, arith}
+use Rattle.std.specs.List.{enumerate_from}
+use Rattle.std.proofs.lemmas.List.{get_or-map, map-append, take_more, length-take, length-map}
+use Rattle.query_engine.specs.declared.spelling.Spelling.{Spelling}
+use Rattle.query_engine.specs.Marks.{text_with}
+use Rattle.query_engine.specs.Pairs.{Pair}
+use Rattle.query_engine.specs.Seen.{texts_seen}
+
+pub text_seen : (ss : List Spelling) (k : ℕ) (x : Spelling) → k < length ss → x ≡ get_or ss k x → text_with (texts_seen ss) k ≡ x.bytes.now
+text_seen ss k x lt is = get_or-map (λ (s : Spelling). s.bytes.now) ss k x [] lt ∙ ap (λ (s : Spelling). s.bytes.now) (sym is)
+
+pub enumerate_push : {X : Type 0} (n : ℕ) (xs : List X) (x : X) → enumerate_from n (xs ++ x ∷ []) ≡ enumerate_from n xs ++ (n + length xs, x) ∷ []
+enumerate_push n [] x = ap (λ (k : ℕ). (k, x) ∷ []) (omega arith)
+enumerate_push n (y ∷ xs) x =
+    let step : n + 1 + length xs ≡ n + suc (length xs) = omega arith in
+    ap (λ w. (n, y) ∷ w) (enumerate_push (n + 1) xs x ∙ ap (λ (k : ℕ). enumerate_from (n + 1) xs ++ (k, x) ∷ []) step)
+
+pub listed_more : (ss : List Spelling) (i : ℕ) (x : Spelling) → i < length ss → x ≡ get_or ss i x → enumerate_from 0 (texts_seen (take i ss)) ++ (i, x.bytes.now) ∷ [] ≡ enumerate_from 0 (texts_seen (take (i + 1) ss))
+listed_more ss i x lt is =
+    let front : List (List ℕ) = texts_seen (take i ss) in
+    let size : i ≡ 0 + length front = omega (arith, length-take i ss, length-map (take i ss) (λ (s : Spelling). s.bytes.now)) in
+    let more : texts_seen (take (i + 1) ss) ≡ front ++ x.bytes.now ∷ [] =
+        ap texts_seen (take_more ss i x lt) ∙ map-append (λ (s : Spelling). s.bytes.now) (take i ss) (get_or ss i x ∷ []) ∙ ap (λ (s : Spelling). front ++ s.bytes.now ∷ []) (sym is) in
+    ap (λ (k : ℕ). enumerate_from 0 front ++ (k, x.bytes.now) ∷ []) size ∙ sym (enumerate_push 0 front x.bytes.now) ∙ ap (enumerate_from 0) (sym more)
