@@ -2,6 +2,7 @@ mod NumberTables
 mod Fuel
 mod Readings
 mod ValueLaws
+mod TextLaws
 mod Opened
 mod BucketLaws
 mod Headers
