@@ -3,6 +3,7 @@ mod Fuel
 mod Readings
 mod ValueLaws
 mod TextLaws
+mod CountingLaws
 mod Opened
 mod BucketLaws
 mod Headers

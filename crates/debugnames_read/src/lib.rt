@@ -15,6 +15,7 @@ mod abbreviation;
 mod attributes;
 mod buckets;
 mod checked;
+mod counting;
 mod entry;
 mod form;
 mod hash;
