@@ -2,6 +2,8 @@ mod NumberTables
 mod Fuel
 mod Readings
 mod ValueLaws
+mod TextLaws
+mod CountingLaws
 mod Opened
 mod BucketLaws
 mod Headers

@@ -4,6 +4,7 @@ pub mod Tables
 pub mod Specs
 pub mod Abbreviations
 pub mod Values
+pub mod Counting
 pub mod Entries
 pub mod Known
 pub mod Checked

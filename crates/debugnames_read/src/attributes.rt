@@ -1,8 +1,9 @@
 //! The attributes of an entry that say what it stands for (DWARF 5, section 6.1.1.4.7, table 6.1).
 
-ghost use Rattle.std.specs.Prelude.{◌≡◌, [], option_map};
+ghost use Rattle.std.specs.Prelude.{◌≡◌, [], map, option_map};
 ghost use Rattle.ix_base.specs.Moves.{MovesOn, Reads};
-ghost use Rattle.debugnames_read.specs.Specs.{specs_in, HasSpecs};
+ghost use Rattle.debugnames_read.specs.Counting.{is_wanted};
+ghost use Rattle.debugnames_read.specs.Specs.{spec_seen, specs_in, HasSpecs};
 ghost use Rattle.index_model.specs.NameIndexRead.{number_or_none};
 ghost use Rattle.debugnames_read.specs.Values.{first_values, kept_of, kept_seen, value_seen, with_value};
 
@@ -28,8 +29,8 @@ pub(crate) struct Attributes {
 }
 
 impl Attributes {
-    // None was read yet.
-    fn none() -> Attributes
+    /// None was read yet.
+    pub fn none() -> Attributes
         ensures { kept_seen result ≡ kept_of [] }
     {
         Attributes {
@@ -39,8 +40,20 @@ impl Attributes {
         }
     }
 
-    // Keeps the value of an attribute, if it counts and has none yet.
-    fn keep(&mut self, attribute: u64, value: Value)
+    /// Whether an attribute counts and has no value yet.
+    pub fn wants(&self, attribute: u64) -> bool
+        ensures { result ≡ is_wanted (kept_seen self.now) attribute }
+    {
+        match attribute {
+            COMPILE_UNIT => self.compile_unit.is_none(),
+            TYPE_UNIT => self.type_unit.is_none(),
+            DIE_OFFSET => self.die_offset.is_none(),
+            _ => false,
+        }
+    }
+
+    /// Keeps the value of an attribute, if it counts and has none yet.
+    pub fn keep(&mut self, attribute: u64, value: Value)
         ensures { kept_seen self.new ≡ with_value (kept_seen self.old) attribute (value_seen value) }
     {
         match attribute {
@@ -67,6 +80,19 @@ impl Attributes {
             found.keep(spec.attribute, value);
         }
         None
+    }
+
+    /// The same of attributes that were listed.
+    pub fn read_listed(wide: bool, specs: &[Spec], cursor: &mut Cursor<'_>) -> Option<Attributes>
+        ensures value { Reads kept_seen (first_values wide (map spec_seen specs.now)) cursor.old cursor.new result }
+        ensures place { MovesOn cursor.old cursor.new }
+    {
+        let mut found = Attributes::none();
+        for listed in specs {
+            let value = read_value(wide, listed.form, cursor)?;
+            found.keep(listed.attribute, value);
+        }
+        Some(found)
     }
 }
 

@@ -141,10 +141,7 @@ impl<'a> Names<'a> {
         if self.tables.has_other_hash(number, sought.hash) {
             return false;
         }
-        match self.string(number) {
-            Some(text) => text == sought.name,
-            None => false,
-        }
+        self.has_text(number, sought.name)
     }
 
     /// The first number of a span whose name is the one that is looked for.

@@ -64,10 +64,9 @@ impl<'a> Names<'a> {
         ensures value { Reads hit_seen (entry_with (tables_of self.now) (abbreviations_in (tables_of self.now).abbreviations) code) cursor.old cursor.new result }
         ensures place { MovesOn cursor.old cursor.new }
     {
-        let abbreviation = self.known.find(&self.tables.abbreviations, code)?;
-        let tag = abbreviation.tag;
-        let attributes = Attributes::read(self.tables.wide, abbreviation.specs, cursor)?;
-        self.tables.hit(tag, &attributes)
+        let found = self.known.find(&self.tables.abbreviations, code)?;
+        let attributes = found.read(self.tables.wide, cursor)?;
+        self.tables.hit(found.abbreviation.tag, &attributes)
     }
 }
 

@@ -35,7 +35,8 @@ const REF_UDATA: u64 = 0x15;
 
 const SEC_OFFSET: u64 = 0x17;
 
-const FLAG_PRESENT: u64 = 0x19;
+/// It has no bytes.
+pub(crate) const FLAG_PRESENT: u64 = 0x19;
 
 /// The value of an index attribute.
 #[derive(Clone, Copy)]

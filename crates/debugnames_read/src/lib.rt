@@ -15,6 +15,7 @@ mod abbreviation;
 mod attributes;
 mod buckets;
 mod checked;
+mod counting;
 mod entry;
 mod form;
 mod hash;
@@ -25,6 +26,7 @@ mod known;
 mod names;
 mod numbers;
 mod tables;
+mod texts;
 
 pub use entry::{NameHit, Sort};
 pub use hits::NameHits;

@@ -1,6 +1,6 @@
 //! The name table: the string, the hash and the entries of each name (DWARF 5, sections 6.1.1.4.3 to 6.1.1.4.6).
 
-ghost use Rattle.std.specs.Prelude.{◌≡◌, IsOk, OnOk, [], ◌<◌, ◌-◌, option_map};
+ghost use Rattle.std.specs.Prelude.{◌≡◌, IsOk, OnOk, [], ◌<◌, ◌-◌, List, ℕ, Some, bytes_eq, is_some, option_map};
 ghost use Rattle.index_model.specs.Gives.{GivesAlways};
 ghost use Rattle.index_model.specs.Layout.{below, nth};
 ghost use Rattle.index_model.specs.Meaning.{each, wrong_in};
@@ -10,13 +10,14 @@ ghost use Rattle.debugnames_read.specs.Abbreviations.{abbreviations_in};
 ghost use Rattle.debugnames_read.specs.Known.{IsKnown};
 ghost use Rattle.debugnames_read.specs.Lists.{list_from, AreSound, IsIn};
 ghost use Rattle.debugnames_read.specs.Tables.{tables_seen};
-ghost use Rattle.debugnames_read.specs.Texts.{text_in};
+ghost use Rattle.debugnames_read.specs.Texts.{IsLastEnd};
 
 use crate::checked::Checked;
 use crate::hash::{is_beyond_ascii, name_hash};
 use crate::header::fault;
 use crate::known::Known;
 use crate::tables::Tables;
+use crate::texts::{is_text, last_end, text_at};
 use index_model::index_code::{NAMES_BUCKET, NAMES_ENTRY_POOL, NAMES_HASH, NAMES_STRING_OFFSET};
 use ix_base::{Cursor, Fault};
 use std::alloc::Global;
@@ -49,26 +50,75 @@ impl<'a> Names<'a> {
         ensures { wrong_in result ≡ wrong_in (each (name_at (tables_of self.now) (abbreviations_in (tables_of self.now).abbreviations) self.now.strings.now self.now.base) (below (tables_of self.now).counts.names)) }
     {
         let count = self.len();
+        let end = last_end(self.strings);
         let mut checked = Checked::none(alloc, self.tables.pool.rest().len());
         for number in 0..count {
-            self.check_name(number, &mut checked)?;
+            self.check_name(number, end, &mut checked)?;
         }
         Ok(())
     }
 
     // The first fault of a name.
-    fn check_name(&self, number: usize, checked: &mut Checked) -> Result<(), Fault>
+    fn check_name(&self, number: usize, end: usize, checked: &mut Checked) -> Result<(), Fault>
         requires within { number < (tables_of self.now).counts.names }
+        requires end { IsLastEnd self.now.strings.now end }
         requires before { 0 < number → IsRight self.now (number - 1) }
         requires checked { AreSound (tables_of self.now) checked.old }
         ensures value { wrong_in result ≡ wrong_in (name_at (tables_of self.now) (abbreviations_in (tables_of self.now).abbreviations) self.now.strings.now self.now.base number) }
         ensures checked { OnOk result (AreSound (tables_of self.now) checked.new) }
     {
+        if self.tables.counts.buckets == 0 {
+            return self.check_unhashed(number, end, checked);
+        }
         let Some(name) = self.string(number) else {
             return Err(fault(NAMES_STRING_OFFSET, self.tables.strings.place(number)));
         };
         self.check_hash(number, name)?;
         self.check_entries(number, checked)
+    }
+
+    // The first fault of a name where names have no hashes. Its string isn't read, since nothing is asked but that it ends.
+    fn check_unhashed(&self, number: usize, end: usize, checked: &mut Checked) -> Result<(), Fault>
+        requires within { number < (tables_of self.now).counts.names }
+        requires end { IsLastEnd self.now.strings.now end }
+        requires none { (tables_of self.now).counts.buckets ≡ 0 }
+        requires checked { AreSound (tables_of self.now) checked.old }
+        ensures value { wrong_in result ≡ wrong_in (name_at (tables_of self.now) (abbreviations_in (tables_of self.now).abbreviations) self.now.strings.now self.now.base number) }
+        ensures checked { OnOk result (AreSound (tables_of self.now) checked.new) }
+    {
+        if !self.has_string(number, end) {
+            return Err(fault(NAMES_STRING_OFFSET, self.tables.strings.place(number)));
+        }
+        self.check_entries(number, checked)
+    }
+
+    // Whether a name has a string: it begins before the last one ends.
+    fn has_string(&self, number: usize, end: usize) -> bool
+        requires within { number < (tables_of self.now).counts.names }
+        requires end { IsLastEnd self.now.strings.now end }
+        ensures { result ≡ is_some (string_at (tables_of self.now) self.now.strings.now self.now.base number) }
+    {
+        let offset = self.tables.strings.get(number);
+        if offset < self.base {
+            return false;
+        }
+        offset - self.base < end as u64
+    }
+
+    /// Whether a name that has a string is this one.
+    pub fn has_text(&self, number: usize, name: &[u8]) -> bool
+        requires { number < (tables_of self.now).counts.names }
+        ensures { (text : List ℕ) → string_at (tables_of self.now) self.now.strings.now self.now.base number ≡ Some text → result ≡ bytes_eq text name.now }
+    {
+        let offset = self.tables.strings.get(number);
+        if offset < self.base {
+            return false;
+        }
+        let offset = offset - self.base;
+        if offset > self.strings.len() as u64 {
+            return false;
+        }
+        is_text(&self.strings[offset as usize..], name)
     }
 
     /// The string of a name, None where its offset is no offset of the strings or no zero ends it.
@@ -138,16 +188,6 @@ impl<'a> Names<'a> {
         }
         Err(fault(NAMES_ENTRY_POOL, cursor.at()))
     }
-}
-
-// The string at an offset, None where the offset passes the strings or no zero follows.
-fn text_at(strings: &[u8], offset: u64) -> Option<&[u8]>
-    ensures { option_map (λ t. t.now) result ≡ text_in strings.now offset }
-{
-    if offset > strings.len() as u64 {
-        return None;
-    }
-    Cursor::new(strings, offset as usize).zstr()
 }
 
 impl<'a> Tables<'a> {
