@@ -14,3 +14,4 @@ mod reply;
 pub use board::{Board, Pass};
 pub use poll::Poll;
 pub use reader::Reader;
+pub use reply::need_of;

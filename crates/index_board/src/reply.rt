@@ -1,8 +1,9 @@
 //! The reply by published parts.
 
-ghost use Rattle.std.specs.Prelude.{◌≡◌, ◌<◌, option_map};
+ghost use Rattle.std.specs.Prelude.{◌≡◌, ◌<◌, ◌≤◌, option_map};
 ghost use Rattle.index_model.specs.Parts.{answer_by, reply_by};
 ghost use Rattle.index_model.specs.Queries.{need_of};
+ghost use Rattle.index_model.specs.Stages.{cache_written};
 ghost use Rattle.index_model.specs.Seen.{answer_seen, query_seen, reply_seen};
 ghost use Rattle.stage_core.specs.Outputs.{cache_seen, parts_seen, summary_seen};
 ghost use Rattle.index_model.specs.Cache.{size_of};
@@ -42,9 +43,10 @@ pub(crate) fn answers(parts: &Parts<'_>, query: &Query<'_>) -> bool
     parts.fault.is_some() || answer(parts, query).is_some()
 }
 
-// The stage that a query needs.
-fn need_of(query: &Query<'_>) -> u8
-    ensures { result ≡ need_of (query_seen query.now) }
+/// The stage at which a query is answered: at an earlier one its reply is `Pending`.
+pub fn need_of(query: &Query<'_>) -> u8
+    ensures need { result ≡ need_of (query_seen query.now) }
+    ensures range { result ≤ cache_written }
 {
     match query {
         Query::Addr(_) | Query::Main => 1,

@@ -11,13 +11,13 @@ use Rattle.index_model.specs.Cache.{size_in}
 use Rattle.index_model.specs.Faults.{Built, built_of, first_fault}
 use Rattle.index_model.specs.Meaning.{wrong_in}
 use Rattle.index_model.specs.Outputs.{Subject}
-use Rattle.index_model.specs.Queries.{Query, AskName, AskSimple, AskAddress, AskMain, AskCache, need_of}
+use Rattle.index_model.specs.Queries.{Query, need_of}
 use Rattle.index_model.specs.Seen.{reply_seen}
-use Rattle.index_model.specs.Stages.{IsReachable, cache_written}
+use Rattle.index_model.specs.Stages.{IsReachable}
+use Rattle.index_model.proofs.StageLaws.{order}
 use Rattle.index_board.specs.LookUps.{IsAsked}
 use Rattle.index_board.specs.Marks.{IsLook, file_reply}
 use Rattle.index_board.specs.Readers.{Reader}
-use Rattle.index_pool.specs.Ends.{IsLast}
 use Rattle.query_text.specs.Places.{PlacesFit}
 use Rattle.query_text.proofs.PlaceLaws.{answer_fits}
 use Rattle.command_base.specs.Replies.{SaysFile, SaysReply, Wrote}
@@ -101,22 +101,15 @@ board_reply : (s : Subject) → s.cache ≡ Gdb8 → (q : Query) (n : ℕ) → n
 board_reply s writes q n need =
     subst (λ (kind : CacheKind). IsFileReply s.file q (reply_at (built_of s.file) (size_in kind (built_of s.file)) q n)) (sym writes) (by_stage s.file q n need (leb n 4) refl)
 
--- no query needs more than stage 3
-need_at_most_3 : (q : Query) → need_of q ≤ 3
-need_at_most_3 (AskName n) = omega arith
-need_at_most_3 (AskSimple n) = omega arith
-need_at_most_3 (AskAddress a) = omega arith
-need_at_most_3 AskMain = omega arith
-need_at_most_3 AskCache = omega arith
-
 -- a look is at the mark that it made
 looked : (old new : Reader) (q : Query) (r : Result Look WantOfMemory) (look : Look) → r ≡ Ok look → IsAsked old q r new → (s : ℕ) × IsReachable old.pass.floor s × IsLook old.board.subject q s look
 looked old new q (Ok found) look is asked = (asked.0, asked.1.mark.reach, subst (IsLook old.board.subject q asked.0) (cc is) asked.2)
 looked old new q (Err e) look is asked = absurd (cc is)
 
--- what is answered at the end of a build is a reply of the file
-pub look_reply : (old new : Reader) → old.board.subject.cache ≡ Gdb8 → cache_written ≤ old.pass.floor → IsLast old.pass.floor → (q : Query) (r : Result Look WantOfMemory) (look : Look) → r ≡ Ok look → IsAsked old q r new → IsFileReply old.board.subject.file q (reply_seen look.reply)
-look_reply old new kind least last q r look is asked =
+-- what is answered by a reader that knows the stage that the query needs is a reply of the file
+pub look_reply : (old new : Reader) (q : Query) → old.board.subject.cache ≡ Gdb8 → need_of q ≤ old.pass.floor → (r : Result Look WantOfMemory) (look : Look) → r ≡ Ok look → IsAsked old q r new → IsFileReply old.board.subject.file q (reply_seen look.reply)
+look_reply old new q kind least r look is asked =
     let l = looked old new q r look is asked in
-    let same : l.0 ≡ old.pass.floor = last l.0 l.1 in
-    subst (IsFileReply old.board.subject.file q) (sym l.2.1) (board_reply old.board.subject kind q l.0 (omega (arith, need_at_most_3 q, least, same)))
+    let leads = (order old.pass.floor l.0).0 l.1 in
+    let on : old.pass.floor ≤ l.0 = leads.0 in
+    subst (IsFileReply old.board.subject.file q) (sym l.2.1) (board_reply old.board.subject kind q l.0 (omega arith))

@@ -5,15 +5,15 @@ ghost use Rattle.ix_base.specs.declared.limits.TheConstants.{MAX_FILE_BYTES};
 ghost use Rattle.outside.specs.Counts.{Rose};
 ghost use Rattle.index_model.specs.declared.job.CacheKind.TheVariants.{Gdb8};
 ghost use Rattle.index_model.specs.Seen.{query_seen};
-ghost use Rattle.index_model.specs.Stages.{cache_written};
-ghost use Rattle.index_pool.specs.Ends.{IsLast};
+ghost use Rattle.index_model.specs.Queries.{need_of};
 ghost use Rattle.command_base.specs.Replies.{CausesOfResult, SaysFile, Wrote};
 
 use command_base::{Status, write};
-use index_board::Reader;
+use index_board::{Reader, need_of};
 use index_model::{CacheKind, Query};
 use index_pool::Crew;
 use outside::{Gate, Sink};
+use std::mem::forget;
 use std::sync::Wait;
 use std::thread::Threads;
 
@@ -31,19 +31,20 @@ pub fn ask_file<R: Threads + Wait + Sync, K: Sink, G: Gate + Sync>(
     ensures causes { CausesOfResult (Rose (K.write_faults out.old) (K.write_faults out.new)) result }
     ensures counts { K.write_faults out.old ≤ K.write_faults out.new }
 {
-    match crew.build_file(file, CacheKind::Gdb8) {
+    match crew.build_until(file, CacheKind::Gdb8, need_of(query)) {
         Ok((board, mut pass)) => {
             let mut reader = board.reader(&mut pass);
             let status = answer(crew.rt, &mut reader, query, out);
-            board.join(&mut pass, reader.end());
-            board.close(pass);
+            drop(reader);
+            // Nothing comes behind the command, so what was built isn't freed piece by piece.
+            forget(board);
             status
         }
         Err(_) => Status::NoMemory,
     }
 }
 
-// The answer of a reader, once the build has ended.
+// The answer of a reader, once the build is at the stage that the query needs.
 fn answer<R: Wait, K: Sink>(
     rt: &R,
     reader: &mut Reader<'_, '_>,
@@ -51,8 +52,7 @@ fn answer<R: Wait, K: Sink>(
     out: &mut K,
 ) -> Status
     requires kind { reader.old.board.subject.cache ≡ Gdb8 }
-    requires least { cache_written ≤ reader.old.pass.floor }
-    requires last { IsLast reader.old.pass.floor }
+    requires least { need_of (query_seen query.now) ≤ reader.old.pass.floor }
     ensures board { reader.new.board ≡ reader.old.board }
     ensures wrote { Wrote (SaysFile reader.old.board.subject.file (query_seen query.now)) result (K.written out.old) (K.written out.new) }
     ensures causes { CausesOfResult (Rose (K.write_faults out.old) (K.write_faults out.new)) result }

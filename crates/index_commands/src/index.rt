@@ -17,6 +17,7 @@ use index_pool::Crew;
 use outside::{Failed, Gate, Shelf, Sink};
 use stage_core::Cache;
 use std::alloc::{AllocError, Global};
+use std::mem::forget;
 use std::sync::Wait;
 use std::thread::Threads;
 
@@ -44,8 +45,9 @@ pub fn index_file<R: Threads + Wait + Sync, F: Shelf, K: Sink, G: Gate + Sync>(
                 Ok(()) => publish(crew.alloc, &reader, name, shelf, out),
                 Err(_) => Status::NoMemory,
             };
-            board.join(&mut pass, reader.end());
-            board.close(pass);
+            drop(reader);
+            // Nothing comes behind the command, so what was built isn't freed piece by piece.
+            forget(board);
             status
         }
         Err(_) => Status::NoMemory,

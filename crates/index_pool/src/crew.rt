@@ -9,7 +9,7 @@ ghost use Rattle.stage_lock.specs.Seen.{IsPassOf, first_pass};
 ghost use Rattle.index_pool.specs.Ends.{stage_at_end, IsLast};
 
 use crate::ended::Ended;
-use crate::pool::build;
+use crate::pool::{INDEX_WRITTEN, build, build_to};
 use index_board::{Board, Pass};
 use index_model::CacheKind;
 use ix_base::NoMemory;
@@ -87,9 +87,37 @@ impl<R: Threads + Wait + Sync, G: Gate + Sync> Crew<'_, R, G> {
         ensures least { IfOk result (λ made. cache_written ≤ made.1.floor) }
         ensures last { IfOk result (λ made. IsLast made.1.floor) }
     {
+        self.build_until(file, kind, INDEX_WRITTEN)
+    }
+
+    /// A board for a file's bytes whose build is at this stage, or has ended, and a pass that knows it. May wait. What is published
+    /// behind the stage is left out.
+    ///
+    /// # Errors
+    ///
+    /// `NoMemory` where memory for the board was refused.
+    pub fn build_until<'f>(
+        &self,
+        file: &'f [u8],
+        kind: CacheKind,
+        stage: u8,
+    ) -> Result<(Board<'f>, Pass<'f>), NoMemory>
+        requires small { length file.now ≤ MAX_FILE_BYTES }
+        requires some { 0 < self.now.workers }
+        requires few { self.now.workers ≤ 64 }
+        requires stage { stage ≤ cache_written }
+        ensures file { IfOk result (λ made. made.0.subject.file ≡ file.now) }
+        ensures kind { IfOk result (λ made. made.0.subject.cache ≡ kind) }
+        ensures own { IfOk result (λ made. IsPassOf made.0 made.1) }
+        ensures idle { IfOk result (λ made. made.1.holding ≡ false) }
+        ensures least { IfOk result (λ made. stage ≤ made.1.floor) }
+    {
         match self.open(file, kind) {
             Ok((board, mut pass)) => {
-                self.build(&board, &mut pass);
+                let workers = self.workers;
+                build_to(
+                    self.rt, self.alloc, &board, &mut pass, workers, stage, self.gate,
+                );
                 Ok((board, pass))
             }
             Err(error) => Err(error),

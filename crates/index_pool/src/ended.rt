@@ -1,6 +1,6 @@
 //! How a build ends.
 
-ghost use Rattle.std.specs.Prelude.{◌≡◌, ◌<◌, ◌≤◌, None, IfSome};
+ghost use Rattle.std.specs.Prelude.{◌≡◌, ◌≤◌};
 ghost use Rattle.index_model.specs.Stages.{cache_written, stopped};
 ghost use Rattle.index_pool.specs.Ends.{stage_at_end};
 
@@ -15,16 +15,15 @@ pub enum Ended {
     Stopped,
 }
 
-/// How a build at this stage has ended. None where it goes on.
-pub(crate) fn end_at(stage: u8) -> Option<Ended>
-    requires { stage ≤ stopped }
-    ensures ended { IfSome result (λ ended. stage ≡ stage_at_end ended) }
-    ensures goes_on { result ≡ None → stage < cache_written }
+/// How a build has ended that is at this stage.
+pub(crate) fn ended_at(stage: u8) -> Ended
+    requires least { cache_written ≤ stage }
+    requires range { stage ≤ stopped }
+    ensures { stage ≡ stage_at_end result }
 {
     match stage {
-        3 => Some(Ended::Done),
-        4 => Some(Ended::Refused),
-        5 => Some(Ended::Stopped),
-        _ => None,
+        3 => Ended::Done,
+        4 => Ended::Refused,
+        _ => Ended::Stopped,
     }
 }

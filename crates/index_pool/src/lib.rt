@@ -20,5 +20,5 @@ mod write;
 pub use crew::Crew;
 pub use ended::Ended;
 pub use job::perform;
-pub use pool::{build, work};
+pub use pool::{build, build_to, work, work_to};
 pub use write::{name_cache, name_index};

@@ -1,7 +1,7 @@
 //! Several workers at once.
 
-ghost use Rattle.std.specs.Prelude.{◌≡◌, ◌<◌, All, false, length, vec_len, IfOk};
-ghost use Rattle.index_model.specs.Stages.{IsReachable};
+ghost use Rattle.std.specs.Prelude.{◌≡◌, ◌<◌, ◌≤◌, All, false, length, vec_len, IfOk};
+ghost use Rattle.index_model.specs.Stages.{IsReachable, cache_written};
 ghost use Rattle.stage_lock.specs.Seen.{IsPassOf};
 ghost use Rattle.index_pool.specs.Teams.{HaveStayed, IsOfBoard};
 
@@ -12,7 +12,7 @@ use std::alloc::{AllocError, Global};
 use std::sync::Wait;
 use std::thread::{Threads, for_each_mut};
 
-/// Runs `work` on so many workers, each in a thread of its own where one can be started, and takes in what they know. May wait.
+/// Runs `work_to` on so many workers, each in a thread of its own where one can be started, and takes in what they know. May wait.
 /// Where memory is refused none of them has worked.
 pub(crate) fn work_together<'f, R: Threads + Wait + Sync, G: Gate + Sync>(
     rt: &R,
@@ -20,21 +20,23 @@ pub(crate) fn work_together<'f, R: Threads + Wait + Sync, G: Gate + Sync>(
     board: &Board<'f>,
     pass: &mut Pass<'f>,
     workers: u32,
+    goal: u8,
     gate: &G,
 )
     requires own { IsPassOf board.now pass.old }
     requires idle { pass.old.holding ≡ false }
     requires some { 0 < workers }
+    requires goal { goal ≤ cache_written }
     ensures own { IsPassOf board.now pass.new }
     ensures idle { pass.new.holding ≡ false }
     ensures reach { IsReachable pass.old.floor pass.new.floor }
 {
-    if let Ok(mut team) = gather(alloc, board, pass, workers) {
+    if let Ok(mut team) = gather(alloc, board, pass, workers, goal) {
         run_team(rt, board, pass, &mut team, gate);
     }
 }
 
-// Runs `work` on these workers, and takes in what they know. May wait.
+// Runs `work_to` on these workers, and takes in what they know. May wait.
 fn run_team<'f, R: Threads + Wait + Sync, G: Gate + Sync>(
     rt: &R,
     board: &Board<'f>,
@@ -54,15 +56,17 @@ fn run_team<'f, R: Threads + Wait + Sync, G: Gate + Sync>(
     take_in(board, pass, team);
 }
 
-// So many workers, whose passes are split from this one.
+// So many workers to this stage, whose passes are split from this one.
 fn gather<'b, 'f>(
     alloc: Global,
     board: &'b Board<'f>,
     pass: &mut Pass<'f>,
     workers: u32,
+    goal: u8,
 ) -> Result<Vec<Worker<'b, 'f>>, AllocError>
     requires own { IsPassOf board.now pass.old }
     requires idle { pass.old.holding ≡ false }
+    requires goal { goal ≤ cache_written }
     ensures own { IsPassOf board.now pass.new }
     ensures idle { pass.new.holding ≡ false }
     ensures floor { pass.new.floor ≡ pass.old.floor }
@@ -72,7 +76,12 @@ fn gather<'b, 'f>(
     let mut team = Vec::with_capacity(alloc, workers as usize)?;
     for _worker in 0..workers {
         let pass = board.split(pass);
-        team.push(Worker { alloc, board, pass })?;
+        team.push(Worker {
+            alloc,
+            board,
+            pass,
+            goal,
+        })?;
     }
     Ok(team)
 }

@@ -7,12 +7,12 @@ write-requires g c =
     let old = c.args.reader.now in
     let q = query_seen c.args.query.now in
     reply_fits old.board.subject.file q (reply_seen c.in-Ok.look.reply)
-    (look_reply old c.query.follows.lender-at-none c.requires.kind c.requires.least c.requires.last q c.query.result c.in-Ok.look c.in-Ok.is c.query.follows.holds-at-none)
+    (look_reply old c.query.follows.lender-at-none q c.requires.kind c.requires.least c.query.result c.in-Ok.look c.in-Ok.is c.query.follows.holds-at-none)
 
 pub returns-in-Ok-clause-wrote : goal.returns-in-Ok-clause-wrote
 returns-in-Ok-clause-wrote g c =
     let old = c.args.reader.now in
     let q = query_seen c.args.query.now in
     wrote_of old.board.subject.file q (reply_seen c.in-Ok.look.reply)
-    (look_reply old c.query.follows.lender-at-none c.requires.kind c.requires.least c.requires.last q c.query.result c.in-Ok.look c.in-Ok.is c.query.follows.holds-at-none)
+    (look_reply old c.query.follows.lender-at-none q c.requires.kind c.requires.least c.query.result c.in-Ok.look c.in-Ok.is c.query.follows.holds-at-none)
     c.write.result (g.K.Sink.written c.args.out.now) (g.K.Sink.written c.write.new.out) c.write.ensures.wrote

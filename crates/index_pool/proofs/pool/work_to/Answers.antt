@@ -1,18 +1,13 @@
-use Rattle.std.proofs.Common.{ap, ◌∙◌}
 use Rattle.index_model.specs.Stages.{same}
 use Rattle.index_model.proofs.StageLaws.{closure}
-use Rattle.index_pool.proofs.EndLaws.{end_is_last}
 use Rattle.index_pool.proofs.PassLaws.{by_mark}
-use Rattle.index_pool.proofs.pool.work.Goals as goal
+use Rattle.index_pool.proofs.pool.work_to.Goals as goal
 
 pub loop-init : goal.loop-init
 loop-init g c = (c.requires.own, c.requires.idle, same)
 
-pub returns-in-Some-end_at-clause-reach : goal.returns-in-Some-end_at-clause-reach
-returns-in-Some-end_at-clause-reach g c = by_mark c.args.pass.now.floor c.loop.pass c.mark-stage.new.pass c.mark-stage.result c.loop.invariant.2 c.mark-stage.ensures.reach c.mark-stage.ensures.pass
-
-pub returns-in-Some-end_at-clause-last : goal.returns-in-Some-end_at-clause-last
-returns-in-Some-end_at-clause-last g c = end_is_last c.in-Some-end_at.ended c.mark-stage.new.pass.floor (ap (λ p. p.floor) c.mark-stage.ensures.pass ∙ c.in-Some-end_at.ensures.ended)
+pub returns-then-stage-goal-clause-reach : goal.returns-then-stage-goal-clause-reach
+returns-then-stage-goal-clause-reach g c = by_mark c.args.pass.now.floor c.loop.pass c.mark-stage.new.pass c.mark-stage.result c.loop.invariant.2 c.mark-stage.ensures.reach c.mark-stage.ensures.pass
 
 pub loop-preserved-then-help : goal.loop-preserved-then-help
 loop-preserved-then-help g c = (

@@ -1,5 +1,0 @@
-use Rattle.index_model.proofs.StageLaws.{closure}
-use Rattle.index_pool.proofs.pool.build.Goals as goal
-
-pub returns-clause-reach : goal.returns-clause-reach
-returns-clause-reach g c = closure.onwards c.args.pass.now.floor c.work_together.new.pass.floor c.work.new.pass.floor c.work_together.ensures.reach c.work.ensures.reach
