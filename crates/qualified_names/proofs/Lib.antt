@@ -3,5 +3,6 @@ mod NameLaws
 mod AroundLaws
 mod Sides
 mod Mains
+mod NodePlaces
 mod EntryParts
 pub mod RunLaws

@@ -102,3 +102,7 @@ node_there nodes n m k within none =
     (λ (h : (x : NodeSeen) × (n + k < length nodes) × (slice_get nodes (n + k) ≡ Some x) × (get_or nodes (n + k) x ≡ x)). let stuck = sym none ∙ h.2 in absurd cc)
     (λ (h : (length nodes ≤ n + k) × (slice_get nodes (n + k) ≡ None)). omega (arith, h.0, inside))
     (slice_get_cases nodes (n + k)).1
+
+-- it stands before the end
+pub node_end : (nodes : List NodeSeen) (n m k : ℕ) → k < length (map (λ (d : NodeSeen). d.facts) (take m (drop n nodes))) → k < m
+node_end nodes n m k within = let part = take m (drop n nodes) in omega (arith, within, length-map part (λ (d : NodeSeen). d.facts), length-take m (drop n nodes))

@@ -17,7 +17,7 @@ pub(crate) struct UnitNodes<'a, 'f> {
 }
 
 impl<'a, 'f> Model for UnitNodes<'a, 'f> {
-    ghost use Rattle.std.specs.Prelude.{◌-◌, ◌≤◌, List, drop, length, take};
+    ghost use Rattle.std.specs.Prelude.{◌-◌, ◌<◌, ◌≤◌, ◌^◌, List, drop, length, take};
     ghost use Rattle.index_model.specs.declared.shard.Node.{Node};
     ghost use Rattle.range_lists.specs.Units.{facts_in};
 
@@ -25,7 +25,7 @@ impl<'a, 'f> Model for UnitNodes<'a, 'f> {
 
     ghost view = { λ u. facts_in (take (u.to - u.from) (drop u.from u.nodes.now)) };
 
-    ghost invariant = { λ u. u.to ≤ length u.nodes.now };
+    ghost invariant = { λ u. (u.to ≤ length u.nodes.now) × (u.to < 2 ^ 64) };
 }
 
 impl<'a, 'f> UnitNodes<'a, 'f> {
@@ -53,8 +53,6 @@ impl<'a, 'f> UnitNodes<'a, 'f> {
         requires { index < length self.now }
         ensures { result ≡ slice_index_or self.now index result }
     {
-        // So many stand before the end, whose index doesn't wrap.
-        let _count = self.len();
         match self.nodes.get(self.from + index) {
             Some(node) => without_texts(node),
             None => unreachable!(),
@@ -64,7 +62,7 @@ impl<'a, 'f> UnitNodes<'a, 'f> {
 
 // A node without its texts.
 fn without_texts(node: Node<'_>) -> Node<'_>
-    ensures { result ≡ (node_seen node).facts }
+    ensures { result ≡ (node_seen node.entry).facts }
 {
     let mut bare = node;
     bare.name = None;

@@ -1,9 +1,7 @@
 use Rattle.std.proofs.Common.{List, Result, Vec, Global, sym, ap, subst, ◌∙◌}
 use Rattle.std.proofs.lemmas.Option.{same_Some}
 use Rattle.std.specs.Prelude.{option_and_then}
-use Rattle.std.specs.List.Sorted.{IsNonDecreasingBy}
 use Rattle.index_model.specs.declared.shard.Root.{Root}
-use Rattle.index_model.specs.declared.shard.Node.{Node}
 use Rattle.index_model.specs.Attributes.{as_address}
 use Rattle.ix_base.specs.declared.fault.Fault.{Fault}
 use Rattle.index_model.specs.declared.range.Range.{Range}
@@ -11,7 +9,7 @@ use Rattle.index_model.specs.Gives.{Gives}
 use Rattle.range_lists.specs.declared.home.Home.{Home}
 use Rattle.range_lists.specs.Homes.{as_value}
 use Rattle.range_lists.specs.Nodes.{EntriesRise}
-use Rattle.range_lists.specs.Units.{first_low, unit_nodes}
+use Rattle.range_lists.specs.Units.{facts_in, first_low, unit_nodes}
 use Rattle.range_lists.proofs.Alike.{home_alike, moved}
 use Rattle.range_lists.proofs.unit.ranges_in_run.Goals as goal
 
@@ -19,10 +17,10 @@ pub returns-clause-ranges : goal.returns-clause-ranges
 returns-clause-ranges c w k =
     let header = same_Some _ _ (sym c.in-Some-Some.is-0 ∙ c.header_of.ensures.value ∙ k.header) in
     let root = same_Some _ _ (sym c.in-Some-Some.is-1 ∙ c.root_in.ensures ∙ k.root) in
-    let nodes = c.nodes_of-nodes.ensures (subst (λ (xs : List Node). IsNonDecreasingBy (λ n. n.unit) xs) (sym c.as_slice.ensures) k.nodes) ∙ ap (unit_nodes c.args.unit) c.as_slice.ensures in
+    let nodes = c.of-nodes.ensures k.nodes in
     let low = c.first_low.ensures ∙ ap first_low nodes in
-    let rise = subst EntriesRise (sym c.as_slice-2.ensures) k.entries in
+    let rise = subst EntriesRise (sym c.as_slice.ensures) k.entries in
     let home : Home = record { sections = c.sections.result; header = c.in-Some-Some.header; addr_base = c.in-Some-Some.root.addr_base; rnglists_base = c.in-Some-Some.root.rnglists_base; low = c.first_low.result } in
-    moved (λ (m : Result (List Range) Fault). Gives {X = Vec Range Global} {Y = List Range} (λ v. v.items) c.ranges_of_nodes.result m) c.sections.result.now c.args.image.now.sections home w c.nodes_of-nodes.result.now (unit_nodes c.args.unit c.args.shard.now.nodes) c.as_slice-2.result.now c.args.linked.now.entries c.sections.ensures
+    moved (λ (m : Result (List Range) Fault). Gives {X = Vec Range Global} {Y = List Range} (λ v. v.items) c.ranges_of_nodes.result m) c.sections.result.now c.args.image.now.sections home w c.of-nodes.result (unit_nodes c.args.unit (facts_in c.args.shard.now.nodes)) c.as_slice.result.now c.args.linked.now.entries c.sections.ensures
     (home_alike home w header (ap (λ (r : Root). r.addr_base) root) (ap (λ (r : Root). r.rnglists_base) root) (k.low ∙ ap (option_and_then (λ r. as_address (as_value r))) (sym low)))
-    nodes c.as_slice-2.ensures (c.ranges_of_nodes.ensures rise)
+    nodes c.as_slice.ensures (c.ranges_of_nodes.ensures rise)

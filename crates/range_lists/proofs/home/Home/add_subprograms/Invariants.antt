@@ -5,5 +5,5 @@ use Rattle.range_lists.specs.Nodes.{all_node_ranges, is_linked_subprogram, Entri
 use Rattle.range_lists.proofs.home.Home.add_subprograms.Given as goal
 
 -- the ranges so far, and those of the nodes that are still to come
-abbrev pub invariant-loop-node : goal.invariant-loop-node
-invariant-loop-node l = EntriesRise l.entries → behind l.ranges.items (all_node_ranges l.self.sections.now (unit_with l.self) (filter (is_linked_subprogram l.entries) (drop l.node-index l.nodes))) ≡ behind l.fn.ranges.items (all_node_ranges l.self.sections.now (unit_with l.self) (filter (is_linked_subprogram l.entries) l.nodes))
+abbrev pub invariant-loop-k : goal.invariant-loop-k
+invariant-loop-k l = EntriesRise l.entries → behind l.ranges.items (all_node_ranges l.self.sections.now (unit_with l.self) (filter (is_linked_subprogram l.entries) (drop l.k l.nodes))) ≡ behind l.fn.ranges.items (all_node_ranges l.self.sections.now (unit_with l.self) (filter (is_linked_subprogram l.entries) l.nodes))
