@@ -69,6 +69,9 @@ impl<'a> Attributes<'a> {
 }
 
 // The value of the first of these attributes that has this number. Their values begin at the cursor.
+//
+// It stays a call, so that the test for attributes that aren't there is small enough to stand where it is made.
+#[inline(never)]
 fn first_of<'a>(
     specs: &[Spec],
     format: Format,

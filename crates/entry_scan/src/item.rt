@@ -77,7 +77,8 @@ impl<'a> Item<'a> {
         self.children
     }
 
-    /// The value of its first attribute with this number. None where it has none.
+    /// The value of its first attribute with this number. None where it has none, which one test tells of most.
+    #[inline]
     pub fn value(&self, attribute: u64) -> Option<Value<'a>>
         ensures { option_map seen result ≡ attribute_of attribute self.now }
     {
