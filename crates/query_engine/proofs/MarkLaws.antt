@@ -56,9 +56,9 @@ module _ (ps : List Pair) (ts us : List (List ℕ)) (ms : List Mark) (h : AreMar
       let size : length us ≡ length ts + 1 = ap length more ∙ length-append ts (t ∷ []) in
       let number : n ≡ length ts = h.1 in
       grown (omega arith)
-          (λ k lt. ap (λ (w : List (List ℕ)). text_with w k) more ∙ get_or_append_left ts (t ∷ []) [] k lt)
-          (record { within = omega arith; same = ap (λ (w : List (List ℕ)). text_with w n) more ∙ get_or_push ts t [] n (sym number) })
-          (λ k lt. elim (cases_lt k (length ts)) [ inl low ↦ inl low | inr high ↦ inr (omega arith) ])
+      (λ k lt. ap (λ (w : List (List ℕ)). text_with w k) more ∙ get_or_append_left ts (t ∷ []) [] k lt)
+      (record { within = omega arith; same = ap (λ (w : List (List ℕ)). text_with w n) more ∙ get_or_push ts t [] n (sym number) })
+      (λ k lt. elim (cases_lt k (length ts)) [ inl low ↦ inl low | inr high ↦ inr (omega arith) ])
 
   pub texts_more : Numbers ts us t n → length us ≤ length ts + 1
   texts_more (inl h) = omega (arith, ap length h.0)

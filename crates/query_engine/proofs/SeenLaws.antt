@@ -21,5 +21,5 @@ listed_more ss i x lt is =
     let front : List (List ℕ) = texts_seen (take i ss) in
     let size : i ≡ 0 + length front = omega (arith, length-take i ss, length-map (take i ss) (λ (s : Spelling). s.bytes.now)) in
     let more : texts_seen (take (i + 1) ss) ≡ front ++ x.bytes.now ∷ [] =
-        ap texts_seen (take_more ss i x lt) ∙ map-append (λ (s : Spelling). s.bytes.now) (take i ss) (get_or ss i x ∷ []) ∙ ap (λ (s : Spelling). front ++ s.bytes.now ∷ []) (sym is) in
+    ap texts_seen (take_more ss i x lt) ∙ map-append (λ (s : Spelling). s.bytes.now) (take i ss) (get_or ss i x ∷ []) ∙ ap (λ (s : Spelling). front ++ s.bytes.now ∷ []) (sym is) in
     ap (λ (k : ℕ). enumerate_from 0 front ++ (k, x.bytes.now) ∷ []) size ∙ sym (enumerate_push 0 front x.bytes.now) ∙ ap (enumerate_from 0) (sym more)

@@ -116,7 +116,11 @@ impl<'r> Texts<'r> {
         requires { length self.now.list.items ≤ 2 ^ 32 }
         ensures { OnOk result (self.new.list ≡ self.old.list) }
     {
-        let mask = if self.mask < LAST_MASK { self.mask * 2 + 1 } else { LAST_MASK };
+        let mask = if self.mask < LAST_MASK {
+            self.mask * 2 + 1
+        } else {
+            LAST_MASK
+        };
         self.slots = free_slots(alloc, mask)?;
         self.mask = mask;
         self.enter_all();
