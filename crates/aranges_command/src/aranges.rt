@@ -22,8 +22,12 @@ use ix_base::{Fault, Stop};
 use outside::{Gate, Sink, write_all};
 use reach_model::Difference;
 use std::alloc::Global;
+use std::mem::forget;
 use std::sync::Wait;
 use std::thread::Threads;
+
+// The stage at which the map is published.
+const MAIN_AVAILABLE: u8 = 1;
 
 /// Writes whether the address table of the file's bytes agrees with the ranges of their units, or the first address with two
 /// answers; or the first fault of the table, or of the file.
@@ -39,15 +43,16 @@ pub fn aranges_file<R: Threads + Wait + Sync, K: Sink, G: Gate + Sync>(
     ensures causes { CausesOfTable (Rose (K.write_faults out.old) (K.write_faults out.new)) result }
     ensures counts { K.write_faults out.old ≤ K.write_faults out.new }
 {
-    match crew.build_file(file, CacheKind::Gdb8) {
+    match crew.build_until(file, CacheKind::Gdb8, MAIN_AVAILABLE) {
         Ok((board, mut pass)) => {
             let mut reader = board.reader(&mut pass);
             let status = match reader.fetch(crew.rt) {
                 Ok(()) => answer(crew.alloc, board.image(), &reader, out),
                 Err(_) => Status::NoMemory,
             };
-            board.join(&mut pass, reader.end());
-            board.close(pass);
+            drop(reader);
+            // Nothing comes behind the command, so what was built isn't freed piece by piece.
+            forget(board);
             status
         }
         Err(_) => Status::NoMemory,
