@@ -15,10 +15,10 @@ _gdbix() {
     fi
     # What a command takes: how many files, its options, and the first words of its queries.
     case $command in
-    ask) files=1 options="--workers" queries="name simple addr main cache" ;;
-    cached) files=2 options="--workers" queries="name addr main" ;;
-    serve) files=1 options="--workers --wait" queries="" ;;
-    race) files=2 options="--workers --readers" queries="" ;;
+    ask) files=1 options="--workers --quote" queries="name simple addr main cache" ;;
+    cached) files=2 options="--workers --quote" queries="name addr main" ;;
+    serve) files=1 options="--workers --wait --quote" queries="" ;;
+    race) files=2 options="--workers --readers --quote" queries="" ;;
     index | add) files=2 options="--as --workers" queries="" ;;
     aranges) files=1 options="--workers" queries="" ;;
     files) files=1 options="--workers" queries="" ;;
@@ -29,8 +29,8 @@ _gdbix() {
         fi
         at=3
         case ${COMP_WORDS[2]} in
-        gdb) files=1 options="" queries="name addr main" ;;
-        names) files=2 options="--base" queries="name" ;;
+        gdb) files=1 options="--quote" queries="name addr main" ;;
+        names) files=2 options="--base --quote" queries="name" ;;
         *) return ;;
         esac
         ;;
@@ -43,9 +43,10 @@ _gdbix() {
         ;;
     --workers | --readers | --wait | --base) return ;;
     esac
-    # Past the options, each of which has a value.
+    # Past the options, each of which but --quote has a value.
     while [[ ${COMP_WORDS[at]} == --* ]] && ((at < COMP_CWORD)); do
-        ((at += 2))
+        [[ ${COMP_WORDS[at]} == --quote ]] || ((at++))
+        ((at++))
     done
     if [[ $word == -* ]] && ((COMP_CWORD == at)); then
         _gdbix_offer "$options --help" "$word"

@@ -42,17 +42,22 @@ def _size(program):
         return None
 
 
+def _spelling(task):
+    return texts.quoted if task.options["--quote"] else texts.as_stands
+
+
 def _ask(task, shelf):
     program = _built(shelf.read(task.files[0]))
+    spelled = _spelling(task)
     sort, asked = task.query
     if sort == queries.NAME:
-        return texts.of_found([texts.of_entry(entry) for entry in program.entries if entry.name == asked])
+        return texts.of_found([texts.of_entry(entry, spelled) for entry in program.entries if entry.name == asked])
     if sort == queries.SIMPLE:
         named = [entry for entry in program.entries if not entry.linkage and entry.simple() == asked]
-        return texts.of_found([texts.of_entry(entry) for entry in named])
+        return texts.of_found([texts.of_entry(entry, spelled) for entry in named])
     if sort == queries.ADDRESS:
         return texts.of_unit(unit_at(program.pieces, asked))
-    return texts.of_main(program.main) if sort == queries.MAIN else texts.of_cache(_size(program))
+    return texts.of_main(program.main, spelled) if sort == queries.MAIN else texts.of_cache(_size(program))
 
 
 def _index(task, shelf):
@@ -93,11 +98,12 @@ def _files(task, shelf):
         raise _refuse(15, b"files refused", fault) from None
 
 
-def _answer_of_index(index, query):
-    sort, asked = query
+def _answer_of_index(index, task):
+    sort, asked = task.query
+    spelled = _spelling(task)
     if sort == queries.NAME:
-        return texts.of_found([texts.of_element(element, asked) for element in index.elements(asked)])
-    return texts.of_unit(index.unit_at(asked)) if sort == queries.ADDRESS else texts.of_main(index.main)
+        return texts.of_found([texts.of_element(element, spelled(asked)) for element in index.elements(asked)])
+    return texts.of_unit(index.unit_at(asked)) if sort == queries.ADDRESS else texts.of_main(index.main, spelled)
 
 
 def _look_gdb(task, shelf):
@@ -105,7 +111,7 @@ def _look_gdb(task, shelf):
         index = GdbIndex(shelf.read(task.files[0]))
     except Fault as fault:
         raise _refuse(8, b"index refused", fault) from None
-    return _answer_of_index(index, task.query)
+    return _answer_of_index(index, task)
 
 
 def _look_names(task, shelf):
@@ -115,7 +121,7 @@ def _look_names(task, shelf):
     except Fault as fault:
         raise _refuse(8, b"index refused", fault) from None
     asked = task.query[1]
-    return texts.of_found([texts.of_hit(hit, asked) for hit in index.hits(asked)])
+    return texts.of_found([texts.of_hit(hit, _spelling(task)(asked)) for hit in index.hits(asked)])
 
 
 def _kept(build_id, name, shelf):
@@ -141,7 +147,7 @@ def _cached(task, shelf):
         name = kept.cache_name(task.files[1], build_id)
         index, stale = _kept(build_id, name, shelf)
     if index is not None:
-        return b"hit\n" + _answer_of_index(index, task.query)
+        return b"hit\n" + _answer_of_index(index, task)
     made, stored = gdb_index_bytes(_built(file), 9), False
     if build_id is not None:
         try:
@@ -149,7 +155,7 @@ def _cached(task, shelf):
             stored = True
         except StoreFailed:
             pass
-    return stale + (b"stored\n" if stored else b"unsaved\n") + _answer_of_index(GdbIndex(made), task.query)
+    return stale + (b"stored\n" if stored else b"unsaved\n") + _answer_of_index(GdbIndex(made), task)
 
 
 COMMANDS = {"ask": _ask, "index": _index, "add": _add, "aranges": _aranges, "files": _files, "cached": _cached,

@@ -2,21 +2,30 @@
 from . import rules
 
 
+def as_stands(name):
+    return name
+
+
+def quoted(name):
+    """A name with control bytes and the backslash as \\xHH."""
+    return b"".join(b"\\x%02x" % byte if byte < 0x20 or byte in (0x7F, 0x5C) else bytes((byte,)) for byte in name)
+
+
 def of_found(lines):
     return b"".join(line + b"\n" for line in [b"found %d" % len(lines)] + lines)
 
 
-def of_entry(entry):
+def of_entry(entry, spelled=as_stands):
     scope, way = b"static" if entry.static else b"global", b"linkage" if entry.linkage else b"name"
-    return b"%d %x %x %s %s %s %s" % (entry.unit, entry.offset, entry.tag, rules.KIND_WORDS[entry.kind], scope, way, entry.name)
+    return b"%d %x %x %s %s %s %s" % (entry.unit, entry.offset, entry.tag, rules.KIND_WORDS[entry.kind], scope, way, spelled(entry.name))
 
 
 def of_unit(unit):
     return b"none\n" if unit is None else b"unit %d\n" % unit
 
 
-def of_main(main):
-    return b"none\n" if main is None else b"main %x %s\n" % main
+def of_main(main, spelled=as_stands):
+    return b"none\n" if main is None else b"main %x %s\n" % (main[0], spelled(main[1]))
 
 
 def of_cache(length):

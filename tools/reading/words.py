@@ -25,20 +25,21 @@ def _kind(word):
 
 WORKERS = ("--workers", _number(1, limits.WORKERS), 4)
 AS = ("--as", _kind, None)
+QUOTE = ("--quote", None, False)
 
-# Of each command its options in their order, each with how its value is read and its default (None where it must be there),
-# how many file names follow, and which queries it offers.
+# Of each command its options in their order, each with how its value is read (None where it has none) and its default (None where
+# it must be there), how many file names follow, and which queries it offers.
 GRAMMAR = {
-    "ask": ((WORKERS,), 1, ALL_QUERIES),
+    "ask": ((WORKERS, QUOTE), 1, ALL_QUERIES),
     "index": ((AS, WORKERS), 2, None),
     "add": ((AS, WORKERS), 2, None),
     "aranges": ((WORKERS,), 1, None),
     "files": ((WORKERS,), 2, None),
-    "cached": ((WORKERS,), 2, GDB_QUERIES),
-    "look gdb": ((), 1, GDB_QUERIES),
-    "look names": ((("--base", _number(0, 2 ** 32 - 1), 0),), 2, (queries.NAME,)),
-    "serve": ((WORKERS, ("--wait", _number(0, 3), 0)), 1, None),
-    "race": ((WORKERS, ("--readers", _number(1, 16), 2)), 2, None),
+    "cached": ((WORKERS, QUOTE), 2, GDB_QUERIES),
+    "look gdb": ((QUOTE,), 1, GDB_QUERIES),
+    "look names": ((("--base", _number(0, 2 ** 32 - 1), 0), QUOTE), 2, (queries.NAME,)),
+    "serve": ((WORKERS, ("--wait", _number(0, 3), 0), QUOTE), 1, None),
+    "race": ((WORKERS, ("--readers", _number(1, 16), 2), QUOTE), 2, None),
 }
 
 
@@ -46,7 +47,9 @@ def _options(rows, words):
     """(the options, the words behind them), or None."""
     options = {}
     for name, read, default in rows:
-        if words[:1] == [name] and len(words) > 1:
+        if words[:1] == [name] and read is None:
+            options[name], words = True, words[1:]
+        elif words[:1] == [name] and len(words) > 1:
             options[name], words = read(words[1]), words[2:]
         else:
             options[name] = default

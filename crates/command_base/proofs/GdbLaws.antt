@@ -2,7 +2,7 @@
 use Rattle.std.proofs.Common.{◌≡◌, ℕ, List, Option, Some, Ok, sym, ap, ◌∙◌}
 use Rattle.index_model.specs.Answers.{Answer, Answered as Replied}
 use Rattle.index_model.specs.GdbIndexRead.{GdbIndex, gdb_index}
-use Rattle.index_model.specs.Queries.{Query}
+use Rattle.query_text.specs.Questions.{Question}
 use Rattle.index_model.specs.Texts.{text_of_answer}
 use Rattle.command_base.specs.Replies.{SaysReply, Wrote}
 use Rattle.command_base.specs.declared.status.Status.{Status}
@@ -10,7 +10,7 @@ use Rattle.command_base.specs.declared.status.Status.TheVariants.{Answered, Refu
 use Rattle.command_base.proofs.ReplyLaws.{wrote_weaker}
 use Rattle.command_base.specs.GdbLooks.{gdb_text, SaysGdb, SaysLook}
 
-module _ (index : GdbIndex) (q : Query) (a : Answer) (is : gdb_text index q ≡ Some (text_of_answer a)) where
+module _ (index : GdbIndex) (q : Question) (a : Answer) (is : gdb_text index q ≡ Some (text_of_answer a)) where
   short : (status : Status) (text : List ℕ) → SaysReply (Replied a) status text → SaysLook index q status text
   short Answered text h = is ∙ ap (λ (t : List ℕ). Some t) (sym h)
   short Refused text h = absurd h
@@ -33,7 +33,7 @@ module _ (index : GdbIndex) (q : Query) (a : Answer) (is : gdb_text index q ≡ 
   pub wrote_short : (status : Status) (old new : Option (List ℕ)) → Wrote (SaysReply (Replied a)) status old new → Wrote (SaysLook index q) status old new
   wrote_short status old new w = wrote_weaker (SaysReply (Replied a)) (SaysLook index q) short status old new w
 
-module _ (bytes : List ℕ) (index : GdbIndex) (opened : gdb_index bytes ≡ Ok index) (q : Query) where
+module _ (bytes : List ℕ) (index : GdbIndex) (opened : gdb_index bytes ≡ Ok index) (q : Question) where
   by_bytes : (status : Status) (text : List ℕ) → SaysLook index q status text → SaysGdb bytes q status text
   by_bytes Answered text h = record { index = index; accepted = opened; text_is = h }
   by_bytes Refused text h = h

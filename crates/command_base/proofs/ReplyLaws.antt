@@ -3,8 +3,11 @@ use Rattle.std.proofs.Common.{◌≡◌, ℕ, List, Option, Result, Ok, Err, ref
 use Rattle.std.specs.Prelude.{OnOk, OnErr}
 use mathlib.Core.Logic.{◌⊎◌}
 use Rattle.ix_base.specs.declared.fault.Fault.{Fault}
-use Rattle.index_model.specs.Answers.{Answer, Reply, Answered as Replied, Refused as Refuses}
+use Rattle.index_model.specs.Answers.{Answer, Reply, Answered as Replied, Refused as Refuses, Stopped as NotSaid}
 use Rattle.index_model.specs.Texts.{text_of_fault, text_of_reply}
+use Rattle.name_quotes.specs.declared.quote.Spelling.{Spelling}
+use Rattle.name_quotes.specs.declared.quote.Spelling.TheVariants.{Plain, Quoted}
+use Rattle.query_text.specs.Spelled.{answer_in, reply_in}
 use Rattle.outside.specs.declared.shelf.Failed.{Failed}
 use Rattle.outside.specs.Written.{Appends, AppendsPrefix}
 use Rattle.command_base.specs.Replies.{SaysReply, Wrote, status_after, status_of_reply}
@@ -74,6 +77,19 @@ module _ (reply : Reply) (old new : Option (List ℕ)) where
   sent (Ok x) (TableRefused table) text says (inr is) all part = absurd (cc is)
   sent (Ok x) IndexTooLarge text says (inl is) all part = absurd (cc is)
   sent (Ok x) IndexTooLarge text says (inr is) all part = absurd (cc is)
+
+-- how names are written changes neither that a reply is an answer nor a fault
+pub answered_in : (spelling : Spelling) (a : Answer) → reply_in spelling (Replied a) ≡ Replied (answer_in spelling a)
+answered_in Plain a = refl
+answered_in Quoted a = refl
+
+pub refused_in : (spelling : Spelling) (f : Fault) → reply_in spelling (Refuses f) ≡ Refuses f
+refused_in Plain f = refl
+refused_in Quoted f = refl
+
+pub stopped_in : (spelling : Spelling) → reply_in spelling NotSaid ≡ NotSaid
+stopped_in Plain = refl
+stopped_in Quoted = refl
 
 pub says_answer : (r : Reply) (a : Answer) → r ≡ Replied a → SaysReply r Answered (text_of_reply r)
 unfolding text_of_reply

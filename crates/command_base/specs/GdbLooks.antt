@@ -3,6 +3,10 @@ use Rattle.std.specs.Prelude.{◌≡◌, ◌⊎◌, ℕ, List, Option, Some, Non
 use Rattle.ix_base.specs.declared.fault.Fault.{Fault}
 use Rattle.index_model.specs.Answers.{InUnit, MainIs}
 use Rattle.index_model.specs.GdbIndexRead.{GdbIndex, gdb_index, gdb_index_hits, number_at, main_name}
+use Rattle.name_quotes.specs.declared.quote.Spelling.{Spelling}
+use Rattle.name_quotes.specs.Quotes.{spelled}
+use Rattle.query_text.specs.Questions.{Question}
+use Rattle.query_text.specs.Spelled.{answer_in}
 use Rattle.index_model.specs.Queries.{Query, AskName, AskSimple, AskAddress, AskMain, AskCache}
 use Rattle.index_model.specs.Texts.{text_of_answer}
 use Rattle.index_model.specs.LookTexts.{text_of_elements, text_of_index_fault}
@@ -16,15 +20,18 @@ offer_gdb AskCache = None
 offer_gdb q = Some q
 
 -- the text of the answer of an index, to a query of a name, an address or main
-abbrev pub gdb_text : GdbIndex → Query → Option (List ℕ)
-gdb_text i (AskName n) = Some (text_of_elements n (gdb_index_hits i n))
-gdb_text i (AskSimple n) = None
-gdb_text i (AskAddress a) = Some (text_of_answer (InUnit (number_at i a)))
-gdb_text i AskMain = Some (text_of_answer (MainIs (main_name i)))
-gdb_text i AskCache = None
+abbrev pub gdb_text_in : Spelling → GdbIndex → Query → Option (List ℕ)
+gdb_text_in spelling i (AskName n) = Some (text_of_elements (spelled spelling n) (gdb_index_hits i n))
+gdb_text_in spelling i (AskSimple n) = None
+gdb_text_in spelling i (AskAddress a) = Some (text_of_answer (answer_in spelling (InUnit (number_at i a))))
+gdb_text_in spelling i AskMain = Some (text_of_answer (answer_in spelling (MainIs (main_name i))))
+gdb_text_in spelling i AskCache = None
+
+abbrev pub gdb_text : GdbIndex → Question → Option (List ℕ)
+gdb_text i q = gdb_text_in q.spelling i q.query
 
 -- the text is that of the answer of the index in these bytes, which have no fault
-pub record IsGdbAnswerOf (bytes : List ℕ) (q : Query) (text : List ℕ) : Type 0 where
+pub record IsGdbAnswerOf (bytes : List ℕ) (q : Question) (text : List ℕ) : Type 0 where
   pub index : GdbIndex
   pub accepted : gdb_index bytes ≡ Ok index
   pub text_is : gdb_text index q ≡ Some text
@@ -36,11 +43,11 @@ pub record IsGdbRefusalOf (bytes text : List ℕ) : Type 0 where
   pub text_is : text ≡ text_of_index_fault fault
 
 -- what the text of a result says, by its status: of an index, and of the bytes of one
-abbrev pub SaysLook : GdbIndex → Query → Status → List ℕ → Type 0
+abbrev pub SaysLook : GdbIndex → Question → Status → List ℕ → Type 0
 SaysLook index q Answered text = gdb_text index q ≡ Some text
 SaysLook index q other text = ⊥
 
-abbrev pub SaysGdb : List ℕ → Query → Status → List ℕ → Type 0
+abbrev pub SaysGdb : List ℕ → Question → Status → List ℕ → Type 0
 SaysGdb bytes q Answered text = IsGdbAnswerOf bytes q text
 SaysGdb bytes q IndexRefused text = IsGdbRefusalOf bytes text
 SaysGdb bytes q other text = ⊥

@@ -6,7 +6,8 @@ use Rattle.index_model.specs.declared.job.CacheKind.TheVariants.{Gdb8}
 use Rattle.index_model.specs.Answers.{Reply, Answered as Replied, Refused as Refuses, answer_to}
 use Rattle.index_model.specs.Cache.{Cache, DoesNotFit, size_in}
 use Rattle.index_model.specs.Faults.{Built, built_of, first_fault, IsAccepted}
-use Rattle.index_model.specs.Queries.{Query}
+use Rattle.query_text.specs.Questions.{Question}
+use Rattle.query_text.specs.Spelled.{answer_in}
 use Rattle.index_model.specs.Texts.{line, text_of_answer, text_of_fault}
 use Rattle.outside.specs.declared.shelf.Failed.{Failed}
 use Rattle.outside.specs.Files.{Files}
@@ -18,10 +19,10 @@ use Rattle.command_base.specs.declared.status.Status.TheVariants.{Answered, Refu
 -- ---- texts
 
 -- the text is that of the answer of these bytes, which have no fault
-pub record IsAnswerOf (file : List ℕ) (q : Query) (text : List ℕ) : Type 0 where
+pub record IsAnswerOf (file : List ℕ) (q : Question) (text : List ℕ) : Type 0 where
   pub built : Built
   pub accepted : built_of file ≡ Ok built
-  pub text_is : text ≡ text_of_answer (answer_to built (size_in Gdb8 (Ok built)) q)
+  pub text_is : text ≡ text_of_answer (answer_in q.spelling (answer_to built (size_in Gdb8 (Ok built)) q.query))
 
 -- the text is that of the first fault of these bytes
 pub record IsRefusalOf (file text : List ℕ) : Type 0 where
@@ -40,7 +41,7 @@ OfFileBytes told file P = OfBytesUpTo MAX_FILE_BYTES told file P
 -- ---- results
 
 -- what the text of a result says, by its status: over the bytes of a file, and by a reply
-abbrev pub SaysFile : List ℕ → Query → Status → List ℕ → Type 0
+abbrev pub SaysFile : List ℕ → Question → Status → List ℕ → Type 0
 SaysFile file q Answered text = IsAnswerOf file q text
 SaysFile file q Refused text = IsRefusalOf file text
 SaysFile file q other text = ⊥

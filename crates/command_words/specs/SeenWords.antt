@@ -14,6 +14,7 @@ use Rattle.command_words.specs.declared.kept_words.Cached.{Cached}
 use Rattle.command_words.specs.declared.table_words.Aranges.{Aranges}
 use Rattle.command_words.specs.declared.table_words.Files.{Files}
 use Rattle.command_words.specs.declared.options.Counted.{Counted}
+use Rattle.command_words.specs.declared.options.Quoting.{Quoting}
 use Rattle.command_words.specs.declared.options.Named.{Named}
 use Rattle.command_words.specs.declared.options.NamedTwo.{NamedTwo}
 use Rattle.command_words.specs.DrillWords.{Drilled}
@@ -21,7 +22,7 @@ use Rattle.command_words.specs.SessionWords.{Raced, Served, Counted as CountedOf
 use Rattle.command_words.specs.KeptWords.{Kept}
 use Rattle.command_words.specs.TableWords.{Compared, Sought}
 use Rattle.command_words.specs.Taken.{Named as NamedOf, NamedTwo as NamedTwoOf}
-use Rattle.command_words.specs.WordParts.{Workers}
+use Rattle.command_words.specs.WordParts.{Workers, Quoting as QuotingOf}
 use Rattle.command_words.specs.Words as grammar
 
 -- the bytes of each word
@@ -29,16 +30,16 @@ abbrev pub words_of : {Z : Type 0} → List (String Z) → List (List ℕ)
 words_of words = map string_bytes words
 
 abbrev pub seen_ask : Ask → grammar.Asked
-seen_ask a = record { workers = a.workers; file = a.file.now; query = words_of a.query.now }
+seen_ask a = record { workers = a.workers; spelling = a.spelling; file = a.file.now; query = words_of a.query.now }
 
 abbrev pub seen_index : Index → grammar.Indexed
 seen_index i = record { kind = i.kind; workers = i.workers; file = i.file.now; out = i.out.now }
 
 abbrev pub seen_look : LookGdb → grammar.Looked
-seen_look l = record { index = l.index.now; query = words_of l.query.now }
+seen_look l = record { spelling = l.spelling; index = l.index.now; query = words_of l.query.now }
 
 abbrev pub seen_names : LookNames → grammar.NamesLooked
-seen_names l = record { base = l.base; index = l.index.now; strings = l.strings.now; query = words_of l.query.now }
+seen_names l = record { base = l.base; spelling = l.spelling; index = l.index.now; strings = l.strings.now; query = words_of l.query.now }
 
 abbrev pub seen_counted : Counted → CountedOf
 seen_counted c = record { number = c.number; others = words_of c.others.now }
@@ -51,6 +52,10 @@ seen_workers c = record { workers = c.number; others = words_of c.others.now }
 abbrev pub seen_based : Counted → grammar.Based
 seen_based c = record { base = c.number; others = words_of c.others.now }
 
+-- how names are written
+abbrev pub seen_quoting : Quoting → QuotingOf
+seen_quoting q = record { spelling = q.spelling; others = words_of q.others.now }
+
 abbrev pub seen_named : Named → NamedOf
 seen_named n = record { file = n.file.now; others = words_of n.others.now }
 
@@ -58,10 +63,10 @@ abbrev pub seen_named_two : NamedTwo → NamedTwoOf
 seen_named_two n = record { first = n.first.now; second = n.second.now; others = words_of n.others.now }
 
 abbrev pub seen_serve : Serve → Served
-seen_serve s = record { workers = s.workers; wait = s.wait; file = s.file.now }
+seen_serve s = record { workers = s.workers; wait = s.wait; spelling = s.spelling; file = s.file.now }
 
 abbrev pub seen_race : Race → Raced
-seen_race r = record { workers = r.workers; readers = r.readers; file = r.file.now; script = r.script.now }
+seen_race r = record { workers = r.workers; readers = r.readers; spelling = r.spelling; file = r.file.now; script = r.script.now }
 
 abbrev pub seen_drill : Drill → Drilled
 seen_drill d = record { seed = d.seed; units = d.units; workers = d.workers }
@@ -73,7 +78,7 @@ abbrev pub seen_files : Files → Sought
 seen_files f = record { workers = f.workers; file = f.file.now; name = f.name.now }
 
 abbrev pub seen_cached : Cached → Kept
-seen_cached c = record { workers = c.workers; file = c.file.now; store = c.store.now; query = words_of c.query.now }
+seen_cached c = record { workers = c.workers; spelling = c.spelling; file = c.file.now; store = c.store.now; query = words_of c.query.now }
 
 abbrev pub seen_command : Command → grammar.Wanted
 seen_command code.Help = grammar.Help

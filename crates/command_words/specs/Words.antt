@@ -1,5 +1,5 @@
--- The words of a command line, each as its bytes: `ask [--workers N] FILE QUERY`, `index --as KIND [--workers N] FILE OUT`,
--- `look gdb INDEX QUERY`, `look names [--base B] INDEX STRINGS QUERY`, `aranges`, `files`, `cached`, `serve`, `race`, `drill`, `--help`, `--version`.
+-- The words of a command line, each as its bytes: `ask [--workers N] [--quote] FILE QUERY`, `index --as KIND [--workers N] FILE OUT`,
+-- `look gdb [--quote] INDEX QUERY`, `look names [--base B] [--quote] INDEX STRINGS QUERY`, `aranges`, `files`, `cached`, `serve`, `race`, `drill`, `--help`, `--version`.
 use Rattle.std.specs.Prelude.{ℕ, ◌&&◌, nat_lt, ◌==◌, if◌then◌else◌, List, [], ◌∷◌, length, bytes_eq, codes, Option, Some, None, option_map, option_and_then}
 use Rattle.std.specs.List.{join_with_byte}
 use Rattle.index_model.specs.declared.job.CacheKind.{CacheKind}
@@ -9,11 +9,13 @@ use Rattle.command_words.specs.DrillWords.{Drilled, drill_of}
 use Rattle.command_words.specs.SessionWords.{Raced, Served, race_of, serve_of}
 use Rattle.command_words.specs.KeptWords.{Kept, kept_of}
 use Rattle.command_words.specs.TableWords.{Compared, Sought, aranges_of, sought_of}
-use Rattle.command_words.specs.WordParts.{is_file_name, workers_and_others}
+use Rattle.name_quotes.specs.declared.quote.Spelling.{Spelling}
+use Rattle.command_words.specs.WordParts.{Quoting, is_file_name, quoting_and_others, workers_and_others}
 
--- `ask`: how many workers, the file's name, and the words of the query
+-- `ask`: how many workers, how names are written, the file's name, and the words of the query
 pub record Asked : Type 0 where
   pub workers : ℕ
+  pub spelling : Spelling
   pub file : List ℕ
   pub query : List (List ℕ)
 
@@ -25,14 +27,16 @@ pub record Indexed : Type 0 where
   pub file : List ℕ
   pub out : List ℕ
 
--- `look gdb`: the index's name, and the words of the query
+-- `look gdb`: how names are written, the index's name, and the words of the query
 pub record Looked : Type 0 where
+  pub spelling : Spelling
   pub index : List ℕ
   pub query : List (List ℕ)
 
--- `look names`: from where on the strings are given, the names of the index and of the strings, and the words of the query
+-- `look names`: from where on the strings are given, how names are written, the names of the index and of the strings, and the words of the query
 pub record NamesLooked : Type 0 where
   pub base : ℕ
+  pub spelling : Spelling
   pub index : List ℕ
   pub strings : List ℕ
   pub query : List (List ℕ)
@@ -57,13 +61,16 @@ pub record Based : Type 0 where
   pub others : List (List ℕ)
 
 -- a file's name, and then a query of one word or more
-abbrev pub file_and_query : ℕ → List (List ℕ) → Option Asked
-file_and_query n [] = None
-file_and_query n (file ∷ query) = if is_file_name file && nat_lt 0 (length query) then Some (record { workers = n; file = file; query = query }) else None
+abbrev pub file_and_query : ℕ → Spelling → List (List ℕ) → Option Asked
+file_and_query n spelling [] = None
+file_and_query n spelling (file ∷ query) = if is_file_name file && nat_lt 0 (length query) then Some (record { workers = n; spelling = spelling; file = file; query = query }) else None
+
+abbrev pub asked_from : ℕ → Quoting → Option Asked
+asked_from n q = file_and_query n q.spelling q.others
 
 -- the words behind `ask`
 abbrev pub ask_of : List (List ℕ) → Option Asked
-ask_of words = option_and_then (λ w. file_and_query w.workers w.others) (workers_and_others words)
+ask_of words = option_and_then (λ w. asked_from w.workers (quoting_and_others w.others)) (workers_and_others words)
 
 -- the kinds of indexes
 abbrev pub kind_named : List ℕ → Option CacheKind
@@ -86,9 +93,16 @@ index_of [] = None
 index_of (word ∷ others) = if bytes_eq word (codes "--as") then index_as others else None
 
 -- an index's name, and then a query of one word or more
+abbrev pub index_and_query : Spelling → List (List ℕ) → Option Looked
+index_and_query spelling [] = None
+index_and_query spelling (index ∷ query) = if is_file_name index && nat_lt 0 (length query) then Some (record { spelling = spelling; index = index; query = query }) else None
+
+abbrev pub looked_from : Quoting → Option Looked
+looked_from q = index_and_query q.spelling q.others
+
+-- the words behind `gdb`
 abbrev pub look_gdb_of : List (List ℕ) → Option Looked
-look_gdb_of [] = None
-look_gdb_of (index ∷ query) = if is_file_name index && nat_lt 0 (length query) then Some (record { index = index; query = query }) else None
+look_gdb_of words = looked_from (quoting_and_others words)
 
 -- what stands behind `--base`: a number from 0 to 4,294,967,295
 abbrev pub base_before : List (List ℕ) → Option Based
@@ -101,14 +115,17 @@ base_and_others [] = Some (record { base = 0; others = [] })
 base_and_others (word ∷ others) = if bytes_eq word (codes "--base") then base_before others else Some (record { base = 0; others = word ∷ others })
 
 -- the names of an index and of its strings, and then a query of one word or more
-abbrev pub names_and_query : ℕ → List (List ℕ) → Option NamesLooked
-names_and_query base [] = None
-names_and_query base (index ∷ []) = None
-names_and_query base (index ∷ strings ∷ query) = if is_file_name index && is_file_name strings && nat_lt 0 (length query) then Some (record { base = base; index = index; strings = strings; query = query }) else None
+abbrev pub names_and_query : ℕ → Spelling → List (List ℕ) → Option NamesLooked
+names_and_query base spelling [] = None
+names_and_query base spelling (index ∷ []) = None
+names_and_query base spelling (index ∷ strings ∷ query) = if is_file_name index && is_file_name strings && nat_lt 0 (length query) then Some (record { base = base; spelling = spelling; index = index; strings = strings; query = query }) else None
+
+abbrev pub names_from : ℕ → Quoting → Option NamesLooked
+names_from base q = names_and_query base q.spelling q.others
 
 -- the words behind `names`
 abbrev pub look_names_of : List (List ℕ) → Option NamesLooked
-look_names_of words = option_and_then (λ b. names_and_query b.base b.others) (base_and_others words)
+look_names_of words = option_and_then (λ b. names_from b.base (quoting_and_others b.others)) (base_and_others words)
 
 -- the words behind `look`
 abbrev pub look_of : List (List ℕ) → Option Wanted

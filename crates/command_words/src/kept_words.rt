@@ -5,12 +5,14 @@ ghost use Rattle.std.specs.Option.{ForSome};
 ghost use Rattle.command_words.specs.KeptWords.{kept_of, store_and_query};
 ghost use Rattle.command_words.specs.SeenWords.{seen_cached, words_of, IsWorkers};
 
-use crate::options::{split_two_files, split_workers};
+use crate::options::{Quoting, split_quoting, split_two_files, split_workers};
+use name_quotes::Spelling;
 
-/// `cached [--workers N] FILE STORE QUERY`.
+/// `cached [--workers N] [--quote] FILE STORE QUERY`.
 #[derive(Clone, Copy)]
 pub struct Cached<'w> {
     pub workers: u32,
+    pub spelling: Spelling,
     pub file: &'w str,
     /// What stands before the names of kept indexes.
     pub store: &'w str,
@@ -23,13 +25,18 @@ pub(crate) fn parse_cached(words: &[String]) -> Option<Cached<'_>>
     ensures workers { ForSome result (λ c. IsWorkers c.workers) }
 {
     let workers = split_workers(words)?;
-    store_and_query(workers.number, workers.others)
+    let Quoting { spelling, others } = split_quoting(workers.others);
+    store_and_query(workers.number, spelling, others)
 }
 
 // A file's name, that of a store, and a query.
-fn store_and_query(workers: u32, words: &[String]) -> Option<Cached<'_>>
+fn store_and_query(
+    workers: u32,
+    spelling: Spelling,
+    words: &[String],
+) -> Option<Cached<'_>>
     requires { IsWorkers workers }
-    ensures value { option_map seen_cached result ≡ store_and_query workers (words_of words.now) }
+    ensures value { option_map seen_cached result ≡ store_and_query workers spelling (words_of words.now) }
     ensures workers { ForSome result (λ c. IsWorkers c.workers) }
 {
     let names = split_two_files(words)?;
@@ -38,6 +45,7 @@ fn store_and_query(workers: u32, words: &[String]) -> Option<Cached<'_>>
     }
     Some(Cached {
         workers,
+        spelling,
         file: names.first,
         store: names.second,
         query: names.others,

@@ -2,13 +2,14 @@
 
 ghost use Rattle.std.specs.Prelude.{◌≡◌, ◌≤◌, option_map};
 ghost use Rattle.std.specs.Option.{ForSome};
-ghost use Rattle.command_words.specs.SeenWords.{seen_based, seen_counted, seen_named, seen_named_two, seen_workers, words_of, IsWorkers};
+ghost use Rattle.command_words.specs.SeenWords.{seen_based, seen_counted, seen_named, seen_named_two, seen_quoting, seen_workers, words_of, IsWorkers};
 ghost use Rattle.command_words.specs.SessionWords.{number_before, option_and_others};
 ghost use Rattle.command_words.specs.Taken.{file_and_others, two_files_and_others};
 ghost use Rattle.command_words.specs.Words.{base_and_others};
-ghost use Rattle.command_words.specs.WordParts.{is_file_name, workers_and_others};
+ghost use Rattle.command_words.specs.WordParts.{is_file_name, quoting_and_others, workers_and_others};
 
 use crate::number::number;
+use name_quotes::Spelling;
 
 /// An option with a number behind it.
 #[derive(Clone, Copy)]
@@ -56,6 +57,13 @@ pub(crate) const BASE: NumberOption = NumberOption {
 #[derive(Clone, Copy)]
 pub(crate) struct Counted<'w> {
     pub number: u32,
+    pub others: &'w [String],
+}
+
+/// How names are written, and the words behind that.
+#[derive(Clone, Copy)]
+pub(crate) struct Quoting<'w> {
+    pub spelling: Spelling,
     pub others: &'w [String],
 }
 
@@ -119,6 +127,22 @@ fn number_before(low: u32, high: u32, words: &[String]) -> Option<Counted<'_>>
     let (word, others) = words.split_first()?;
     let number = number(word.as_bytes(), low, high)?;
     Some(Counted { number, others })
+}
+
+/// Whether names are quoted, and the words behind that.
+pub(crate) fn split_quoting(words: &[String]) -> Quoting<'_>
+    ensures { seen_quoting result ≡ quoting_and_others (words_of words.now) }
+{
+    match words.split_first() {
+        Some((word, others)) if word.as_str() == "--quote" => Quoting {
+            spelling: Spelling::Quoted,
+            others,
+        },
+        _ => Quoting {
+            spelling: Spelling::Plain,
+            others: words,
+        },
+    }
 }
 
 /// The name of a file, and the words behind it.

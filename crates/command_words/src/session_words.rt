@@ -6,23 +6,27 @@ ghost use Rattle.command_words.specs.SessionWords.{race_files, race_of, serve_fi
 ghost use Rattle.command_words.specs.SeenWords.{seen_race, seen_serve, words_of, IsRace, IsReaders, IsServe, IsWorkers};
 
 use crate::options::{
-    Named, READERS, WAIT, split_file, split_number, split_two_files, split_workers,
+    Named, Quoting, READERS, WAIT, split_file, split_number, split_quoting, split_two_files,
+    split_workers,
 };
+use name_quotes::Spelling;
 
-/// `serve [--workers N] [--wait S] FILE`.
+/// `serve [--workers N] [--wait S] [--quote] FILE`.
 #[derive(Clone, Copy)]
 pub struct Serve<'w> {
     pub workers: u32,
     /// The session begins after a mark of at least this stage, 0 to 3.
     pub wait: u8,
+    pub spelling: Spelling,
     pub file: &'w str,
 }
 
-/// `race [--workers N] [--readers M] FILE SCRIPT`.
+/// `race [--workers N] [--readers M] [--quote] FILE SCRIPT`.
 #[derive(Clone, Copy)]
 pub struct Race<'w> {
     pub workers: u32,
     pub readers: u32,
+    pub spelling: Spelling,
     pub file: &'w str,
     pub script: &'w str,
 }
@@ -33,14 +37,20 @@ pub(crate) fn parse_serve(words: &[String]) -> Option<Serve<'_>>
 {
     let workers = split_workers(words)?;
     let wait = split_number(WAIT, workers.others)?;
-    serve_file(workers.number, wait.number as u8, wait.others)
+    let Quoting { spelling, others } = split_quoting(wait.others);
+    serve_file(workers.number, wait.number as u8, spelling, others)
 }
 
 // One file's name and nothing behind it.
-fn serve_file(workers: u32, wait: u8, words: &[String]) -> Option<Serve<'_>>
+fn serve_file(
+    workers: u32,
+    wait: u8,
+    spelling: Spelling,
+    words: &[String],
+) -> Option<Serve<'_>>
     requires workers { IsWorkers workers }
     requires wait { wait ≤ 3 }
-    ensures value { option_map seen_serve result ≡ serve_file workers wait (words_of words.now) }
+    ensures value { option_map seen_serve result ≡ serve_file workers wait spelling (words_of words.now) }
     ensures range { ForSome result IsServe }
 {
     let Named { file, others } = split_file(words)?;
@@ -50,6 +60,7 @@ fn serve_file(workers: u32, wait: u8, words: &[String]) -> Option<Serve<'_>>
     Some(Serve {
         workers,
         wait,
+        spelling,
         file,
     })
 }
@@ -60,14 +71,20 @@ pub(crate) fn parse_race(words: &[String]) -> Option<Race<'_>>
 {
     let workers = split_workers(words)?;
     let readers = split_number(READERS, workers.others)?;
-    race_files(workers.number, readers.number, readers.others)
+    let Quoting { spelling, others } = split_quoting(readers.others);
+    race_files(workers.number, readers.number, spelling, others)
 }
 
 // The names of a file and of a script, and nothing behind them.
-fn race_files(workers: u32, readers: u32, words: &[String]) -> Option<Race<'_>>
+fn race_files(
+    workers: u32,
+    readers: u32,
+    spelling: Spelling,
+    words: &[String],
+) -> Option<Race<'_>>
     requires workers { IsWorkers workers }
     requires readers { IsReaders readers }
-    ensures value { option_map seen_race result ≡ race_files workers readers (words_of words.now) }
+    ensures value { option_map seen_race result ≡ race_files workers readers spelling (words_of words.now) }
     ensures range { ForSome result IsRace }
 {
     let files = split_two_files(words)?;
@@ -77,6 +94,7 @@ fn race_files(workers: u32, readers: u32, words: &[String]) -> Option<Race<'_>>
     Some(Race {
         workers,
         readers,
+        spelling,
         file: files.first,
         script: files.second,
     })

@@ -2,15 +2,18 @@
 
 ghost use Rattle.std.specs.Prelude.{◌≡◌, option_map};
 ghost use Rattle.std.specs.Option.{ForSome};
-ghost use Rattle.command_words.specs.Words.{about, ask_of, command_of, file_and_query, files_of, index_as, index_of, kind_named, look_gdb_of, look_names_of, longer_command, look_of, names_and_query, other_command, session_command, table_command};
+ghost use Rattle.command_words.specs.Words.{about, ask_of, command_of, file_and_query, files_of, index_and_query, index_as, index_of, kind_named, look_gdb_of, look_names_of, longer_command, look_of, names_and_query, other_command, session_command, table_command};
 ghost use Rattle.command_words.specs.SeenWords.{seen_ask, seen_index, seen_look, seen_names, seen_command, words_of, HasWorkers, IsWorkers};
 
 use crate::drill_words::{Drill, parse_drill};
 use crate::kept_words::{Cached, parse_cached};
-use crate::options::{Named, split_base, split_file, split_two_files, split_workers};
+use crate::options::{
+    Named, Quoting, split_base, split_file, split_quoting, split_two_files, split_workers,
+};
 use crate::session_words::{Race, Serve, parse_race, parse_serve};
 use crate::table_words::{Aranges, Files, parse_aranges, parse_files};
 use index_model::CacheKind;
+use name_quotes::Spelling;
 
 /// What a command line asks for.
 #[derive(Clone, Copy)]
@@ -30,10 +33,11 @@ pub enum Command<'w> {
     Cached(Cached<'w>),
 }
 
-/// `ask [--workers N] FILE QUERY`.
+/// `ask [--workers N] [--quote] FILE QUERY`.
 #[derive(Clone, Copy)]
 pub struct Ask<'w> {
     pub workers: u32,
+    pub spelling: Spelling,
     pub file: &'w str,
     /// The words of the query, one at least.
     pub query: &'w [String],
@@ -49,19 +53,21 @@ pub struct Index<'w> {
     pub out: &'w str,
 }
 
-/// `look gdb INDEX QUERY`.
+/// `look gdb [--quote] INDEX QUERY`.
 #[derive(Clone, Copy)]
 pub struct LookGdb<'w> {
+    pub spelling: Spelling,
     pub index: &'w str,
     /// The words of the query, one at least.
     pub query: &'w [String],
 }
 
-/// `look names [--base B] INDEX STRINGS QUERY`.
+/// `look names [--base B] [--quote] INDEX STRINGS QUERY`.
 #[derive(Clone, Copy)]
 pub struct LookNames<'w> {
     /// The offset in the string section of the first byte of the strings.
     pub base: u32,
+    pub spelling: Spelling,
     pub index: &'w str,
     pub strings: &'w str,
     /// The words of the query, one at least.
@@ -158,13 +164,14 @@ fn parse_ask(words: &[String]) -> Option<Ask<'_>>
     ensures workers { ForSome result (λ x. IsWorkers x.workers) }
 {
     let workers = split_workers(words)?;
-    ask_file(workers.number, workers.others)
+    let Quoting { spelling, others } = split_quoting(workers.others);
+    ask_file(workers.number, spelling, others)
 }
 
 // A file's name, and then a query.
-fn ask_file(workers: u32, words: &[String]) -> Option<Ask<'_>>
+fn ask_file(workers: u32, spelling: Spelling, words: &[String]) -> Option<Ask<'_>>
     requires { IsWorkers workers }
-    ensures value { option_map seen_ask result ≡ file_and_query workers (words_of words.now) }
+    ensures value { option_map seen_ask result ≡ file_and_query workers spelling (words_of words.now) }
     ensures workers { ForSome result (λ x. IsWorkers x.workers) }
 {
     let Named { file, others } = split_file(words)?;
@@ -173,6 +180,7 @@ fn ask_file(workers: u32, words: &[String]) -> Option<Ask<'_>>
     }
     Some(Ask {
         workers,
+        spelling,
         file,
         query: others,
     })
@@ -245,11 +253,20 @@ fn parse_look(words: &[String]) -> Option<Command<'_>>
 fn parse_look_gdb(words: &[String]) -> Option<LookGdb<'_>>
     ensures { option_map seen_look result ≡ look_gdb_of (words_of words.now) }
 {
+    let Quoting { spelling, others } = split_quoting(words);
+    look_gdb_file(spelling, others)
+}
+
+// The name of an index, and a query.
+fn look_gdb_file(spelling: Spelling, words: &[String]) -> Option<LookGdb<'_>>
+    ensures { option_map seen_look result ≡ index_and_query spelling (words_of words.now) }
+{
     let Named { file, others } = split_file(words)?;
     if others.is_empty() {
         return None;
     }
     Some(LookGdb {
+        spelling,
         index: file,
         query: others,
     })
@@ -259,12 +276,17 @@ fn parse_look_names(words: &[String]) -> Option<LookNames<'_>>
     ensures { option_map seen_names result ≡ look_names_of (words_of words.now) }
 {
     let base = split_base(words)?;
-    look_names_files(base.number, base.others)
+    let Quoting { spelling, others } = split_quoting(base.others);
+    look_names_files(base.number, spelling, others)
 }
 
 // The names of an index and of its strings, and a query.
-fn look_names_files(base: u32, words: &[String]) -> Option<LookNames<'_>>
-    ensures { option_map seen_names result ≡ names_and_query base (words_of words.now) }
+fn look_names_files(
+    base: u32,
+    spelling: Spelling,
+    words: &[String],
+) -> Option<LookNames<'_>>
+    ensures { option_map seen_names result ≡ names_and_query base spelling (words_of words.now) }
 {
     let files = split_two_files(words)?;
     if files.others.is_empty() {
@@ -272,6 +294,7 @@ fn look_names_files(base: u32, words: &[String]) -> Option<LookNames<'_>>
     }
     Some(LookNames {
         base,
+        spelling,
         index: files.first,
         strings: files.second,
         query: files.others,

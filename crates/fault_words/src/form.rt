@@ -9,6 +9,8 @@ pub(crate) enum Kind {
     Number { low: u32, high: u32 },
     /// The kind of an index.
     Index,
+    /// Nothing: the option is there or isn't.
+    Flag,
 }
 
 /// An option or an operand.
@@ -57,6 +59,13 @@ const KIND: Value = Value {
     is_needed: true,
 };
 
+const QUOTE: Value = Value {
+    name: "--quote",
+    kind: Kind::Flag,
+    takes: "",
+    is_needed: false,
+};
+
 const WORKERS: Value = number!("--workers" 1 64 "a number from 1 to 64");
 
 const READERS: Value = number!("--readers" 1 16 "a number from 1 to 16");
@@ -80,15 +89,15 @@ macro_rules! forms {
 
 /// All commands but `--help` and `--version`.
 pub(crate) static FORMS: [Form; 11] = forms! {
-    "ask" "" &[WORKERS]; &[file!("FILE")]; &["name", "simple", "addr", "main", "cache"];
+    "ask" "" &[WORKERS, QUOTE]; &[file!("FILE")]; &["name", "simple", "addr", "main", "cache"];
     "index" "" &[KIND, WORKERS]; &[file!("FILE"), file!("OUT")]; &[];
     "add" "" &[KIND, WORKERS]; &[file!("FILE"), file!("OUT")]; &[];
     "aranges" "" &[WORKERS]; &[file!("FILE")]; &[];
     "files" "" &[WORKERS]; &[file!("FILE"), file!("NAME")]; &[];
-    "cached" "" &[WORKERS]; &[file!("FILE"), file!("STORE")]; &["name", "addr", "main"];
-    "look" "gdb" &[]; &[file!("INDEX")]; &["name", "addr", "main"];
-    "look" "names" &[BASE]; &[file!("INDEX"), file!("STRINGS")]; &["name"];
-    "serve" "" &[WORKERS, WAIT]; &[file!("FILE")]; &[];
-    "race" "" &[WORKERS, READERS]; &[file!("FILE"), file!("SCRIPT")]; &[];
+    "cached" "" &[WORKERS, QUOTE]; &[file!("FILE"), file!("STORE")]; &["name", "addr", "main"];
+    "look" "gdb" &[QUOTE]; &[file!("INDEX")]; &["name", "addr", "main"];
+    "look" "names" &[BASE, QUOTE]; &[file!("INDEX"), file!("STRINGS")]; &["name"];
+    "serve" "" &[WORKERS, WAIT, QUOTE]; &[file!("FILE")]; &[];
+    "race" "" &[WORKERS, READERS, QUOTE]; &[file!("FILE"), file!("SCRIPT")]; &[];
     "drill" "" &[]; &[SEED, UNITS, N]; &[];
 };

@@ -8,7 +8,7 @@ struct Help {
 }
 
 const ASK: &str = "\
-usage: gdbix ask [--workers N] FILE QUERY
+usage: gdbix ask [--workers N] [--quote] FILE QUERY
 
 Builds the symbol index of FILE and answers QUERY from it:
   name NAME    the entries with this name: scopes before it in C++ and Ada
@@ -18,6 +18,7 @@ Builds the symbol index of FILE and answers QUERY from it:
   cache        the length of the .gdb_index
 An entry is a line UNIT OFFSET TAG KIND SCOPE WAY NAME; readelf -wi shows the
 entry at <OFFSET>. 'found 0' and 'none' are answers, with status 0.
+With --quote a control byte or a backslash of a name is written as \\xHH.
 N is the number of workers, 1 to 64, by default 4; no answer depends on it.
 
   gdbix ask app name main
@@ -69,7 +70,7 @@ N is the number of workers, 1 to 64, by default 4; no answer depends on it.
 ";
 
 const CACHED: &str = "\
-usage: gdbix cached [--workers N] FILE STORE QUERY
+usage: gdbix cached [--workers N] [--quote] FILE STORE QUERY
 
 Answers QUERY (name NAME, addr HEX or main) as look gdb does, from the index
 that is kept for FILE by its build-id, in the file named STORE, the build-id
@@ -77,14 +78,15 @@ and .gdb-index, all joined: end STORE with a slash to name a folder, which has
 to be there. Where none is kept, or what is kept isn't FILE's, it builds one
 and keeps it. The first line says which: hit, stale CODE PLACE, stored,
 unsaved.
+With --quote a control byte or a backslash of a name is written as \\xHH.
 N is the number of workers, 1 to 64, by default 4; no answer depends on it.
 
   gdbix cached app idx/ name main
 ";
 
 const LOOK: &str = "\
-usage: gdbix look gdb INDEX QUERY
-       gdbix look names [--base B] INDEX STRINGS QUERY
+usage: gdbix look gdb [--quote] INDEX QUERY
+       gdbix look names [--base B] [--quote] INDEX STRINGS QUERY
 
 look gdb answers from the .gdb_index section in INDEX, of version 8 or 9.
 QUERY is name NAME, addr HEX or main. An element is a line UNIT KIND SCOPE NAME.
@@ -94,29 +96,33 @@ in STRINGS, the .debug_str section from its byte B on, by default from 0; of
 what 'index --as names' stored B is the length of the program's .debug_str.
 QUERY is name NAME. An entry is a line SORT UNIT OFFSET TAG NAME.
 
+With --quote a control byte or a backslash of a name is written as \\xHH.
+
   objcopy -O binary --only-section=.gdb_index \\
     --set-section-flags .gdb_index=alloc app app.idx
   gdbix look gdb app.idx name main
 ";
 
 const SERVE: &str = "\
-usage: gdbix serve [--workers N] [--wait S] FILE
+usage: gdbix serve [--workers N] [--wait S] [--quote] FILE
 
 Answers the queries on the lines of standard input while the index of FILE is
 built. Before each answer stands the stage: 0 begun, 1 main and addresses,
 2 names, 3 all, 4 refused, 5 out of memory; before its stage a query is
 answered 'pending'. The first answer waits for stage S, 0 to 3, by default 0.
+With --quote a control byte or a backslash of a name is written as \\xHH.
 N is the number of workers, 1 to 64, by default 4; no answer depends on it.
 
   printf 'main\\nname main\\n' | gdbix serve --wait 3 app
 ";
 
 const RACE: &str = "\
-usage: gdbix race [--workers N] [--readers M] FILE SCRIPT
+usage: gdbix race [--workers N] [--readers M] [--quote] FILE SCRIPT
 
 Answers the lines of SCRIPT as serve does, for M readers at once, M being 1 to
 16, by default 2, while the index of FILE is built, and once more for each of
 them when it is built.
+With --quote a control byte or a backslash of a name is written as \\xHH.
 N is the number of workers, 1 to 64, by default 4; no answer depends on it.
 
   gdbix race app lines

@@ -86,6 +86,9 @@ fn skip_option<'w>(
 }
 
 fn skip_value(value: Value, words: &[String]) -> Result<&[String], Usage<'_>> {
+    if matches!(value.kind, Kind::Flag) {
+        return Ok(words);
+    }
     let (word, others) = words
         .split_first()
         .ok_or(Usage::Missing(value.name, value.takes))?;
@@ -117,6 +120,7 @@ fn fits(kind: Kind, word: &str) -> bool {
         Kind::File => !word.is_empty() && !word.starts_with("--"),
         Kind::Number { low, high } => is_number(word, low, high),
         Kind::Index => word == "gdb8" || word == "gdb9" || word == "names",
+        Kind::Flag => false,
     }
 }
 

@@ -9,10 +9,11 @@ pub mod LongLines
 mod LookLaws
 mod NewlineLaws
 pub mod PlaceLaws
+pub mod QuotedBytes
 pub mod SendingLaws
 pub mod SessionLaws
 mod ShortLines
-mod TextLaws
+pub mod TextLaws
 mod ElementLaws
 mod TranscriptLaws
 mod HitLaws

@@ -7,10 +7,10 @@ use Rattle.index_model.specs.declared.answer.Look.{Look}
 use Rattle.index_model.specs.Answers.{Reply}
 use Rattle.index_model.specs.Queries.{Query}
 use Rattle.index_model.specs.Seen.{reply_seen}
-use Rattle.index_model.specs.Transcripts.{text_of_look}
 use Rattle.index_board.specs.LookUps.{IsAsked}
 use Rattle.index_board.specs.Marks.{file_reply}
 use Rattle.index_board.specs.Readers.{Reader}
+use Rattle.name_quotes.specs.declared.quote.Spelling.{Spelling}
 use Rattle.query_text.specs.Gains.{Gains}
 use Rattle.query_text.specs.LookLines.{look_line}
 use Rattle.query_text.specs.Places.{PlacesFit}
@@ -36,6 +36,5 @@ module _ (old new : Reader) (q : Query) (r : Result Look NoMemory) (look : Look)
   look_gains = subst (λ (n : ℕ). Gains old new (n ∷ [])) (sym here.2.0) (gains_one old q here.0 new here.1)
 
   -- what is written of the look is the file's reply at that mark
-  pub look_said : look_line look.stage (reply_seen look.reply) ≡ look_text old.board.subject q look.stage
-  unfolding text_of_look
-  look_said = ap (λ (reply : Reply). look_line look.stage reply) (here.2.1 ∙ ap (λ (n : ℕ). file_reply old.board.subject q n) (sym here.2.0))
+  pub look_said : (spelling : Spelling) → look_line spelling look.stage (reply_seen look.reply) ≡ look_text spelling old.board.subject q look.stage
+  look_said spelling = ap (λ (reply : Reply). look_line spelling look.stage reply) (here.2.1 ∙ ap (λ (n : ℕ). file_reply old.board.subject q n) (sym here.2.0))

@@ -4,7 +4,9 @@ pub mod Heads
 pub mod Lines
 pub mod LookLines
 pub mod Places
+pub mod Questions
 pub mod Sending
+pub mod Spelled
 pub mod Sessions
 pub mod WholeLines
 pub mod LookHeads

@@ -20,6 +20,7 @@ use crate::send::flush;
 use crate::waiting::Waiting;
 use index_board::Reader;
 use index_model::{Look, Query};
+use name_quotes::Spelling;
 use outside::{Failed, Gate, Sink, write_all};
 use std::sync::Wait;
 
@@ -55,18 +56,19 @@ impl<'g, G: Gate> Asker<'g, G> {
 pub(crate) fn answer<R: Wait, K: Sink, G: Gate>(
     rt: &R,
     asker: &Asker<'_, G>,
+    spelling: Spelling,
     reader: &mut Reader<'_, '_>,
     out: &mut K,
     line: &[u8],
 ) -> Result<(), SessionFault>
-    ensures ok { OnOk result (Answers reader.old reader.new (K.written out.old) (K.written out.new) (line.now ∷ [])) }
-    ensures err { IfErr result (λ fault. Stops reader.old reader.new (K.written out.old) (K.written out.new) (K.write_faults out.old) (K.write_faults out.new) (line.now ∷ []) fault) }
+    ensures ok { OnOk result (Answers spelling reader.old reader.new (K.written out.old) (K.written out.new) (line.now ∷ [])) }
+    ensures err { IfErr result (λ fault. Stops spelling reader.old reader.new (K.written out.old) (K.written out.new) (K.write_faults out.old) (K.write_faults out.new) (line.now ∷ []) fault) }
     ensures counts { K.write_faults out.old ≤ K.write_faults out.new }
 {
     let Some(query) = parse(line) else {
         return write_bad_query(out);
     };
-    let stage = look_up(rt, reader, out, &query)?;
+    let stage = look_up(rt, spelling, reader, out, &query)?;
     asker.has_reply(rt, stage);
     Ok(())
 }
@@ -88,35 +90,36 @@ fn write_bad_query<K: Sink>(out: &mut K) -> Result<(), SessionFault>
 // One look-up, at one mark, and its reply. Answers the mark.
 fn look_up<R: Wait, K: Sink>(
     rt: &R,
+    spelling: Spelling,
     reader: &mut Reader<'_, '_>,
     out: &mut K,
     query: &Query<'_>,
 ) -> Result<u8, SessionFault>
-    ensures ok { IfOk result (λ mark. Gains reader.old reader.new (mark ∷ []) × Appends (K.written out.old) (K.written out.new) (look_text reader.old.board.subject (query_seen query.now) mark)) }
-    ensures err { IfErr result (λ fault. LookStops reader.old reader.new (K.written out.old) (K.written out.new) (K.write_faults out.old) (K.write_faults out.new) (query_seen query.now) fault) }
+    ensures ok { IfOk result (λ mark. Gains reader.old reader.new (mark ∷ []) × Appends (K.written out.old) (K.written out.new) (look_text spelling reader.old.board.subject (query_seen query.now) mark)) }
+    ensures err { IfErr result (λ fault. LookStops spelling reader.old reader.new (K.written out.old) (K.written out.new) (K.write_faults out.old) (K.write_faults out.new) (query_seen query.now) fault) }
     ensures counts { K.write_faults out.old ≤ K.write_faults out.new }
 {
     let look = match reader.query(rt, query) {
         Ok(look) => look,
         Err(_) => return Err(SessionFault::NoMemory),
     };
-    match write_look(out, &look) {
+    match write_look(out, spelling, &look) {
         Ok(()) => Ok(look.stage),
         Err(Failed) => Err(SessionFault::WriteFault),
     }
 }
 
 // The digit of the mark, a space, and the reply's text.
-fn write_look<K: Sink>(out: &mut K, look: &Look<'_>) -> Result<(), Failed>
+fn write_look<K: Sink>(out: &mut K, spelling: Spelling, look: &Look<'_>) -> Result<(), Failed>
     requires stage { look.now.stage ≤ 5 }
     requires fit { PlacesFit (reply_seen look.now.reply) }
-    ensures ok { OnOk result (Appends (K.written out.old) (K.written out.new) (look_line look.now.stage (reply_seen look.now.reply))) }
+    ensures ok { OnOk result (Appends (K.written out.old) (K.written out.new) (look_line spelling look.now.stage (reply_seen look.now.reply))) }
     ensures failed { OnErr result (Rose (K.write_faults out.old) (K.write_faults out.new)) }
-    ensures left { OnErr result (AppendsPrefix (K.written out.old) (K.written out.new) (look_line look.now.stage (reply_seen look.now.reply))) }
+    ensures left { OnErr result (AppendsPrefix (K.written out.old) (K.written out.new) (look_line spelling look.now.stage (reply_seen look.now.reply))) }
     ensures counts { K.write_faults out.old ≤ K.write_faults out.new }
 {
     let mut waiting = Waiting::new();
     waiting.push(&[b'0' + look.stage, b' ']);
-    send_reply(out, &mut waiting, &look.reply)?;
+    send_reply(out, &mut waiting, spelling, &look.reply)?;
     flush(out, &mut waiting)
 }

@@ -4,6 +4,7 @@ ghost use Rattle.std.specs.Prelude.{◌≡◌, ◌≤◌, ◌+◌, ◌<◌, ◌+
 ghost use Rattle.outside.specs.Counts.{Rose};
 ghost use Rattle.outside.specs.Written.{Appends, AppendsPrefix};
 ghost use Rattle.index_model.specs.LookTexts.{kind_in, text_of_element, text_of_elements, text_of_index_fault};
+ghost use Rattle.name_quotes.specs.Quotes.{spelled};
 ghost use Rattle.query_text.specs.LookHeads.{element_head};
 ghost use Rattle.query_text.specs.Sending.{room, Sends};
 
@@ -12,6 +13,7 @@ use crate::texts::{SHORT, push_count, push_fault, scope_word};
 use crate::waiting::Waiting;
 use gdbindex_read::Elements;
 use ix_base::Fault;
+use name_quotes::Spelling;
 use outside::{Failed, Sink};
 
 // The index number of a unit is below this.
@@ -29,16 +31,17 @@ const STATIC: u32 = 1 << 31;
 /// scope. Where that fails, a prefix of them was written. It takes no memory.
 pub fn write_elements<K: Sink>(
     out: &mut K,
+    spelling: Spelling,
     name: &[u8],
     elements: &Elements<'_>,
 ) -> Result<(), Failed>
-    ensures ok { OnOk result (Appends (K.written out.old) (K.written out.new) (text_of_elements name.now elements.now)) }
+    ensures ok { OnOk result (Appends (K.written out.old) (K.written out.new) (text_of_elements (spelled spelling name.now) elements.now)) }
     ensures failed { OnErr result (Rose (K.write_faults out.old) (K.write_faults out.new)) }
-    ensures left { OnErr result (AppendsPrefix (K.written out.old) (K.written out.new) (text_of_elements name.now elements.now)) }
+    ensures left { OnErr result (AppendsPrefix (K.written out.old) (K.written out.new) (text_of_elements (spelled spelling name.now) elements.now)) }
     ensures counts { K.write_faults out.old ≤ K.write_faults out.new }
 {
     let mut waiting = Waiting::new();
-    send_elements(out, &mut waiting, name, elements)?;
+    send_elements(out, &mut waiting, spelling, name, elements)?;
     flush(out, &mut waiting)
 }
 
@@ -59,33 +62,35 @@ pub fn write_index_fault<K: Sink>(out: &mut K, fault: Fault) -> Result<(), Faile
 fn send_elements<K: Sink>(
     out: &mut K,
     waiting: &mut Waiting,
+    spelling: Spelling,
     name: &[u8],
     elements: &Elements<'_>,
 ) -> Result<(), Failed>
     requires room { length waiting.old + 96 ≤ room }
-    ensures ok { OnOk result (Sends (K.written out.old) waiting.old (K.written out.new) waiting.new (text_of_elements name.now elements.now)) }
+    ensures ok { OnOk result (Sends (K.written out.old) waiting.old (K.written out.new) waiting.new (text_of_elements (spelled spelling name.now) elements.now)) }
     ensures failed { OnErr result (Rose (K.write_faults out.old) (K.write_faults out.new)) }
-    ensures left { OnErr result (AppendsPrefix (K.written out.old) (K.written out.new) (waiting.old ++ text_of_elements name.now elements.now)) }
+    ensures left { OnErr result (AppendsPrefix (K.written out.old) (K.written out.new) (waiting.old ++ text_of_elements (spelled spelling name.now) elements.now)) }
     ensures counts { K.write_faults out.old ≤ K.write_faults out.new }
 {
     push_count(waiting, elements.len() as u64);
-    send_each(out, waiting, name, elements)
+    send_each(out, waiting, spelling, name, elements)
 }
 
 // Each of the elements.
 fn send_each<K: Sink>(
     out: &mut K,
     waiting: &mut Waiting,
+    spelling: Spelling,
     name: &[u8],
     elements: &Elements<'_>,
 ) -> Result<(), Failed>
-    ensures ok { OnOk result (Sends (K.written out.old) waiting.old (K.written out.new) waiting.new (flat_map (text_of_element name.now) elements.now)) }
+    ensures ok { OnOk result (Sends (K.written out.old) waiting.old (K.written out.new) waiting.new (flat_map (text_of_element (spelled spelling name.now)) elements.now)) }
     ensures failed { OnErr result (Rose (K.write_faults out.old) (K.write_faults out.new)) }
-    ensures left { OnErr result (AppendsPrefix (K.written out.old) (K.written out.new) (waiting.old ++ flat_map (text_of_element name.now) elements.now)) }
+    ensures left { OnErr result (AppendsPrefix (K.written out.old) (K.written out.new) (waiting.old ++ flat_map (text_of_element (spelled spelling name.now)) elements.now)) }
     ensures counts { K.write_faults out.old ≤ K.write_faults out.new }
 {
     for i in 0..elements.len() {
-        send_element(out, waiting, name, elements.get(i))?;
+        send_element(out, waiting, spelling, name, elements.get(i))?;
     }
     Ok(())
 }
@@ -93,17 +98,18 @@ fn send_each<K: Sink>(
 fn send_element<K: Sink>(
     out: &mut K,
     waiting: &mut Waiting,
+    spelling: Spelling,
     name: &[u8],
     element: u32,
 ) -> Result<(), Failed>
-    ensures ok { OnOk result (Sends (K.written out.old) waiting.old (K.written out.new) waiting.new (text_of_element name.now element)) }
+    ensures ok { OnOk result (Sends (K.written out.old) waiting.old (K.written out.new) waiting.new (text_of_element (spelled spelling name.now) element)) }
     ensures failed { OnErr result (Rose (K.write_faults out.old) (K.write_faults out.new)) }
-    ensures left { OnErr result (AppendsPrefix (K.written out.old) (K.written out.new) (waiting.old ++ text_of_element name.now element)) }
+    ensures left { OnErr result (AppendsPrefix (K.written out.old) (K.written out.new) (waiting.old ++ text_of_element (spelled spelling name.now) element)) }
     ensures counts { K.write_faults out.old ≤ K.write_faults out.new }
 {
     make_room(out, waiting, SHORT)?;
     push_element(waiting, element);
-    send_name(out, waiting, name)
+    send_name(out, waiting, spelling, name)
 }
 
 // What stands before the name of an element.

@@ -11,6 +11,7 @@ mod answer;
 mod elements;
 mod fault;
 mod hex;
+mod laws;
 mod line_buf;
 mod names;
 mod query;
@@ -22,8 +23,9 @@ mod waiting;
 
 pub use elements::{write_elements, write_index_fault};
 pub use fault::SessionFault;
+pub use laws::plain_sessions_are_transcripts;
 pub use line_buf::LineBuf;
 pub use names::write_hits;
-pub use query::parse;
+pub use query::{Question, parse};
 pub use reply::write_reply;
 pub use sessions::session;

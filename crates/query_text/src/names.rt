@@ -6,6 +6,7 @@ ghost use Rattle.index_model.specs.NameIndexRead.{name_index_hits};
 ghost use Rattle.outside.specs.Counts.{Rose};
 ghost use Rattle.outside.specs.Written.{Appends, AppendsPrefix};
 ghost use Rattle.index_model.specs.LookTexts.{sort_word, text_of_hit, text_of_hits};
+ghost use Rattle.name_quotes.specs.Quotes.{spelled};
 ghost use Rattle.query_text.specs.LookHeads.{hit_head};
 ghost use Rattle.query_text.specs.Sending.{room, Sends};
 
@@ -13,20 +14,26 @@ use crate::send::{flush, make_room, send_name};
 use crate::texts::{SHORT, push_count};
 use crate::waiting::Waiting;
 use debugnames_read::{NameHit, NameHits, NameIndex, Sort};
+use name_quotes::Spelling;
 use outside::{Failed, Sink};
 
 /// Writes the entries that an index has for a name: how many there are, and of each the list of its unit, the place there, its
 /// offset in the unit and its tag. The name is looked up twice, to count and to write. Where that fails, a prefix of them was
 /// written. It takes no memory.
-pub fn write_hits<K: Sink>(out: &mut K, name: &[u8], index: &NameIndex<'_>) -> Result<(), Failed>
+pub fn write_hits<K: Sink>(
+    out: &mut K,
+    spelling: Spelling,
+    name: &[u8],
+    index: &NameIndex<'_>,
+) -> Result<(), Failed>
     requires { length (name_index_hits index.now name.now) < 2 ^ 64 }
-    ensures ok { OnOk result (Appends (K.written out.old) (K.written out.new) (text_of_hits name.now (name_index_hits index.now name.now))) }
+    ensures ok { OnOk result (Appends (K.written out.old) (K.written out.new) (text_of_hits (spelled spelling name.now) (name_index_hits index.now name.now))) }
     ensures failed { OnErr result (Rose (K.write_faults out.old) (K.write_faults out.new)) }
-    ensures left { OnErr result (AppendsPrefix (K.written out.old) (K.written out.new) (text_of_hits name.now (name_index_hits index.now name.now))) }
+    ensures left { OnErr result (AppendsPrefix (K.written out.old) (K.written out.new) (text_of_hits (spelled spelling name.now) (name_index_hits index.now name.now))) }
     ensures counts { K.write_faults out.old ≤ K.write_faults out.new }
 {
     let mut waiting = Waiting::new();
-    send_hits(out, &mut waiting, name, index)?;
+    send_hits(out, &mut waiting, spelling, name, index)?;
     flush(out, &mut waiting)
 }
 
@@ -34,34 +41,36 @@ pub fn write_hits<K: Sink>(out: &mut K, name: &[u8], index: &NameIndex<'_>) -> R
 fn send_hits<K: Sink>(
     out: &mut K,
     waiting: &mut Waiting,
+    spelling: Spelling,
     name: &[u8],
     index: &NameIndex<'_>,
 ) -> Result<(), Failed>
     requires room { length waiting.old + 96 ≤ room }
     requires fits { length (name_index_hits index.now name.now) < 2 ^ 64 }
-    ensures ok { OnOk result (Sends (K.written out.old) waiting.old (K.written out.new) waiting.new (text_of_hits name.now (name_index_hits index.now name.now))) }
+    ensures ok { OnOk result (Sends (K.written out.old) waiting.old (K.written out.new) waiting.new (text_of_hits (spelled spelling name.now) (name_index_hits index.now name.now))) }
     ensures failed { OnErr result (Rose (K.write_faults out.old) (K.write_faults out.new)) }
-    ensures left { OnErr result (AppendsPrefix (K.written out.old) (K.written out.new) (waiting.old ++ text_of_hits name.now (name_index_hits index.now name.now))) }
+    ensures left { OnErr result (AppendsPrefix (K.written out.old) (K.written out.new) (waiting.old ++ text_of_hits (spelled spelling name.now) (name_index_hits index.now name.now))) }
     ensures counts { K.write_faults out.old ≤ K.write_faults out.new }
 {
     push_count(waiting, index.find(name).count() as u64);
-    send_each(out, waiting, name, index.find(name))
+    send_each(out, waiting, spelling, name, index.find(name))
 }
 
 // Each of the entries.
 fn send_each<K: Sink>(
     out: &mut K,
     waiting: &mut Waiting,
+    spelling: Spelling,
     name: &[u8],
     hits: NameHits<'_, '_>,
 ) -> Result<(), Failed>
-    ensures ok { OnOk result (Sends (K.written out.old) waiting.old (K.written out.new) waiting.new (flat_map (text_of_hit name.now) hits.entry)) }
+    ensures ok { OnOk result (Sends (K.written out.old) waiting.old (K.written out.new) waiting.new (flat_map (text_of_hit (spelled spelling name.now)) hits.entry)) }
     ensures failed { OnErr result (Rose (K.write_faults out.old) (K.write_faults out.new)) }
-    ensures left { OnErr result (AppendsPrefix (K.written out.old) (K.written out.new) (waiting.old ++ flat_map (text_of_hit name.now) hits.entry)) }
+    ensures left { OnErr result (AppendsPrefix (K.written out.old) (K.written out.new) (waiting.old ++ flat_map (text_of_hit (spelled spelling name.now)) hits.entry)) }
     ensures counts { K.write_faults out.old ≤ K.write_faults out.new }
 {
     for hit in hits {
-        send_hit(out, waiting, name, hit)?;
+        send_hit(out, waiting, spelling, name, hit)?;
     }
     Ok(())
 }
@@ -69,17 +78,18 @@ fn send_each<K: Sink>(
 fn send_hit<K: Sink>(
     out: &mut K,
     waiting: &mut Waiting,
+    spelling: Spelling,
     name: &[u8],
     hit: NameHit,
 ) -> Result<(), Failed>
-    ensures ok { OnOk result (Sends (K.written out.old) waiting.old (K.written out.new) waiting.new (text_of_hit name.now (hit_seen hit))) }
+    ensures ok { OnOk result (Sends (K.written out.old) waiting.old (K.written out.new) waiting.new (text_of_hit (spelled spelling name.now) (hit_seen hit))) }
     ensures failed { OnErr result (Rose (K.write_faults out.old) (K.write_faults out.new)) }
-    ensures left { OnErr result (AppendsPrefix (K.written out.old) (K.written out.new) (waiting.old ++ text_of_hit name.now (hit_seen hit))) }
+    ensures left { OnErr result (AppendsPrefix (K.written out.old) (K.written out.new) (waiting.old ++ text_of_hit (spelled spelling name.now) (hit_seen hit))) }
     ensures counts { K.write_faults out.old ≤ K.write_faults out.new }
 {
     make_room(out, waiting, SHORT)?;
     push_hit(waiting, hit);
-    send_name(out, waiting, name)
+    send_name(out, waiting, spelling, name)
 }
 
 // What stands before the name of an entry.

@@ -7,6 +7,14 @@ ghost use Rattle.query_text.specs.Lines.{word_asked, argument_asked};
 
 use crate::hex::hex_number;
 use index_model::Query;
+use name_quotes::Spelling;
+
+/// A query, and how the names in its reply are written.
+#[derive(Clone, Copy)]
+pub struct Question<'q> {
+    pub query: Query<'q>,
+    pub spelling: Spelling,
+}
 
 /// What a line asks, without its newline; None exactly where it is a bad query.
 #[tactic(auto, using(crate::proofs::LineLaws::by_word, crate::proofs::LineLaws::by_argument), unfolding(index_model::specs::Queries::query_of))]

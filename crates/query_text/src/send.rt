@@ -2,13 +2,15 @@
 //!
 //! What waits is written where the next piece finds no room behind it, so a sink sees few writes.
 
-ghost use Rattle.std.specs.Prelude.{◌≡◌, ◌≤◌, ◌++◌, [], ◌∷◌, OnOk, OnErr};
+ghost use Rattle.std.specs.Prelude.{◌≡◌, ◌+◌, ◌≤◌, ◌++◌, [], ◌∷◌, length, OnOk, OnErr};
 ghost use Rattle.index_model.specs.Texts.{newline};
+ghost use Rattle.name_quotes.specs.Quotes.{quoted, quoted_byte, spelled};
 ghost use Rattle.outside.specs.Counts.{Rose};
 ghost use Rattle.outside.specs.Written.{Appends, AppendsPrefix};
-ghost use Rattle.query_text.specs.Sending.{HasRoom, Sends};
+ghost use Rattle.query_text.specs.Sending.{HasRoom, Sends, room};
 
 use crate::waiting::Waiting;
+use name_quotes::{Spelling, escape, is_shown};
 use outside::{Failed, Sink, write_all};
 
 /// Writes all that waits.
@@ -57,17 +59,72 @@ pub(crate) fn send<K: Sink>(out: &mut K, waiting: &mut Waiting, piece: &[u8]) ->
     Ok(())
 }
 
-/// Sends a name and the newline that ends its line.
+/// Sends a name, as it is written, and the newline that ends its line.
 pub(crate) fn send_name<K: Sink>(
     out: &mut K,
     waiting: &mut Waiting,
+    spelling: Spelling,
     name: &[u8],
 ) -> Result<(), Failed>
-    ensures ok { OnOk result (Sends (K.written out.old) waiting.old (K.written out.new) waiting.new (name.now ++ newline)) }
+    ensures ok { OnOk result (Sends (K.written out.old) waiting.old (K.written out.new) waiting.new (spelled spelling name.now ++ newline)) }
     ensures failed { OnErr result (Rose (K.write_faults out.old) (K.write_faults out.new)) }
-    ensures left { OnErr result (AppendsPrefix (K.written out.old) (K.written out.new) (waiting.old ++ (name.now ++ newline))) }
+    ensures left { OnErr result (AppendsPrefix (K.written out.old) (K.written out.new) (waiting.old ++ (spelled spelling name.now ++ newline))) }
     ensures counts { K.write_faults out.old ≤ K.write_faults out.new }
 {
-    send(out, waiting, name)?;
+    send_spelled(out, waiting, spelling, name)?;
     send(out, waiting, b"\n")
+}
+
+fn send_spelled<K: Sink>(
+    out: &mut K,
+    waiting: &mut Waiting,
+    spelling: Spelling,
+    name: &[u8],
+) -> Result<(), Failed>
+    ensures ok { OnOk result (Sends (K.written out.old) waiting.old (K.written out.new) waiting.new (spelled spelling name.now)) }
+    ensures failed { OnErr result (Rose (K.write_faults out.old) (K.write_faults out.new)) }
+    ensures left { OnErr result (AppendsPrefix (K.written out.old) (K.written out.new) (waiting.old ++ spelled spelling name.now)) }
+    ensures counts { K.write_faults out.old ≤ K.write_faults out.new }
+{
+    match spelling {
+        Spelling::Plain => send(out, waiting, name),
+        Spelling::Quoted => send_quoted(out, waiting, name),
+    }
+}
+
+// Sends what stands for each byte.
+#[tactic(auto, unfolding(name_quotes::specs::Quotes::quoted))]
+fn send_quoted<K: Sink>(out: &mut K, waiting: &mut Waiting, name: &[u8]) -> Result<(), Failed>
+    ensures ok { OnOk result (Sends (K.written out.old) waiting.old (K.written out.new) waiting.new (quoted name.now)) }
+    ensures failed { OnErr result (Rose (K.write_faults out.old) (K.write_faults out.new)) }
+    ensures left { OnErr result (AppendsPrefix (K.written out.old) (K.written out.new) (waiting.old ++ quoted name.now)) }
+    ensures counts { K.write_faults out.old ≤ K.write_faults out.new }
+{
+    for byte in name {
+        send_byte(out, waiting, *byte)?;
+    }
+    Ok(())
+}
+
+fn send_byte<K: Sink>(out: &mut K, waiting: &mut Waiting, byte: u8) -> Result<(), Failed>
+    ensures ok { OnOk result (Sends (K.written out.old) waiting.old (K.written out.new) waiting.new (quoted_byte byte)) }
+    ensures failed { OnErr result (Rose (K.write_faults out.old) (K.write_faults out.new)) }
+    ensures left { OnErr result (AppendsPrefix (K.written out.old) (K.written out.new) (waiting.old ++ quoted_byte byte)) }
+    ensures counts { K.write_faults out.old ≤ K.write_faults out.new }
+{
+    make_room(out, waiting, 4)?;
+    push_byte(waiting, byte);
+    Ok(())
+}
+
+// What stands for a byte in a quoted name.
+fn push_byte(waiting: &mut Waiting, byte: u8)
+    requires { length waiting.old + 4 ≤ room }
+    ensures { waiting.new ≡ waiting.old ++ quoted_byte byte }
+{
+    if is_shown(byte) {
+        waiting.push(&[byte]);
+    } else {
+        waiting.push(&escape(byte));
+    }
 }

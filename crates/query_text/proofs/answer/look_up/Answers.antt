@@ -13,7 +13,7 @@ returns-in-Ok-write_look-clause-ok g c =
     let q = query_seen c.args.query.now in (
       look_gains c.args.reader.now c.query.follows.lender-at-none q c.query.result c.in-Ok.look c.in-Ok.is c.query.follows.holds-at-none,
       subst (λ (t : List ℕ). Appends (g.K.Sink.written c.args.out.now) (g.K.Sink.written c.write_look.new.out) t)
-          (look_said c.args.reader.now c.query.follows.lender-at-none q c.query.result c.in-Ok.look c.in-Ok.is c.query.follows.holds-at-none) c.in-Ok-write_look.ensures.ok,
+          (look_said c.args.reader.now c.query.follows.lender-at-none q c.query.result c.in-Ok.look c.in-Ok.is c.query.follows.holds-at-none c.args.spelling) c.in-Ok-write_look.ensures.ok,
     )
 
 pub returns-in-Err-write_look-clause-err : goal.returns-in-Err-write_look-clause-err
@@ -25,6 +25,6 @@ returns-in-Err-write_look-clause-err g c =
         gained = look_gains c.args.reader.now c.query.follows.lender-at-none q c.query.result c.in-Ok.look c.in-Ok.is c.query.follows.holds-at-none;
         text =
             subst (λ (t : List ℕ). AppendsPrefix (g.K.Sink.written c.args.out.now) (g.K.Sink.written c.write_look.new.out) t)
-            (look_said c.args.reader.now c.query.follows.lender-at-none q c.query.result c.in-Ok.look c.in-Ok.is c.query.follows.holds-at-none) c.in-Err-write_look.ensures.left;
+            (look_said c.args.reader.now c.query.follows.lender-at-none q c.query.result c.in-Ok.look c.in-Ok.is c.query.follows.holds-at-none c.args.spelling) c.in-Err-write_look.ensures.left;
       },
     )

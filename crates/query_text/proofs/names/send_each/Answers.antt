@@ -6,6 +6,7 @@ use Rattle.index_model.specs.NameIndexRead.{NameHit as HitOf}
 use Rattle.std.specs.Iterator.{YieldsFirstBy}
 use Rattle.outside.specs.Written.{AppendsPrefix}
 use Rattle.index_model.specs.LookTexts.{text_of_hit}
+use Rattle.name_quotes.specs.Quotes.{spelled}
 use Rattle.query_text.specs.Sending.{Sends}
 use Rattle.query_text.proofs.HitLaws.{lines, lines_more, lines_whole}
 use Rattle.query_text.proofs.SendingLaws.{on_err, sends_more, sends_prefix, prefix_of_text}
@@ -16,7 +17,7 @@ whole left = left
 
 pub loop-hit-preserved : goal.loop-hit-preserved
 loop-hit-preserved g c =
-    let name = c.args.name.now in
+    let name = spelled c.args.spelling c.args.name.now in
     let done = map hit_seen c.loop-hit.yielded in
     let h = hit_seen c.in-Some.hit in
     let turn = subst (λ (o : Option NameHit). YieldsFirstBy hit_seen whole c.loop-hit.hit-iterator o c.next.new.self) c.in-Some.is c.next.ensures.steps in
@@ -30,7 +31,7 @@ loop-hit-preserved g c =
 
 pub returns-in_err-send_hit-clause-left : goal.returns-in_err-send_hit-clause-left
 returns-in_err-send_hit-clause-left g c =
-    let name = c.args.name.now in
+    let name = spelled c.args.spelling c.args.name.now in
     let done = map hit_seen c.loop-hit.yielded in
     let h = hit_seen c.in-Some.hit in
     let turn = subst (λ (o : Option NameHit). YieldsFirstBy hit_seen whole c.loop-hit.hit-iterator o c.next.new.self) c.in-Some.is c.next.ensures.steps in

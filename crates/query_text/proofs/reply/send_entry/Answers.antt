@@ -2,6 +2,8 @@ use Rattle.std.proofs.Common.{ℕ, List, ◌++◌, ◌∙◌, ap, subst}
 use Rattle.std.proofs.lemmas.Result.{on_ok_weaker, on_err_weaker}
 use Rattle.outside.specs.Written.{AppendsPrefix}
 use Rattle.index_model.specs.Texts.{newline, text_of_entry}
+use Rattle.name_quotes.specs.Quotes.{spelled}
+use Rattle.query_text.specs.Spelled.{entry_in}
 use Rattle.query_text.specs.Sending.{Sends}
 use Rattle.query_text.specs.Heads.{head_of}
 use Rattle.query_text.proofs.SendingLaws.{on_err, prefix_of_front, sends_head, prefix_head}
@@ -10,16 +12,16 @@ use Rattle.query_text.proofs.reply.send_entry.Goals as goal
 
 pub returns-in_err-make_room-clause-left : goal.returns-in_err-make_room-clause-left
 returns-in_err-make_room-clause-left g c =
-    on_err c.from_residual.result (prefix_of_front _ _ c.args.waiting.now (text_of_entry c.args.entry.now) c.in_err-make_room.ensures.left)
+    on_err c.from_residual.result (prefix_of_front _ _ c.args.waiting.now (text_of_entry (entry_in c.args.spelling c.args.entry.now)) c.in_err-make_room.ensures.left)
 
 pub returns-clause-ok : goal.returns-clause-ok
 returns-clause-ok g c =
-    let e = c.args.entry.now in
-    let is = ap (λ (l : List ℕ). head_of e ++ (l ++ newline)) c.bytes.ensures ∙ entry_text e in
+    let e = entry_in c.args.spelling c.args.entry.now in
+    let is = ap (λ (l : List ℕ). head_of e ++ (spelled c.args.spelling l ++ newline)) c.bytes.ensures ∙ entry_text e in
     on_ok_weaker c.send_name.result (λ q. subst (λ (l : List ℕ). Sends (g.K.Sink.written c.args.out.now) c.args.waiting.now (g.K.Sink.written c.send_name.new.out) c.send_name.new.waiting l) is (sends_head _ _ _ c.args.waiting.now c.make_room.new.waiting c.push_head.new.waiting (head_of e) _ c.in_ok-make_room.ensures.ok c.push_head.ensures _ q)) c.send_name.ensures.ok
 
 pub returns-clause-left : goal.returns-clause-left
 returns-clause-left g c =
-    let e = c.args.entry.now in
-    let is = ap (λ (l : List ℕ). head_of e ++ (l ++ newline)) c.bytes.ensures ∙ entry_text e in
+    let e = entry_in c.args.spelling c.args.entry.now in
+    let is = ap (λ (l : List ℕ). head_of e ++ (spelled c.args.spelling l ++ newline)) c.bytes.ensures ∙ entry_text e in
     on_err_weaker c.send_name.result (λ q. subst (λ (l : List ℕ). AppendsPrefix (g.K.Sink.written c.args.out.now) (g.K.Sink.written c.send_name.new.out) (c.args.waiting.now ++ l)) is (prefix_head _ _ _ c.args.waiting.now c.make_room.new.waiting c.push_head.new.waiting (head_of e) _ c.in_ok-make_room.ensures.ok c.push_head.ensures q)) c.send_name.ensures.left

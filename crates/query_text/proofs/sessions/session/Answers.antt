@@ -16,7 +16,7 @@ pub loop-left-init : goal.loop-left-init
 loop-left-init g c =
     let part : c.clear.new.self.part ≡ [] = ap (λ b. b.part) c.clear.ensures in
     record {
-      reading = reading_first (g.S.Source.left c.args.input.now) c.args.reader.now (g.K.Sink.written c.args.out.now) c.clear.new.self.part part;
+      reading = reading_first c.args.spelling (g.S.Source.left c.args.input.now) c.args.reader.now (g.K.Sink.written c.args.out.now) c.clear.new.self.part part;
       searched = ap (λ b. b.fresh) c.clear.ensures;
       short = subst (λ (l : List ℕ). length l ≤ longest_line) (sym part) (omega arith);
       reads = omega arith;
@@ -31,8 +31,8 @@ returns-in-Ok-eq0-clause-ok g c =
     let ends : IsAtEnd (g.S.Source.left c.fill.new.input) = c.in-Ok-eq0.ensures.end zero in
     let part : c.part.result.now ≡ c.loop-left.line.part = c.part.ensures ∙ c.fill.ensures.part in
     let more : 0 < c.loop-left.left = grind (arith, nat_tests, c.loop-left-test.true) in
-    on_ok_weaker c.answer_last.result (λ h. all_answered (g.S.Source.left c.args.input.now) (g.S.Source.left c.loop-left.input) c.args.reader.now c.loop-left.reader (g.K.Sink.written c.args.out.now) (g.K.Sink.written c.loop-left.out) c.loop-left.line.part c.loop-left.left c.loop-left.invariant.reading (g.S.Source.left c.fill.new.input) took ends c.answer_last.new.reader (g.K.Sink.written c.answer_last.new.out) more c.loop-left.invariant.short
-    (subst (λ (l : List ℕ). Answers c.loop-left.reader c.answer_last.new.reader (g.K.Sink.written c.loop-left.out) (g.K.Sink.written c.answer_last.new.out) (lines_of l)) part h)) c.answer_last.ensures.ok
+    on_ok_weaker c.answer_last.result (λ h. all_answered c.args.spelling (g.S.Source.left c.args.input.now) (g.S.Source.left c.loop-left.input) c.args.reader.now c.loop-left.reader (g.K.Sink.written c.args.out.now) (g.K.Sink.written c.loop-left.out) c.loop-left.line.part c.loop-left.left c.loop-left.invariant.reading (g.S.Source.left c.fill.new.input) took ends c.answer_last.new.reader (g.K.Sink.written c.answer_last.new.out) more c.loop-left.invariant.short
+    (subst (λ (l : List ℕ). Answers c.args.spelling c.loop-left.reader c.answer_last.new.reader (g.K.Sink.written c.loop-left.out) (g.K.Sink.written c.answer_last.new.out) (lines_of l)) part h)) c.answer_last.ensures.ok
 
 pub returns-in-Ok-eq0-clause-err : goal.returns-in-Ok-eq0-clause-err
 returns-in-Ok-eq0-clause-err g c =
@@ -42,16 +42,16 @@ returns-in-Ok-eq0-clause-err g c =
     let ends : IsAtEnd (g.S.Source.left c.fill.new.input) = c.in-Ok-eq0.ensures.end zero in
     let part : c.part.result.now ≡ c.loop-left.line.part = c.part.ensures ∙ c.fill.ensures.part in
     IfErr-weaker c.answer_last.result
-    (λ (fault : SessionFault). Stops c.loop-left.reader c.answer_last.new.reader (g.K.Sink.written c.loop-left.out) (g.K.Sink.written c.answer_last.new.out) (g.K.Sink.write_faults c.loop-left.out) (g.K.Sink.write_faults c.answer_last.new.out) (lines_of c.part.result.now) fault)
-    (λ (fault : SessionFault). SessionStops (g.S.Source.left c.args.input.now) (g.S.Source.left c.fill.new.input) (g.S.Source.read_faults c.args.input.now) (g.S.Source.read_faults c.fill.new.input) c.args.reader.now c.answer_last.new.reader (g.K.Sink.written c.args.out.now) (g.K.Sink.written c.answer_last.new.out) (g.K.Sink.write_faults c.args.out.now) (g.K.Sink.write_faults c.answer_last.new.out) fault)
-    (λ fault h. session_stops (g.S.Source.left c.args.input.now) (g.S.Source.left c.fill.new.input) (g.S.Source.read_faults c.args.input.now) (g.S.Source.read_faults c.fill.new.input) c.args.reader.now c.answer_last.new.reader (g.K.Sink.written c.args.out.now) (g.K.Sink.written c.answer_last.new.out) (g.K.Sink.write_faults c.args.out.now) (g.K.Sink.write_faults c.answer_last.new.out) fault
-    (last_stops (g.S.Source.left c.args.input.now) (g.S.Source.left c.loop-left.input) c.args.reader.now c.loop-left.reader (g.K.Sink.written c.args.out.now) (g.K.Sink.written c.loop-left.out) c.loop-left.line.part c.loop-left.left c.loop-left.invariant.reading (g.S.Source.left c.fill.new.input) took ends c.answer_last.new.reader (g.K.Sink.written c.answer_last.new.out) (g.K.Sink.write_faults c.args.out.now) (g.K.Sink.write_faults c.loop-left.out) (g.K.Sink.write_faults c.answer_last.new.out) fault c.loop-left.invariant.writes c.loop-left.invariant.short
-    (subst (λ (l : List ℕ). Stops c.loop-left.reader c.answer_last.new.reader (g.K.Sink.written c.loop-left.out) (g.K.Sink.written c.answer_last.new.out) (g.K.Sink.write_faults c.loop-left.out) (g.K.Sink.write_faults c.answer_last.new.out) (lines_of l) fault) part h))) c.answer_last.ensures.err
+    (λ (fault : SessionFault). Stops c.args.spelling c.loop-left.reader c.answer_last.new.reader (g.K.Sink.written c.loop-left.out) (g.K.Sink.written c.answer_last.new.out) (g.K.Sink.write_faults c.loop-left.out) (g.K.Sink.write_faults c.answer_last.new.out) (lines_of c.part.result.now) fault)
+    (λ (fault : SessionFault). SessionStops c.args.spelling (g.S.Source.left c.args.input.now) (g.S.Source.left c.fill.new.input) (g.S.Source.read_faults c.args.input.now) (g.S.Source.read_faults c.fill.new.input) c.args.reader.now c.answer_last.new.reader (g.K.Sink.written c.args.out.now) (g.K.Sink.written c.answer_last.new.out) (g.K.Sink.write_faults c.args.out.now) (g.K.Sink.write_faults c.answer_last.new.out) fault)
+    (λ fault h. session_stops c.args.spelling (g.S.Source.left c.args.input.now) (g.S.Source.left c.fill.new.input) (g.S.Source.read_faults c.args.input.now) (g.S.Source.read_faults c.fill.new.input) c.args.reader.now c.answer_last.new.reader (g.K.Sink.written c.args.out.now) (g.K.Sink.written c.answer_last.new.out) (g.K.Sink.write_faults c.args.out.now) (g.K.Sink.write_faults c.answer_last.new.out) fault
+    (last_stops c.args.spelling (g.S.Source.left c.args.input.now) (g.S.Source.left c.loop-left.input) c.args.reader.now c.loop-left.reader (g.K.Sink.written c.args.out.now) (g.K.Sink.written c.loop-left.out) c.loop-left.line.part c.loop-left.left c.loop-left.invariant.reading (g.S.Source.left c.fill.new.input) took ends c.answer_last.new.reader (g.K.Sink.written c.answer_last.new.out) (g.K.Sink.write_faults c.args.out.now) (g.K.Sink.write_faults c.loop-left.out) (g.K.Sink.write_faults c.answer_last.new.out) fault c.loop-left.invariant.writes c.loop-left.invariant.short
+    (subst (λ (l : List ℕ). Stops c.args.spelling c.loop-left.reader c.answer_last.new.reader (g.K.Sink.written c.loop-left.out) (g.K.Sink.written c.answer_last.new.out) (g.K.Sink.write_faults c.loop-left.out) (g.K.Sink.write_faults c.answer_last.new.out) (lines_of l) fault) part h))) c.answer_last.ensures.err
 
 pub returns-in-Err-clause-err : goal.returns-in-Err-clause-err
 returns-in-Err-clause-err g c = (
   then-rose (g.S.Source.read_faults c.args.input.now) (g.S.Source.read_faults c.loop-left.input) (g.S.Source.read_faults c.fill.new.input) c.loop-left.invariant.reads c.in-Err.ensures.failed,
-  read_stops (g.S.Source.left c.args.input.now) (g.S.Source.left c.loop-left.input) c.args.reader.now c.loop-left.reader (g.K.Sink.written c.args.out.now) (g.K.Sink.written c.loop-left.out) c.loop-left.line.part c.loop-left.left c.loop-left.invariant.reading (g.S.Source.left c.fill.new.input) c.in-Err.ensures.unchanged,
+  read_stops c.args.spelling (g.S.Source.left c.args.input.now) (g.S.Source.left c.loop-left.input) c.args.reader.now c.loop-left.reader (g.K.Sink.written c.args.out.now) (g.K.Sink.written c.loop-left.out) c.loop-left.line.part c.loop-left.left c.loop-left.invariant.reading (g.S.Source.left c.fill.new.input) c.in-Err.ensures.unchanged,
 )
 
 pub returns-in_err-answer_whole-clause-err : goal.returns-in_err-answer_whole-clause-err
@@ -61,11 +61,11 @@ returns-in_err-answer_whole-clause-err g c =
     let held : length c.loop-left.line.part + length c.fill.new.self.fresh ≤ longest_line + 1 = subst (λ (l : List ℕ). length l + length c.fill.new.self.fresh ≤ longest_line + 1) c.fill.ensures.part c.fill.ensures.fits in
     let p = err_from_is_err_and c.from_residual.result c.from_residual.ensures.1 in
     if_err c.from_residual.result
-    (λ (fault : SessionFault). SessionStops (g.S.Source.left c.args.input.now) (g.S.Source.left c.fill.new.input) (g.S.Source.read_faults c.args.input.now) (g.S.Source.read_faults c.fill.new.input) c.args.reader.now c.answer_whole.new.reader (g.K.Sink.written c.args.out.now) (g.K.Sink.written c.answer_whole.new.out) (g.K.Sink.write_faults c.args.out.now) (g.K.Sink.write_faults c.answer_whole.new.out) fault)
+    (λ (fault : SessionFault). SessionStops c.args.spelling (g.S.Source.left c.args.input.now) (g.S.Source.left c.fill.new.input) (g.S.Source.read_faults c.args.input.now) (g.S.Source.read_faults c.fill.new.input) c.args.reader.now c.answer_whole.new.reader (g.K.Sink.written c.args.out.now) (g.K.Sink.written c.answer_whole.new.out) (g.K.Sink.write_faults c.args.out.now) (g.K.Sink.write_faults c.answer_whole.new.out) fault)
     c.in_err-answer_whole.field-0.0 (p.1 ∙ ap Err p.2)
-    (session_stops (g.S.Source.left c.args.input.now) (g.S.Source.left c.fill.new.input) (g.S.Source.read_faults c.args.input.now) (g.S.Source.read_faults c.fill.new.input) c.args.reader.now c.answer_whole.new.reader (g.K.Sink.written c.args.out.now) (g.K.Sink.written c.answer_whole.new.out) (g.K.Sink.write_faults c.args.out.now) (g.K.Sink.write_faults c.answer_whole.new.out) fault
-    (piece_stops (g.S.Source.left c.args.input.now) (g.S.Source.left c.loop-left.input) c.args.reader.now c.loop-left.reader (g.K.Sink.written c.args.out.now) (g.K.Sink.written c.loop-left.out) c.loop-left.line.part c.loop-left.left c.loop-left.invariant.reading (g.S.Source.left c.fill.new.input) c.fill.new.self.fresh c.in-Ok.ensures.taken c.answer_whole.new.reader (g.K.Sink.written c.answer_whole.new.out) (g.K.Sink.write_faults c.args.out.now) (g.K.Sink.write_faults c.loop-left.out) (g.K.Sink.write_faults c.answer_whole.new.out) fault c.loop-left.invariant.writes fits held
-    (subst (λ (l : List ℕ). Stops c.loop-left.reader c.answer_whole.new.reader (g.K.Sink.written c.loop-left.out) (g.K.Sink.written c.answer_whole.new.out) (g.K.Sink.write_faults c.loop-left.out) (g.K.Sink.write_faults c.answer_whole.new.out) (whole_lines_of (l ++ c.fill.new.self.fresh)) fault) c.fill.ensures.part c.in_err-answer_whole.ensures.err)))
+    (session_stops c.args.spelling (g.S.Source.left c.args.input.now) (g.S.Source.left c.fill.new.input) (g.S.Source.read_faults c.args.input.now) (g.S.Source.read_faults c.fill.new.input) c.args.reader.now c.answer_whole.new.reader (g.K.Sink.written c.args.out.now) (g.K.Sink.written c.answer_whole.new.out) (g.K.Sink.write_faults c.args.out.now) (g.K.Sink.write_faults c.answer_whole.new.out) fault
+    (piece_stops c.args.spelling (g.S.Source.left c.args.input.now) (g.S.Source.left c.loop-left.input) c.args.reader.now c.loop-left.reader (g.K.Sink.written c.args.out.now) (g.K.Sink.written c.loop-left.out) c.loop-left.line.part c.loop-left.left c.loop-left.invariant.reading (g.S.Source.left c.fill.new.input) c.fill.new.self.fresh c.in-Ok.ensures.taken c.answer_whole.new.reader (g.K.Sink.written c.answer_whole.new.out) (g.K.Sink.write_faults c.args.out.now) (g.K.Sink.write_faults c.loop-left.out) (g.K.Sink.write_faults c.answer_whole.new.out) fault c.loop-left.invariant.writes fits held
+    (subst (λ (l : List ℕ). Stops c.args.spelling c.loop-left.reader c.answer_whole.new.reader (g.K.Sink.written c.loop-left.out) (g.K.Sink.written c.answer_whole.new.out) (g.K.Sink.write_faults c.loop-left.out) (g.K.Sink.write_faults c.answer_whole.new.out) (whole_lines_of (l ++ c.fill.new.self.fresh)) fault) c.fill.ensures.part c.in_err-answer_whole.ensures.err)))
 
 pub returns-then-part-gt-LONGEST-clause-err : goal.returns-then-part-gt-LONGEST-clause-err
 returns-then-part-gt-LONGEST-clause-err g c =
@@ -75,11 +75,11 @@ returns-then-part-gt-LONGEST-clause-err g c =
     let whole : c.loop-left.line.part ++ c.fill.new.self.fresh ≡ h.0 ++ rest = subst (λ (l : List ℕ). l ++ c.fill.new.self.fresh ≡ h.0 ++ rest) c.fill.ensures.part h.2 in
     let fits : length c.fill.new.self.fresh + less ≡ c.loop-left.left = omega (arith, c.in-Ok.ensures.fresh, c.in-Ok.ensures.most) in
     let held : length c.loop-left.line.part + length c.fill.new.self.fresh ≤ longest_line + 1 = subst (λ (l : List ℕ). length l + length c.fill.new.self.fresh ≤ longest_line + 1) c.fill.ensures.part c.fill.ensures.fits in
-    let next : Reading (g.S.Source.left c.args.input.now) (g.S.Source.left c.fill.new.input) c.args.reader.now c.answer_whole.new.reader (g.K.Sink.written c.args.out.now) (g.K.Sink.written c.answer_whole.new.out) rest less =
-    reading_more (g.S.Source.left c.args.input.now) (g.S.Source.left c.loop-left.input) c.args.reader.now c.loop-left.reader (g.K.Sink.written c.args.out.now) (g.K.Sink.written c.loop-left.out) c.loop-left.line.part c.loop-left.left c.loop-left.invariant.reading (g.S.Source.left c.fill.new.input) c.fill.new.self.fresh c.in-Ok.ensures.taken c.answer_whole.new.reader (g.K.Sink.written c.answer_whole.new.out) h.0 rest h.1 less whole h.3 h.4 c.in_ok-answer_whole.ensures.one_line fits held in
+    let next : Reading c.args.spelling (g.S.Source.left c.args.input.now) (g.S.Source.left c.fill.new.input) c.args.reader.now c.answer_whole.new.reader (g.K.Sink.written c.args.out.now) (g.K.Sink.written c.answer_whole.new.out) rest less =
+    reading_more c.args.spelling (g.S.Source.left c.args.input.now) (g.S.Source.left c.loop-left.input) c.args.reader.now c.loop-left.reader (g.K.Sink.written c.args.out.now) (g.K.Sink.written c.loop-left.out) c.loop-left.line.part c.loop-left.left c.loop-left.invariant.reading (g.S.Source.left c.fill.new.input) c.fill.new.self.fresh c.in-Ok.ensures.taken c.answer_whole.new.reader (g.K.Sink.written c.answer_whole.new.out) h.0 rest h.1 less whole h.3 h.4 c.in_ok-answer_whole.ensures.one_line fits held in
     let same : length c.part-in-loop-left.result.now ≡ length rest = ap length c.part-in-loop-left.ensures in
     let long : longest_line < length rest = grind (arith, nat_tests, same, c.if-part-gt-LONGEST.true) in
-    too_long (g.S.Source.left c.args.input.now) (g.S.Source.left c.fill.new.input) c.args.reader.now c.answer_whole.new.reader (g.K.Sink.written c.args.out.now) (g.K.Sink.written c.answer_whole.new.out) rest less next long
+    too_long c.args.spelling (g.S.Source.left c.args.input.now) (g.S.Source.left c.fill.new.input) c.args.reader.now c.answer_whole.new.reader (g.K.Sink.written c.args.out.now) (g.K.Sink.written c.answer_whole.new.out) rest less next long
 
 pub loop-left-preserved : goal.loop-left-preserved
 loop-left-preserved g c =
@@ -89,8 +89,8 @@ loop-left-preserved g c =
     let whole : c.loop-left.line.part ++ c.fill.new.self.fresh ≡ h.0 ++ rest = subst (λ (l : List ℕ). l ++ c.fill.new.self.fresh ≡ h.0 ++ rest) c.fill.ensures.part h.2 in
     let fits : length c.fill.new.self.fresh + less ≡ c.loop-left.left = omega (arith, c.in-Ok.ensures.fresh, c.in-Ok.ensures.most) in
     let held : length c.loop-left.line.part + length c.fill.new.self.fresh ≤ longest_line + 1 = subst (λ (l : List ℕ). length l + length c.fill.new.self.fresh ≤ longest_line + 1) c.fill.ensures.part c.fill.ensures.fits in
-    let next : Reading (g.S.Source.left c.args.input.now) (g.S.Source.left c.fill.new.input) c.args.reader.now c.answer_whole.new.reader (g.K.Sink.written c.args.out.now) (g.K.Sink.written c.answer_whole.new.out) rest less =
-    reading_more (g.S.Source.left c.args.input.now) (g.S.Source.left c.loop-left.input) c.args.reader.now c.loop-left.reader (g.K.Sink.written c.args.out.now) (g.K.Sink.written c.loop-left.out) c.loop-left.line.part c.loop-left.left c.loop-left.invariant.reading (g.S.Source.left c.fill.new.input) c.fill.new.self.fresh c.in-Ok.ensures.taken c.answer_whole.new.reader (g.K.Sink.written c.answer_whole.new.out) h.0 rest h.1 less whole h.3 h.4 c.in_ok-answer_whole.ensures.one_line fits held in
+    let next : Reading c.args.spelling (g.S.Source.left c.args.input.now) (g.S.Source.left c.fill.new.input) c.args.reader.now c.answer_whole.new.reader (g.K.Sink.written c.args.out.now) (g.K.Sink.written c.answer_whole.new.out) rest less =
+    reading_more c.args.spelling (g.S.Source.left c.args.input.now) (g.S.Source.left c.loop-left.input) c.args.reader.now c.loop-left.reader (g.K.Sink.written c.args.out.now) (g.K.Sink.written c.loop-left.out) c.loop-left.line.part c.loop-left.left c.loop-left.invariant.reading (g.S.Source.left c.fill.new.input) c.fill.new.self.fresh c.in-Ok.ensures.taken c.answer_whole.new.reader (g.K.Sink.written c.answer_whole.new.out) h.0 rest h.1 less whole h.3 h.4 c.in_ok-answer_whole.ensures.one_line fits held in
     let same : length c.part-in-loop-left.result.now ≡ length rest = ap length c.part-in-loop-left.ensures in
     record {
       reading = next;
@@ -103,4 +103,4 @@ loop-left-preserved g c =
 pub returns-clause-err : goal.returns-clause-err
 returns-clause-err g c =
     let none : c.loop-left.left ≡ 0 = grind (arith, nat_tests, c.loop-left-test.false) in
-    too_much (g.S.Source.left c.args.input.now) (g.S.Source.left c.loop-left.input) c.args.reader.now c.loop-left.reader (g.K.Sink.written c.args.out.now) (g.K.Sink.written c.loop-left.out) c.loop-left.line.part c.loop-left.left c.loop-left.invariant.reading none
+    too_much c.args.spelling (g.S.Source.left c.args.input.now) (g.S.Source.left c.loop-left.input) c.args.reader.now c.loop-left.reader (g.K.Sink.written c.args.out.now) (g.K.Sink.written c.loop-left.out) c.loop-left.line.part c.loop-left.left c.loop-left.invariant.reading none
