@@ -234,6 +234,11 @@ module _ (p : Program) (d : Located) where
         left = h.left ∙ hopped (MAX_CHAIN_HOPS - hops) (MAX_CHAIN_HOPS - (hops + 1)) (omega (arith, few)) ∙ ap (λ (x : Located). hops_from (MAX_CHAIN_HOPS - (hops + 1)) p x >>= with_after) (sym (end_push d h.seen e));
       }
 
+  -- nothing follows an entry without a reference
+  pub alone_ends : next_of p d ≡ Ok None → chain_of p d ≡ Ok (d ∷ [])
+  unfolding chain_of hops_from
+  alone_ends is = rw is refl
+
 -- ---- answers
 
 pub gives_for : {X Y : Type 0} (R : X → Y → Type 0) (x : X) (y : Y) (m : Result Y Fault) → m ≡ Ok y → R x y → IsOkAnd m (R x)

@@ -8,6 +8,7 @@ mod VisitLaws
 mod ChainLaws
 mod SignatureLaws
 mod FollowLaws
+mod TracedLaws
 pub mod PathSteps
 pub mod Outwards
 mod Steps

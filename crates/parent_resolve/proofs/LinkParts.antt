@@ -17,8 +17,9 @@ use Rattle.index_model.specs.Links.{Link, link_of, facts_of, is_link_indexed, is
 use Rattle.index_model.specs.Rules.{row_allows, row_of}
 use Rattle.index_model.specs.ShardParts.{IsNodeOf}
 use Rattle.index_model.specs.Shards.{length_of}
-use Rattle.parent_resolve.specs.declared.followed.Followed.{Followed}
-use Rattle.parent_resolve.specs.Followed.{followed_of, Named, IsFollowed}
+use Rattle.parent_resolve.specs.declared.traced.Traced.{Traced}
+use Rattle.parent_resolve.specs.Followed.{followed_of, Named}
+use Rattle.parent_resolve.specs.Traced.{IsTraced}
 use Rattle.parent_resolve.specs.EntryLinks.{link_with, link_tested, IsEntryOf}
 use Rattle.parent_resolve.specs.Scopes.{greatest}
 use Rattle.parent_resolve.proofs.NodeLaws.{node_parts}
@@ -75,7 +76,7 @@ module _ (p : Program) (d : Located) where
     nameless none = drops (not (is_declaration d.item)) (is_some (name_in link)) (row_allows (facts_of link) (row_of d.item.tag)) (ap is_some none)
 
     -- the name that is known of the entry is its own
-    pub named_by : (f : Followed) → IsFollowed p d f n → (name : Option (Bor (List ℕ))) → option_map (λ t. t.now) name ≡ name_with d (option_map (λ t. t.now) f.spelled) → (own : Option (Bor (List ℕ))) → name ≡ own → name_in link ≡ option_map (λ t. t.now) own
+    pub named_by : (f : Traced) → IsTraced p d f n → (name : Option (Bor (List ℕ))) → option_map (λ t. t.now) name ≡ name_with d (option_map (λ t. t.now) f.spelled) → (own : Option (Bor (List ℕ))) → name ≡ own → name_in link ≡ option_map (λ t. t.now) own
     named_by f h name is own same = sym (ap (option_map (λ (t : Bor (List ℕ)). t.now)) (sym same) ∙ is ∙ ap (name_with d) h.spelled)
 
     pub is_long : is_link_indexed link ≡ true → (name : List ℕ) → name_in link ≡ Some name → MAX_QUALIFIED_NAME < length (qualified_name (class_of_unit p d.home) path name) → link_tested p d n path ≡ Err NAME_TOO_LONG
@@ -92,7 +93,7 @@ module _ (p : Program) (d : Located) where
         ap (λ (o : Option (List ℕ)). tested_by (is_within_limit (option_map (qualified_name (class_of_unit p d.home) path) o))) own ∙
         ap tested_by (le-leb (length (qualified_name (class_of_unit p d.home) path name)) MAX_QUALIFIED_NAME le)
 
-    pub entry_given : (node : Node) → IsNodeOf p.sections node d → (f : Followed) → IsFollowed p d f n → is_link_indexed link ≡ true → (name : List ℕ) → name_in link ≡ Some name → (length_ : ℕ) → length_ ≡ min greatest (length (qualified_name (class_of_unit p d.home) path name)) → length_ ≤ MAX_QUALIFIED_NAME →
+    pub entry_given : (node : Node) → IsNodeOf p.sections node d → (f : Traced) → IsTraced p d f n → is_link_indexed link ≡ true → (name : List ℕ) → name_in link ≡ Some name → (length_ : ℕ) → length_ ≡ min greatest (length (qualified_name (class_of_unit p d.home) path name)) → length_ ≤ MAX_QUALIFIED_NAME →
         (e : LinkedEntry) → e.offset ≡ node.offset → e.external ≡ f.external → e.name ≡ f.spelled → e.linkage ≡ f.linkage → e.length ≡ length_ → IsOkAnd (at_place d.item.at (link_tested p d n path)) (IsEntryOf p (Some e))
     entry_given node own f h on name named length_ whole le e offset external spelled linkage size =
         let qualified = qualified_name (class_of_unit p d.home) path name in

@@ -1,9 +1,9 @@
 -- The link of one node, and the links of nodes in their order.
-use Rattle.std.proofs.Common.{◌≡◌, Bool, true, false, cond, ◌&&◌, List, [], ◌∷◌, ◌++◌, flat_map, Option, Some, None, Result, Ok, Err, sym, ap, subst, ◌∙◌}
+use Rattle.std.proofs.Common.{◌≡◌, Bool, true, false, cond, eqb, ◌&&◌, ◌||◌, List, [], ◌∷◌, ◌++◌, flat_map, Option, Some, None, Result, Ok, Err, refl, sym, ap, subst, ◌∙◌}
 use Rattle.std.specs.Prelude.{Contains, IsOkAnd}
 use Rattle.std.specs.List.{AllZip}
 use Rattle.std.proofs.lemmas.List.Elements.{Contains-append_left, Contains-append_right}
-use Rattle.std.proofs.lemmas.Bool.{and_right}
+use Rattle.std.proofs.lemmas.Bool.{and_right, and_parts, eqb-true, true≢false}
 use Rattle.common_laws.proofs.Members.{to_map, of_filter, to_flat_map}
 use Rattle.ix_base.specs.declared.fault.Fault.{Fault}
 use Rattle.ix_base.specs.declared.fault.Stop.{Stop}
@@ -16,7 +16,8 @@ use Rattle.index_model.specs.Links.{Link, link_of}
 use Rattle.index_model.specs.Program.{Walked, Program, Located, items_of, located}
 use Rattle.index_model.specs.Rules.{is_in_table, is_visited, is_ada}
 use Rattle.index_model.specs.Shards.{IsLinkedEntryOf, IsRunOf}
-use Rattle.index_model.specs.ShardParts.{is_kept, kept_in}
+use Rattle.index_model.specs.ShardParts.{is_kept, kept_in, may_be_ada, may_be_followed}
+use Rattle.index_model.proofs.VisitedLaws.{visited_by_parent}
 use Rattle.index_model.proofs.Located.{at_home}
 use Rattle.parent_resolve.specs.Followed.{all_entries}
 use Rattle.parent_resolve.specs.EntryLinks.{IsEntryOf}
@@ -53,8 +54,17 @@ module _ (p : Program) (d : Located) where
   pub follows : is_followed p d ≡ true → (result : Result (Option LinkedEntry) Stop) → GivesFor (IsEntryOf p) result placed → GivesFor (IsLinkedNode p) result (links_at p (d ∷ []))
   follows on result h = subst (λ (r : Result (List Link) Fault). GivesFor (IsLinkedNode p) result r) (sym (one_link on)) (gives_alone result h)
 
-  pub not_in_table : is_in_table d.item.tag ≡ false → is_followed p d ≡ false
-  not_in_table off = ap (λ (b : Bool). b && is_visited (is_ada (class_of_unit p d.home)) (items_of d.home) d.item) off
+  listed : may_be_followed d.home d.item ≡ true → is_in_table d.item.tag ≡ true
+  unfolding may_be_followed
+  listed may = (and_parts (is_in_table d.item.tag) (is_visited (may_be_ada d.home) (items_of d.home) d.item) may).0
+
+  -- what has a node and is visited has a tag that may be listed
+  pub in_its_table : (ada : Bool) → is_kept d.home d.item ≡ true → is_visited ada (items_of d.home) d.item ≡ true → is_in_table d.item.tag ≡ true
+  in_its_table ada kept on = by (eqb d.item.depth 0) refl kept
+    where
+      by : (b : Bool) → eqb d.item.depth 0 ≡ b → (b || may_be_followed d.home d.item) ≡ true → is_in_table d.item.tag ≡ true
+      by true root k = absurd (true≢false (sym on ∙ (visited_by_parent ada (items_of d.home) d.item).root (eqb-true d.item.depth 0 root)))
+      by false deep k = listed k
 
   pub not_visited : is_visited (is_ada (class_of_unit p d.home)) (items_of d.home) d.item ≡ false → is_followed p d ≡ false
   not_visited off = and_right (is_in_table d.item.tag) _ off
@@ -69,3 +79,6 @@ kept_there p run r d c =
     let home = home_of run d inside in
     let walk : Contains p.walks d.home = subst (λ (ws : List Walked). Contains ws d.home) (sym r.is) (Contains-append_right r.before (run ++ r.after) d.home (Contains-append_left run r.after d.home home.0)) in
     (inside, walk, to_flat_map located p.walks d.home d walk (to_map (at_home d.home) (items_of d.home) d.item home.1))
+
+pub kept_is : (run : List Walked) (d : Located) → Contains (kept_in run) d → is_kept d.home d.item ≡ true
+kept_is run d c = (of_filter (λ d. is_kept d.home d.item) (flat_map located run) d c).1

@@ -25,7 +25,7 @@ use Rattle.index_model.proofs.ShardRoots.{Numbered, program_numbered, numbered_f
 use Rattle.index_model.proofs.UnitsApart.{AreApart, run_apart}
 use Rattle.index_model.proofs.VisitedLaws.{visited_by_parent}
 use Rattle.index_model.proofs.Located.{Before, at_home, located_before}
-use Rattle.parent_resolve.specs.Visits.{IsVisitedBy, MayBeVisitedBy, takes_importers_class, IsNodeAt, HasNoneAt}
+use Rattle.parent_resolve.specs.Visits.{IsVisitedBy, takes_importers_class, IsNodeAt, HasNoneAt}
 use Rattle.parent_resolve.proofs.Entries.{order, home_of, entry_of, found_at, above, top, IsAbove}
 use Rattle.parent_resolve.proofs.NodeLaws.{node_parts, seen_parts, node_unit, node_parent, offset_in, of_node, to_node, nodes_below, nodes_rise}
 use Rattle.parent_resolve.proofs.OpenedTags.{opens_listed}
@@ -49,9 +49,8 @@ pub record IsEntryIn (s : Shard) (node : Node) (ada : Bool) (d : Located) : Type
   pub of_file : program_of file ≡ Ok p
   pub is_run : IsRunOf p run
   pub stands : StandsFor p.sections s run
-  pub member : Contains (flat_map located run) d
+  pub kept : Contains (kept_in run) d
   pub is_node : IsNodeOf p.sections node d
-  pub table : is_in_table d.item.tag ≡ true
   pub class : ada ≡ is_ada (class_of_unit p d.home)
 
 -- The entry is visited if the one at hand is, of which this is the parent's offset. Nodes behind the place stand behind it.
@@ -89,8 +88,11 @@ module _ (s : Shard) (node : Node) (ada : Bool) (d : Located) (h : IsEntryIn s n
   below : Pairs Before entries
   below = located_before ss h.run apart
 
+  own_kept : Contains entries d × (is_kept w d.item ≡ true)
+  own_kept = of_filter (λ e. is_kept e.home e.item) entries d h.kept
+
   home : Contains h.run w × Contains ds d.item
-  home = home_of h.run d h.member
+  home = home_of h.run d own_kept.0
 
   ordered : IsInOrder w
   ordered = order ss w (apart.walks w home.0)
@@ -132,48 +134,17 @@ module _ (s : Shard) (node : Node) (ada : Bool) (d : Located) (h : IsEntryIn s n
   pub by_class : takes_importers_class (root_in node.unit s) ≡ false → (answer : Bool) → answer ≡ is_visited (may_be_ada w) ds d.item → answer ≡ is_visited ada ds d.item
   by_class own answer is = is ∙ ap (λ (b : Bool). is_visited b ds d.item) (known_class h.p w (sym (ap takes_importers_class root_known) ∙ own) ∙ sym h.class)
 
-  pub root_unvisited : is_none node.parent ≡ true → false ≡ is_visited (may_be_ada w) ds d.item
-  root_unvisited none = sym ((visited_by_parent (may_be_ada w) ds d.item).root (top w ordered d.item home.1 (no_offset (parent_of ds d.item) (sym (absent node.parent none) ∙ node_parent ss node d h.is_node))))
+  visited_of : may_be_followed w d.item ≡ true → is_visited (may_be_ada w) ds d.item ≡ true
+  unfolding may_be_followed
+  visited_of on = (and_parts (is_in_table d.item.tag) (is_visited (may_be_ada w) ds d.item) on).1
 
-  module _ (some : is_none node.parent ≡ false) where
-    not_root : eqb d.item.depth 0 ≡ false
-    not_root = ne_eqb d.item.depth 0 (λ z. true≢false (ap is_none (sym (ap offset_in (ordered.root d.item home.1 z).1)) ∙ ap is_none (sym (node_parent ss node d h.is_node)) ∙ some))
-
-    own_offset : node.offset ≡ d.item.at
-    own_offset = (node_parts ss node d h.is_node).0
-
-    kept_is : is_kept w d.item ≡ may_be_followed w d.item
-    kept_is = ap (λ (b : Bool). b || may_be_followed w d.item) not_root
-
-    visited_of : may_be_followed w d.item ≡ true → is_visited (may_be_ada w) ds d.item ≡ true
-    unfolding may_be_followed
-    visited_of on = (and_parts (is_in_table d.item.tag) (is_visited (may_be_ada w) ds d.item) on).1
-
-    followed_of : is_visited (may_be_ada w) ds d.item ≡ true → may_be_followed w d.item ≡ true
-    unfolding may_be_followed
-    followed_of on = and_from (is_in_table d.item.tag) (is_visited (may_be_ada w) ds d.item) h.table on
-
-    kept_may_be : (before k : ℕ) (a : NodeSeen) → IsNodeAt s.nodes before node.offset k a → true ≡ is_visited (may_be_ada w) ds d.item
-    kept_may_be before k a at =
-        let r = of_node ss s.nodes (kept_in h.run) h.stands.nodes k a at.within in
-        let own : IsSeenOf ss a r.0 = subst (λ (n : NodeSeen). IsSeenOf ss n r.0) (sym at.is) r.2 in
-        let f = of_filter (λ e. is_kept e.home e.item) entries r.0 r.1 in
-        let same : r.0 ≡ at_home w d.item = once r.0 f.0 d.item home.1 (sym (seen_parts ss a r.0 own).0 ∙ at.offset ∙ own_offset) in
-        sym (visited_of (sym kept_is ∙ sym (ap (λ (e : Located). is_kept e.home e.item) same) ∙ f.1))
-
-    unkept_may_not : HasNoneAt s.nodes (length s.nodes) node.offset → false ≡ is_visited (may_be_ada w) ds d.item
-    unkept_may_not none = by (is_visited (may_be_ada w) ds d.item) refl
-      where
-        by : (v : Bool) → is_visited (may_be_ada w) ds d.item ≡ v → false ≡ v
-        by false e = refl
-        by true e =
-            let r = to_node ss s.nodes (kept_in h.run) h.stands.nodes d (to_filter (λ x. is_kept x.home x.item) entries d h.member (kept_is ∙ followed_of e)) in
-            absurd (none r.0 (node_seen node) r.1 r.1 ((seen_parts ss (get_or s.nodes r.0 (node_seen node)) d (r.2 (node_seen node))).0 ∙ sym own_offset))
-
-    -- so it may be visited where a node has its offset
-    pub kept_by : (before : ℕ) → before ≡ length s.nodes → (o : Option (ℕ × Node)) → IfSome o (λ x. IsNodeAt s.nodes before node.offset x.0 (node_seen x.1)) → (IsNone o → IsNonDecreasingBy (λ n. n.facts.offset) s.nodes → HasNoneAt s.nodes before node.offset) → is_some o ≡ is_visited (may_be_ada w) ds d.item
-    kept_by before whole None found none = unkept_may_not (subst (λ (k : ℕ). HasNoneAt s.nodes k node.offset) whole (none refl rising))
-    kept_by before whole (Some x) found none = kept_may_be before x.0 (node_seen x.1) found
+  -- what has a node may be visited, if it has a parent
+  pub may_be : (o : Option ℕ) → o ≡ node.parent → is_some o ≡ is_visited (may_be_ada w) ds d.item
+  may_be None is = sym ((visited_by_parent (may_be_ada w) ds d.item).root (top w ordered d.item home.1 (no_offset (parent_of ds d.item) (is ∙ node_parent ss node d h.is_node))))
+  may_be (Some o) is = sym (visited_of (sym (ap (λ (b : Bool). b || may_be_followed w d.item) not_root) ∙ own_kept.1))
+    where
+      not_root : eqb d.item.depth 0 ≡ false
+      not_root = ne_eqb d.item.depth 0 (λ z. true≢false (ap is_some (is ∙ node_parent ss node d h.is_node ∙ ap offset_in (ordered.root d.item home.1 z).1)))
 
   -- ---- upwards
 
@@ -289,12 +260,8 @@ module _ (s : Shard) (node : Node) (ada : Bool) (d : Located) (h : IsEntryIn s n
 
 -- an answer for every entry that the node may be that of
 pub for_each : (s : Shard) (node : Node) (ada answer : Bool) → ((d : Located) → IsEntryIn s node ada d → answer ≡ is_visited ada (items_of d.home) d.item) → IsVisitedBy s node ada answer
-for_each s node ada answer go file p run of_file is_run stands d member is_node table class = go d (record { file = file; p = p; run = run; of_file = of_file; is_run = is_run; stands = stands; member = member; is_node = is_node; table = table; class = class })
+for_each s node ada answer go file p run of_file is_run stands d kept is_node class = go d (record { file = file; p = p; run = run; of_file = of_file; is_run = is_run; stands = stands; kept = kept; is_node = is_node; class = class })
 
--- the same for what may be visited
-pub for_each_kept : (s : Shard) (node : Node) (answer : Bool) → ((ada : Bool) (d : Located) → IsEntryIn s node ada d → answer ≡ is_visited (may_be_ada d.home) (items_of d.home) d.item) → MayBeVisitedBy s node answer
-for_each_kept s node answer go file p run of_file is_run stands d member is_node table = go (is_ada (class_of_unit p d.home)) d (record { file = file; p = p; run = run; of_file = of_file; is_run = is_run; stands = stands; member = member; is_node = is_node; table = table; class = refl })
-
--- where the class isn't that of an importing unit the one answer is the other
-pub for_kept : (s : Shard) (node : Node) (ada answer : Bool) → takes_importers_class (root_in node.unit s) ≡ false → MayBeVisitedBy s node answer → IsVisitedBy s node ada answer
-for_kept s node ada answer own kept = for_each s node ada answer (λ d h. by_class s node ada d h own answer (kept h.file h.p h.run h.of_file h.is_run h.stands d h.member h.is_node h.table))
+-- where the class isn't that of an importing unit, what has a node is visited below the root
+pub by_parent : (s : Shard) (node : Node) (ada answer : Bool) → takes_importers_class (root_in node.unit s) ≡ false → answer ≡ is_some node.parent → IsVisitedBy s node ada answer
+by_parent s node ada answer own is = for_each s node ada answer (λ d h. by_class s node ada d h own answer (is ∙ may_be s node ada d h node.parent refl))

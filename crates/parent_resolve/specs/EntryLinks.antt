@@ -11,8 +11,9 @@ use Rattle.index_model.specs.Names.{Member}
 use Rattle.index_model.specs.Links.{Link, is_link_indexed, is_within_limit, qualified_of}
 use Rattle.index_model.specs.ShardParts.{IsNodeOf}
 use Rattle.index_model.specs.Shards.{IsLinkedEntryOf}
-use Rattle.parent_resolve.specs.declared.followed.Followed.{Followed}
-use Rattle.parent_resolve.specs.Followed.{Named, IsFollowed}
+use Rattle.parent_resolve.specs.declared.traced.Traced.{Traced}
+use Rattle.parent_resolve.specs.Followed.{Named}
+use Rattle.parent_resolve.specs.Traced.{IsTraced}
 
 -- the link of an entry whose chain, name and path are known
 abbrev pub link_with : Program → Located → Named → List Member → Link
@@ -26,8 +27,8 @@ link_tested p d n path = do
   Ok k
 
 -- whatever entry has the node and the class, and was followed with this result: what holds of it with its chain and its name
-abbrev pub ForFollowed : Node → Class → Followed → (Program → Located → Named → Type 0) → Type 0
-ForFollowed node class followed Holds = (p : Program) (d : Located) (n : Named) → IsNodeOf p.sections node d → class ≡ class_of_unit p d.home → IsFollowed p d followed n → Holds p d n
+abbrev pub ForTraced : Node → Class → Traced → (Program → Located → Named → Type 0) → Type 0
+ForTraced node class traced Holds = (p : Program) (d : Located) (n : Named) → IsNodeOf p.sections node d → class ≡ class_of_unit p d.home → IsTraced p d traced n → Holds p d n
 
 -- The answer stands for the meaning: the relation holds of both values at Ok, and Err is what is first wrong. There is no want of memory.
 abbrev pub StandsAlways : {X Y E : Type 0} → (X → Y → Type 0) → Result X E → Result Y E → Type 0

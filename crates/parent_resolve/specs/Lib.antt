@@ -1,4 +1,5 @@
 pub mod Followed
+pub mod Traced
 pub mod Chained
 pub mod Signed
 pub mod Visits

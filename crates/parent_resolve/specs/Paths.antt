@@ -1,5 +1,5 @@
 -- The scope paths around the entries of a file, by the place of the lexical parent.
-use Rattle.std.specs.Prelude.{◌≡◌, ℕ, nat_eq, Contains, Some, IsOkAnd}
+use Rattle.std.specs.Prelude.{◌≡◌, ℕ, nat_eq, Contains, Option, Some, IsOkAnd}
 use Rattle.indexmap.specs.IndexMap.{IndexMap, get}
 use Rattle.index_model.specs.Program.{Program, Located, item_with_offset}
 use Rattle.index_model.specs.Parents.{parent_offset}
@@ -16,6 +16,10 @@ ForMember e offset Holds = ForProgram e (λ p. (m : Located) → item_with_offse
 -- whatever entry has its lexical parent at the offset
 abbrev pub ForAround : EntriesOf → ℕ → (Program → Located → Type 0) → Type 0
 ForAround e parent Holds = ForProgram e (λ p. (d : Located) → Contains (all_entries p) d → parent_offset d ≡ Some parent → Holds p d)
+
+-- whatever entry has its lexical parent there, or has none
+abbrev pub ForEnd : EntriesOf → Option ℕ → (Program → Located → Type 0) → Type 0
+ForEnd e parent Holds = ForProgram e (λ p. (d : Located) → Contains (all_entries p) d → parent_offset d ≡ parent → Holds p d)
 
 -- the scope is that of the path around each such entry
 abbrev pub IsScopeAround : EntriesOf → ℕ → Scope → Type 0

@@ -1,25 +1,20 @@
 -- Which of a shard's entries are visited.
-use Rattle.std.specs.Prelude.{◌≡◌, ℕ, ◌<◌, List, Bool, true, ◌&&◌, flat_map, Contains, length, slice_index_or, Option, Some, None, is_none, Ok}
+use Rattle.std.specs.Prelude.{◌≡◌, ℕ, ◌<◌, List, Bool, true, ◌&&◌, Contains, length, slice_index_or, Option, Some, None, is_none, Ok}
 use Rattle.index_model.specs.declared.shard.Node.{Node}
 use Rattle.index_model.specs.declared.shard.Root.{Root}
 use Rattle.index_model.specs.declared.shard.Shard.{Shard}
 use Rattle.index_model.specs.Faults.{program_of}
 use Rattle.index_model.specs.Languages.{class_of_unit}
 use Rattle.index_model.specs.NodeSeen.{NodeSeen}
-use Rattle.index_model.specs.Program.{Walked, Program, Located, items_of, located}
-use Rattle.index_model.specs.Rules.{is_ada, is_in_table, is_visited}
-use Rattle.index_model.specs.ShardParts.{IsNodeOf, may_be_ada}
+use Rattle.index_model.specs.Program.{Walked, Program, Located, items_of}
+use Rattle.index_model.specs.Rules.{is_ada, is_visited}
+use Rattle.index_model.specs.ShardParts.{IsNodeOf, kept_in}
 use Rattle.index_model.specs.Shards.{IsRunOf, StandsFor}
 
--- Whatever run of a file's units the shard stands for: the answer is whether the entry of the node is visited, if its tag may be listed, where its unit's class is Ada or isn't.
+-- Whatever run of a file's units the shard stands for: the answer is whether the entry of the node is visited, if it has a node, where its unit's class is Ada or isn't.
 abbrev pub IsVisitedBy : Shard → Node → Bool → Bool → Type 0
 IsVisitedBy s node ada answer = (file : List ℕ) (p : Program) (run : List Walked) → program_of file ≡ Ok p → IsRunOf p run → StandsFor p.sections s run →
-    (d : Located) → Contains (flat_map located run) d → IsNodeOf p.sections node d → is_in_table d.item.tag ≡ true → ada ≡ is_ada (class_of_unit p d.home) → answer ≡ is_visited ada (items_of d.home) d.item
-
--- the same of what a shard keeps: whether the entry of the node may be visited
-abbrev pub MayBeVisitedBy : Shard → Node → Bool → Type 0
-MayBeVisitedBy s node answer = (file : List ℕ) (p : Program) (run : List Walked) → program_of file ≡ Ok p → IsRunOf p run → StandsFor p.sections s run →
-    (d : Located) → Contains (flat_map located run) d → IsNodeOf p.sections node d → is_in_table d.item.tag ≡ true → answer ≡ is_visited (may_be_ada d.home) (items_of d.home) d.item
+    (d : Located) → Contains (kept_in run) d → IsNodeOf p.sections node d → ada ≡ is_ada (class_of_unit p d.home) → answer ≡ is_visited ada (items_of d.home) d.item
 
 -- whether a unit with this root is partial and has no language itself
 abbrev pub takes_importers_class : Option Root → Bool

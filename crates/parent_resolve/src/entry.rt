@@ -7,12 +7,12 @@ ghost use Rattle.index_model.specs.Languages.{class_of_unit};
 ghost use Rattle.index_model.specs.Meaning.{at_place};
 ghost use Rattle.index_model.specs.Names.{Member, qualified_name};
 ghost use Rattle.parent_resolve.specs.Followed.{ForEntry};
-ghost use Rattle.parent_resolve.specs.EntryLinks.{link_tested, link_with, ForFollowed, IsEntryOf, StandsAlways};
+ghost use Rattle.parent_resolve.specs.EntryLinks.{link_tested, link_with, ForTraced, IsEntryOf, StandsAlways};
 ghost use Rattle.parent_resolve.specs.Scopes.{greatest, IsScope};
 
-use crate::followed::Followed;
 use crate::paths::Paths;
 use crate::scope::{Scope, name_with};
+use crate::traced::Traced;
 use entry_rules::{Class, Facts, indexed};
 use index_model::{LinkedEntry, Node};
 use ix_base::code::NAME_TOO_LONG;
@@ -31,9 +31,9 @@ pub(crate) fn link_entry<'f>(
     ensures value { ForEntry paths.old node.now (λ p d. class ≡ class_of_unit p d.home → GivesFor (IsEntryOf p) result (at_place d.item.at (link_of p d))) }
     ensures kept { paths.new ≡ paths.old }
 {
-    let followed = paths.follow(alloc, node, node.offset)?;
-    let scope = paths.around(alloc, &followed.end, node.offset)?;
-    let entry = entry_of(node, class, &followed, scope)?;
+    let traced = paths.follow(alloc, node, node.offset)?;
+    let scope = paths.around(alloc, traced.around, node.offset)?;
+    let entry = entry_of(node, class, &traced, scope)?;
     Ok(entry)
 }
 
@@ -42,15 +42,15 @@ pub(crate) fn link_entry<'f>(
 fn entry_of<'f>(
     node: &Node<'f>,
     class: Class,
-    followed: &Followed<'f>,
+    traced: &Traced<'f>,
     scope: Scope,
 ) -> Result<Option<LinkedEntry<'f>>, Fault>
-    ensures { ForFollowed node.now class followed.now (λ p d n. (path : List Member) → IsScope scope path → StandsAlways (IsEntryOf p) result (at_place d.item.at (link_tested p d n path))) }
+    ensures { ForTraced node.now class traced.now (λ p d n. (path : List Member) → IsScope scope path → StandsAlways (IsEntryOf p) result (at_place d.item.at (link_tested p d n path))) }
 {
-    let Some(name) = name_with(node, followed.spelled) else {
+    let Some(name) = name_with(node, traced.spelled) else {
         return Ok(None);
     };
-    if !indexed(&facts(node, class, followed)) {
+    if !indexed(&facts(node, class, traced)) {
         return Ok(None);
     }
     let length = qualified_length(class, scope, name);
@@ -62,17 +62,17 @@ fn entry_of<'f>(
     }
     Ok(Some(LinkedEntry {
         offset: node.offset,
-        external: followed.external,
-        name: followed.spelled,
-        linkage: followed.linkage,
+        external: traced.external,
+        name: traced.spelled,
+        linkage: traced.linkage,
         length: length as u32,
     }))
 }
 
 // What the rules ask of a visited entry that has a name.
 #[tactic(auto, unfolding(index_model::specs::ShardParts::node_facts, index_model::specs::Links::facts_of))]
-fn facts(node: &Node<'_>, class: Class, followed: &Followed<'_>) -> Facts
-    ensures { ForFollowed node.now class followed.now (λ p d n. (path : List Member) → is_some (name_in (link_with p d n path)) ≡ true → result ≡ facts_of (link_with p d n path)) }
+fn facts(node: &Node<'_>, class: Class, traced: &Traced<'_>) -> Facts
+    ensures { ForTraced node.now class traced.now (λ p d n. (path : List Member) → is_some (name_in (link_with p d n path)) ≡ true → result ≡ facts_of (link_with p d n path)) }
 {
     Facts {
         tag: node.tag,
@@ -80,7 +80,7 @@ fn facts(node: &Node<'_>, class: Class, followed: &Followed<'_>) -> Facts
         visited: true,
         named: true,
         declaration: node.declaration,
-        external: followed.external,
+        external: traced.external,
         address: node.address,
         value: node.value,
     }

@@ -14,6 +14,7 @@ mod paths;
 mod references;
 mod scope;
 mod signatures;
+mod traced;
 mod visits;
 
 pub use followed::Followed;

@@ -14,7 +14,7 @@ use crate::entry::link_entry;
 use crate::languages::Languages;
 use crate::paths::Paths;
 use crate::visits::is_visited;
-use entry_rules::{Class, in_table};
+use entry_rules::Class;
 use file_image::Image;
 use index_model::{Linked, LinkedEntry, List, Node, Shard};
 use ix_base::Stop;
@@ -111,9 +111,6 @@ fn link_node<'f>(
     ensures languages { languages.new ≡ languages.old }
     ensures paths { paths.new ≡ paths.old }
 {
-    if !in_table(node.tag) {
-        return Ok(None);
-    }
     let class = class_of(languages, node.unit);
     if !is_visited(shard, node, is_ada(class)) {
         return Ok(None);

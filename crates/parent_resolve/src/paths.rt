@@ -12,14 +12,15 @@ ghost use Rattle.index_model.specs.Gives.{GivesFor};
 ghost use Rattle.index_model.specs.Meaning.{at_place, fault};
 ghost use Rattle.index_model.specs.Names.{scope_path};
 ghost use Rattle.shard_build.specs.Entries.{AreShardsOfFile};
-ghost use Rattle.parent_resolve.specs.Followed.{followed_of, ForEntry, IsFollowed};
+ghost use Rattle.parent_resolve.specs.Followed.{followed_of, ForEntry};
 ghost use Rattle.parent_resolve.specs.Scopes.{greatest, IsScope};
-ghost use Rattle.parent_resolve.specs.Paths.{ForAround, IsScopeAround};
+ghost use Rattle.parent_resolve.specs.Traced.{IsTraced};
+ghost use Rattle.parent_resolve.specs.Paths.{ForAround, ForEnd, IsScopeAround};
 
-use crate::followed::Followed;
 use crate::members::{step_at, too_long};
 use crate::references::References;
 use crate::scope::{Scope, part_length};
+use crate::traced::Traced;
 use file_image::Image;
 use index_model::{Node, Shard};
 use indexmap::IndexMap;
@@ -28,23 +29,32 @@ use std::alloc::Global;
 use std::marker::Model;
 use std::sync::Arc;
 
+/// The scope of the path around entries with this lexical parent, which is the path's first member.
+#[derive(Clone, Copy)]
+struct ScopeAround {
+    parent: u64,
+    scope: Scope,
+}
+
 /// The references of a file's entries, and the scopes that are known so far, each by the joint offset of the path's first
-/// member.
+/// member. That which was asked last is at hand.
 #[derive(Drop)]
 pub(crate) struct Paths<'s, 'f> {
     references: References<'s, 'f>,
     known: IndexMap<u64, Scope>,
+    last: Option<ScopeAround>,
 }
 
 impl<'s, 'f> Model for Paths<'s, 'f> {
     ghost use Rattle.shard_build.specs.Entries.{EntriesOf};
-    ghost use Rattle.parent_resolve.specs.Paths.{AreScopes};
+    ghost use Rattle.std.specs.Option.{ForSome};
+    ghost use Rattle.parent_resolve.specs.Paths.{AreScopes, IsScopeAround};
 
     ghost Value = { EntriesOf };
 
     ghost view = { λ s. s.references };
 
-    ghost invariant = { λ s. AreScopes s.references s.known };
+    ghost invariant = { λ s. AreScopes s.references s.known × ForSome s.last (λ l. IsScopeAround s.references l.parent l.scope) };
 }
 
 impl<'s, 'f> Paths<'s, 'f> {
@@ -60,6 +70,7 @@ impl<'s, 'f> Paths<'s, 'f> {
         Ok(Paths {
             references: References::new(alloc, image, shards)?,
             known: IndexMap::new(alloc),
+            last: None,
         })
     }
 
@@ -69,26 +80,58 @@ impl<'s, 'f> Paths<'s, 'f> {
         alloc: Global,
         node: &Node<'f>,
         at: u64,
-    ) -> Result<Followed<'f>, Stop>
-        ensures value { ForEntry self.old node.now (λ p d. GivesFor (IsFollowed p d) result (at_place at (followed_of p d))) }
+    ) -> Result<Traced<'f>, Stop>
+        ensures value { ForEntry self.old node.now (λ p d. GivesFor (IsTraced p d) result (at_place at (followed_of p d))) }
         ensures kept { self.new ≡ self.old }
     {
-        self.references.follow(alloc, node, at)
+        if let Some(traced) = Traced::alone(node) {
+            return Ok(traced);
+        }
+        let followed = self.references.follow(alloc, node, at)?;
+        Ok(Traced::of(&followed))
     }
 
-    /// The scope of the path around an entry whose chain ends here. A fault has the place `at`.
-    pub(crate) fn around(&mut self, alloc: Global, end: &Node<'f>, at: u64) -> Result<Scope, Stop>
-        ensures value { ForEntry self.old end.now (λ p e. GivesFor IsScope result (at_place at (scope_path p e))) }
+    /// The scope of the path around an entry with this lexical parent, or with none. A fault has the place `at`.
+    pub(crate) fn around(
+        &mut self,
+        alloc: Global,
+        parent: Option<u64>,
+        at: u64,
+    ) -> Result<Scope, Stop>
+        ensures value { ForEnd self.old parent (λ p e. GivesFor IsScope result (at_place at (scope_path p e))) }
         ensures kept { self.new ≡ self.old }
     {
-        match end.parent {
+        match parent {
             Some(parent) => self.around_parent(alloc, parent, at),
             None => Ok(Scope::EMPTY),
         }
     }
 
-    // The scope of the path around an entry with this lexical parent. It is known from then on.
+    // The scope of the path around an entry with this lexical parent. It is at hand from then on.
     fn around_parent(&mut self, alloc: Global, parent: u64, at: u64) -> Result<Scope, Stop>
+        ensures value { ForAround self.old parent (λ p d. GivesFor IsScope result (at_place at (scope_path p d))) }
+        ensures kept { self.new ≡ self.old }
+    {
+        if let Some(scope) = self.at_hand(parent) {
+            return Ok(scope);
+        }
+        let scope = self.kept_around(alloc, parent, at)?;
+        self.last = Some(ScopeAround { parent, scope });
+        Ok(scope)
+    }
+
+    // The scope of the path around an entry with this lexical parent, if it is the one that was asked last.
+    fn at_hand(&self, parent: u64) -> Option<Scope>
+        ensures { IfSome result (IsScopeAround self.now parent) }
+    {
+        match self.last {
+            Some(last) if last.parent == parent => Some(last.scope),
+            _ => None,
+        }
+    }
+
+    // The scope of the path around an entry with this lexical parent. It is known from then on.
+    fn kept_around(&mut self, alloc: Global, parent: u64, at: u64) -> Result<Scope, Stop>
         ensures value { ForAround self.old parent (λ p d. GivesFor IsScope result (at_place at (scope_path p d))) }
         ensures kept { self.new ≡ self.old }
     {

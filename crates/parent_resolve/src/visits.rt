@@ -8,19 +8,20 @@ ghost use Rattle.std.specs.Prelude.{◌≡◌, IfSome, IsNone};
 ghost use Rattle.std.specs.List.Sorted.{IsNonDecreasingBy};
 ghost use Rattle.index_model.specs.NodeSeen.{node_seen};
 ghost use Rattle.index_model.specs.ShardLanguages.{root_in};
-ghost use Rattle.parent_resolve.specs.Visits.{HasNoneAt, IsNodeAt, IsVisitedBy, MayBeVisitedBy, takes_importers_class};
+ghost use Rattle.parent_resolve.specs.Visits.{HasNoneAt, IsNodeAt, IsVisitedBy, takes_importers_class};
 
 use entry_rules::visited;
 use index_model::{Node, Nodes, Parent, Root, Shard};
 
-/// Whether an entry of the shard's units whose tag an index may list is visited, in a unit whose class is Ada or isn't.
+/// Whether an entry that the shard keeps is visited, in a unit whose class is Ada or isn't.
 pub(crate) fn is_visited(shard: &Shard<'_>, node: &Node<'_>, ada: bool) -> bool
     ensures { IsVisitedBy shard.now node.now ada result }
 {
     if takes_importers_class(shard, node.unit) {
         is_visited_upwards(shard, node, ada)
     } else {
-        may_be_visited(shard, node)
+        // What the shard keeps below the root may be visited.
+        node.parent.is_some()
     }
 }
 
@@ -40,16 +41,6 @@ fn root_of(shard: &Shard<'_>, unit: u32) -> Option<Root>
 {
     let place = unit.checked_sub(shard.first)?;
     shard.roots.as_slice().get(place as usize).copied()
-}
-
-// Whether the shard keeps the entry, and it isn't a root.
-fn may_be_visited(shard: &Shard<'_>, node: &Node<'_>) -> bool
-    ensures { MayBeVisitedBy shard.now node.now result }
-{
-    if node.parent.is_none() {
-        return false;
-    }
-    node_at(&shard.nodes, shard.nodes.len(), node.offset).is_some()
 }
 
 // Whether all entries above it but the root open their children.

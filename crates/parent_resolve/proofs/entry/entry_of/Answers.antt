@@ -16,18 +16,18 @@ use Rattle.parent_resolve.proofs.entry.entry_of.Goals as goal
 
 pub returns-in_default : goal.returns-in_default
 returns-in_default c p d n node class h path scope =
-    not_indexed p d n path (nameless p d n path (named_by p d n path c.args.followed.now h c.name_with.result (c.name_with.ensures p.sections d node) None c.in_default.is))
+    not_indexed p d n path (nameless p d n path (named_by p d n path c.args.traced.now h c.name_with.result (c.name_with.ensures p.sections d node) None c.in_default.is))
 
 pub returns-then-not-indexed : goal.returns-then-not-indexed
 returns-then-not-indexed c p d n node class h path scope =
-    let named = named_by p d n path c.args.followed.now h c.name_with.result (c.name_with.ensures p.sections d node) (Some c.in-Some.name) c.in-Some.is in
+    let named = named_by p d n path c.args.traced.now h c.name_with.result (c.name_with.ensures p.sections d node) (Some c.in-Some.name) c.in-Some.is in
     let same = ap is_indexed (c.facts.ensures p d n node class h path (ap is_some named)) in
     let off : c.indexed.result ≡ false = search rules in
     not_indexed p d n path (sym same ∙ sym c.indexed.ensures ∙ off)
 
 pub returns-then-length-gt-MAX_QUALIFIED_NAME : goal.returns-then-length-gt-MAX_QUALIFIED_NAME
 returns-then-length-gt-MAX_QUALIFIED_NAME c p d n node class h path scope =
-    let named = named_by p d n path c.args.followed.now h c.name_with.result (c.name_with.ensures p.sections d node) (Some c.in-Some.name) c.in-Some.is in
+    let named = named_by p d n path c.args.traced.now h c.name_with.result (c.name_with.ensures p.sections d node) (Some c.in-Some.name) c.in-Some.is in
     let same = ap is_indexed (c.facts.ensures p d n node class h path (ap is_some named)) in
     let on : c.indexed.result ≡ true = search rules in
     let same_on = sym same ∙ sym c.indexed.ensures in
@@ -37,10 +37,10 @@ returns-then-length-gt-MAX_QUALIFIED_NAME c p d n node class h path scope =
 
 pub returns : goal.returns
 returns c p d n node class h path scope =
-    let named = named_by p d n path c.args.followed.now h c.name_with.result (c.name_with.ensures p.sections d node) (Some c.in-Some.name) c.in-Some.is in
+    let named = named_by p d n path c.args.traced.now h c.name_with.result (c.name_with.ensures p.sections d node) (Some c.in-Some.name) c.in-Some.is in
     let same = ap is_indexed (c.facts.ensures p d n node class h path (ap is_some named)) in
     let on : c.indexed.result ≡ true = search rules in
     let same_on = sym same ∙ sym c.indexed.ensures in
     let whole : c.qualified_length-length.result ≡ min greatest (length (qualified_name (class_of_unit p d.home) path c.in-Some.name.now)) = c.qualified_length-length.ensures path scope ∙ ap (λ (k : Class). min greatest (length (qualified_name k path c.in-Some.name.now))) class in
     let le : c.qualified_length-length.result ≤ MAX_QUALIFIED_NAME = omega (arith, c.if-length-gt-MAX_QUALIFIED_NAME.false) in
-    entry_given p d n path c.args.node.now node c.args.followed.now h (same_on ∙ on) c.in-Some.name.now named c.qualified_length-length.result whole le _ refl refl refl refl refl
+    entry_given p d n path c.args.node.now node c.args.traced.now h (same_on ∙ on) c.in-Some.name.now named c.qualified_length-length.result whole le _ refl refl refl refl refl
