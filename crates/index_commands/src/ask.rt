@@ -32,7 +32,7 @@ pub fn ask_file<R: Threads + Wait + Sync, K: Sink, G: Gate + Sync>(
     ensures causes { CausesOfResult (Rose (K.write_faults out.old) (K.write_faults out.new)) result }
     ensures counts { K.write_faults out.old ≤ K.write_faults out.new }
 {
-    match crew.build_until(file, CacheKind::Gdb8, need_of(question.query)) {
+    match crew.build_until(file, CacheKind::Gdb8, need_of(&question.query)) {
         Ok((board, mut pass)) => {
             let mut reader = board.reader(&mut pass);
             let status = answer(crew.rt, &mut reader, question, out);
