@@ -5,6 +5,9 @@ mod AbbreviationLookup
 mod AbbreviationSorting
 mod Takes
 mod ValueLaws
+mod FrontLaws
+mod MarkLaws
+mod FirstLaws
 mod Steady
 mod EntryLaws
 mod LeftLaws

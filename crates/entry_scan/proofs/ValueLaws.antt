@@ -9,7 +9,7 @@ use Rattle.entry_scan.specs.declared.values.Format.{Format}
 use Rattle.entry_scan.specs.Values.{values_at, value_read, place_read, IsRead}
 
 -- one more value before the others
-abbrev before : ℕ × Value → Result (List (ℕ × Value) × Input) ℕ → Result (List (ℕ × Value) × Input) ℕ
+abbrev pub before : ℕ × Value → Result (List (ℕ × Value) × Input) ℕ → Result (List (ℕ × Value) × Input) ℕ
 before p r = r >>= λ others. Ok (p ∷ others.0, others.1)
 
 place_before : (p : ℕ × Value) (r : Result (List (ℕ × Value) × Input) ℕ) → place_read (before p r) ≡ place_read r
@@ -39,7 +39,7 @@ unfolding values
 none_moves f ss i e = rw e refl
 
 module _ (f : Format) (s : Spec) (ss : List Spec) (i : Input) where
-  next_value : (v : Value) (j : Input) → value_at f.version f.wide s.form s.constant i ≡ Ok (v, j) → values_at f (s ∷ ss) i ≡ before (s.attribute, v) (values_at f ss j)
+  pub next_value : (v : Value) (j : Input) → value_at f.version f.wide s.form s.constant i ≡ Ok (v, j) → values_at f (s ∷ ss) i ≡ before (s.attribute, v) (values_at f ss j)
   unfolding values
   next_value v j e = rw e refl
 
@@ -55,7 +55,7 @@ module _ (f : Format) (s : Spec) (ss : List Spec) (i : Input) where
   abbrev first : Result (Value × Input) ℕ
   first = value_at f.version f.wide s.form s.constant i
 
-  first_at : (r : Result (Value × Input) ℕ) (j : Input) → place_read r ≡ Ok j → first ≡ r → (v : Value) × (first ≡ Ok (v, j))
+  pub first_at : (r : Result (Value × Input) ℕ) (j : Input) → place_read r ≡ Ok j → first ≡ r → (v : Value) × (first ≡ Ok (v, j))
   first_at (Ok x) j e g = let same : x.1 ≡ j = cc in (x.0, g ∙ ap (λ (k : Input). let made : Result (Value × Input) ℕ = Ok (x.0, k) in made) same)
   first_at (Err code) j e g = absurd cc
 

@@ -5,10 +5,16 @@ use Rattle.entry_scan.specs.declared.abbreviation.Head.{Head}
 use Rattle.entry_scan.specs.declared.abbreviation.Place.{Place}
 use Rattle.index_model.specs.Abbreviations as meant
 use Rattle.entry_scan.specs.SeenAbbreviations.{spec_seen}
+use Rattle.entry_scan.specs.Fronts.{IsFront}
+use Rattle.entry_scan.specs.Marks.{AreMarks}
 
--- the abbreviation of a head, whose attributes stand among those of all heads
+-- the attributes of a head among those of all heads
+abbrev pub own : List Spec → Head → List Spec
+own specs h = take (h.end - h.start) (drop h.start specs)
+
+-- the abbreviation of a head
 abbrev pub head_seen : List Spec → Head → meant.Abbrev
-head_seen specs h = record { code = h.code; tag = h.tag; children = h.children; specs = map spec_seen (take (h.end - h.start) (drop h.start specs)) }
+head_seen specs h = record { code = h.code; tag = h.tag; children = h.children; specs = map spec_seen (own specs h) }
 
 -- those of all heads
 abbrev pub heads_seen : List Spec → List Head → List meant.Abbrev
@@ -18,10 +24,12 @@ heads_seen specs heads = map (head_seen specs) heads
 abbrev pub Extends : {A : Type 0} → List A → List A → Type 0
 Extends old new = take (length old) new ≡ old
 
--- the attributes of a head are among the first n
-pub record IsWithin (n : ℕ) (h : Head) : Type 0 where
+-- the attributes of a head are among these, begin with its front and have its marks
+pub record IsWithin (specs : List Spec) (h : Head) : Type 0 where
   pub start : h.start ≤ h.end
-  pub end : h.end ≤ n
+  pub end : h.end ≤ length specs
+  pub front : IsFront (own specs h) h.front
+  pub marks : AreMarks (own specs h) h.marks
 
 -- the place of the head at an index
 abbrev pub place_at : List Head → ℕ → Head → Place

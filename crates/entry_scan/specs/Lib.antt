@@ -3,6 +3,8 @@ pub mod AbbreviationTables
 pub mod GivesTable
 pub mod FormNumbers
 pub mod Values
+pub mod Fronts
+pub mod Marks
 pub mod Tokens
 pub mod Ahead
 pub mod Inside

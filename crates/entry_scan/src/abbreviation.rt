@@ -8,6 +8,8 @@ ghost use Rattle.entry_scan.specs.GivesTable.{GivesOrFails, AddsOrFails};
 ghost use Rattle.entry_scan.specs.SeenAbbreviations.{spec_seen};
 ghost use Rattle.entry_scan.specs.AbbreviationTables.{head_seen, heads_seen, IsWithin, IsSplit, Extends};
 
+use crate::marks::Marks;
+use crate::sizes::{Front, front_of};
 use ix_base::Cursor;
 use std::alloc::{AllocError, AllocFailed, Global};
 
@@ -62,9 +64,11 @@ impl<T: Drop> From<AllocFailed<T>> for BadAbbrev {
 pub(crate) struct Head {
     pub(crate) code: u64,
     pub(crate) tag: u64,
-    pub(crate) children: bool,
     pub(crate) start: usize,
     pub(crate) end: usize,
+    pub(crate) front: Front,
+    pub(crate) marks: Marks,
+    pub(crate) children: bool,
 }
 
 // Where the head of a code stands.
@@ -123,7 +127,7 @@ fn read_specs(specs: &mut Vec<Spec>, cursor: &mut Cursor<'_>) -> Result<(), BadA
 #[tactic(auto, unfolding(index_model::specs::Abbreviations::abbrev_with))]
 fn read_head(code: u64, specs: &mut Vec<Spec>, cursor: &mut Cursor<'_>) -> Result<Head, BadAbbrev>
     ensures kept { Extends specs.old.items specs.new.items }
-    ensures within { IfOk result (λ h. IsWithin (length specs.new.items) h) }
+    ensures within { IfOk result (λ h. IsWithin specs.new.items h) }
     ensures code { IfOk result (λ h. h.code ≡ code) }
     ensures value { GivesOrFails (λ h. (head_seen specs.new.items h, cursor.new)) result (abbrev_with code cursor.old) }
 {
@@ -131,20 +135,23 @@ fn read_head(code: u64, specs: &mut Vec<Spec>, cursor: &mut Cursor<'_>) -> Resul
     let children = cursor.u8().ok_or(BadAbbrev::Damaged)? != 0;
     let start = specs.len();
     read_specs(specs, cursor)?;
+    let end = specs.len();
     Ok(Head {
         code,
         tag,
-        children,
         start,
-        end: specs.len(),
+        end,
+        front: front_of(&specs[start..end]),
+        marks: Marks::of(&specs[start..end]),
+        children,
     })
 }
 
 // Adds the abbreviation of a code, which stands at the cursor.
 fn read_abbrev(code: u64, parts: &mut Parts, cursor: &mut Cursor<'_>) -> Result<(), BadAbbrev>
-    requires within { All (IsWithin (length parts.old.specs.items)) parts.old.heads.items }
+    requires within { All (IsWithin parts.old.specs.items) parts.old.heads.items }
     requires split { IsSplit parts.old.heads.items parts.old.others.items }
-    ensures within { OnOk result (All (IsWithin (length parts.new.specs.items)) parts.new.heads.items) }
+    ensures within { OnOk result (All (IsWithin parts.new.specs.items) parts.new.heads.items) }
     ensures split { OnOk result (IsSplit parts.new.heads.items parts.new.others.items) }
     ensures value { AddsOrFails (heads_seen parts.old.specs.items parts.old.heads.items) (heads_seen parts.new.specs.items parts.new.heads.items) cursor.new result (abbrev_with code cursor.old) }
 {
@@ -160,7 +167,7 @@ fn read_abbrev(code: u64, parts: &mut Parts, cursor: &mut Cursor<'_>) -> Result<
 // The abbreviations up to code 0.
 pub(crate) fn read_parts(alloc: Global, bytes: &[u8], at: usize) -> Result<Parts, BadAbbrev>
     requires { at ≤ length bytes.now }
-    ensures within { IfOk result (λ p. All (IsWithin (length p.specs.items)) p.heads.items) }
+    ensures within { IfOk result (λ p. All (IsWithin p.specs.items) p.heads.items) }
     ensures split { IfOk result (λ p. IsSplit p.heads.items p.others.items) }
     ensures value { GivesOrFails (λ p. heads_seen p.specs.items p.heads.items) result (table bytes.now at) }
 {

@@ -1,12 +1,16 @@
 //! A table of abbreviations, read once for its units.
 
-ghost use Rattle.std.specs.Prelude.{◌≡◌, ◌==◌, position, option_map};
+ghost use Rattle.std.specs.Prelude.{◌≡◌, ◌==◌, position, option_map, IfSome};
 ghost use Rattle.index_model.specs.Abbreviations.{table, abbrev_of};
 ghost use Rattle.entry_scan.specs.GivesTable.{GivesOrFails};
 ghost use Rattle.entry_scan.specs.SeenAbbreviations.{abbrev_seen};
 ghost use Rattle.entry_scan.specs.AbbreviationTables.{AreInOrder, Cuts};
+ghost use Rattle.entry_scan.specs.Fronts.{IsFront};
+ghost use Rattle.entry_scan.specs.Marks.{AreMarks};
 
 use crate::abbreviation::{BadAbbrev, Head, Parts, Place, Spec, read_parts};
+use crate::marks::Marks;
+use crate::sizes::Front;
 use std::alloc::Global;
 use std::marker::Model;
 
@@ -16,6 +20,14 @@ pub struct Abbrev<'t> {
     pub tag: u64,
     pub children: bool,
     pub specs: &'t [Spec],
+}
+
+/// An abbreviation, the front of its attributes, and which it may have.
+#[derive(Clone, Copy)]
+pub(crate) struct Shape<'t> {
+    pub abbrev: Abbrev<'t>,
+    pub front: Front,
+    pub marks: Marks,
 }
 
 /// The abbreviations of a table, in the order in which they stand there.
@@ -37,7 +49,7 @@ impl Model for Abbrevs {
 
     ghost view = { λ a. heads_seen a.specs.items a.heads.items };
 
-    ghost invariant = { λ a. (All (IsWithin (length a.specs.items)) a.heads.items) × IsSearchable a.heads.items a.others.items };
+    ghost invariant = { λ a. (All (IsWithin a.specs.items) a.heads.items) × IsSearchable a.heads.items a.others.items };
 }
 
 impl Abbrevs {
@@ -66,11 +78,24 @@ impl Abbrevs {
     pub fn find(&self, code: u64) -> Option<Abbrev<'_>>
         ensures { option_map (abbrev_seen code) result ≡ abbrev_of self.now code }
     {
+        Some(self.shape(code)?.abbrev)
+    }
+
+    /// The same, with what is known of its attributes.
+    pub(crate) fn shape(&self, code: u64) -> Option<Shape<'_>>
+        ensures value { option_map (λ s. abbrev_seen code s.abbrev) result ≡ abbrev_of self.now code }
+        ensures front { IfSome result (λ s. IsFront s.abbrev.specs.now s.front) }
+        ensures marks { IfSome result (λ s. AreMarks s.abbrev.specs.now s.marks) }
+    {
         let head = self.heads[self.index_of(code)?];
-        Some(Abbrev {
-            tag: head.tag,
-            children: head.children,
-            specs: &self.specs[head.start..head.end],
+        Some(Shape {
+            abbrev: Abbrev {
+                tag: head.tag,
+                children: head.children,
+                specs: &self.specs[head.start..head.end],
+            },
+            front: head.front,
+            marks: head.marks,
         })
     }
 

@@ -3,6 +3,7 @@
 ghost use Rattle.std.specs.Prelude.{◌≡◌, ◌≤◌, ◌<◌, ◌^◌};
 
 use crate::attributes::Attributes;
+use crate::marks::Marks;
 use index_model::Value;
 use std::marker::Model;
 
@@ -15,6 +16,7 @@ pub struct Item<'a> {
     pub(crate) depth: u32,
     pub(crate) children: bool,
     pub(crate) tag: u64,
+    pub(crate) marks: Marks,
     pub(crate) values: Attributes<'a>,
 }
 
@@ -27,7 +29,9 @@ impl<'a> Model for Item<'a> {
 
     ghost view = { λ d. record { at = d.at; after = d.after; depth = d.depth; children = d.children; tag = d.tag; values = d.values } };
 
-    ghost invariant = { λ d. (d.depth ≤ 1024) × (d.at < 2 ^ 63) × (d.after < 2 ^ 63) };
+    ghost use Rattle.entry_scan.specs.Marks.{AreMarked};
+
+    ghost invariant = { λ d. (d.depth ≤ 1024) × (d.at < 2 ^ 63) × (d.after < 2 ^ 63) × AreMarked d.values d.marks };
 }
 
 impl<'a> Item<'a> {
@@ -77,12 +81,10 @@ impl<'a> Item<'a> {
     pub fn value(&self, attribute: u64) -> Option<Value<'a>>
         ensures { option_map seen result ≡ attribute_of attribute self.now }
     {
-        for (number, value) in self.attributes() {
-            if number == attribute {
-                return Some(value);
-            }
+        if !self.marks.may_have(attribute) {
+            return None;
         }
-        None
+        self.values.first(attribute)
     }
 
     /// Its attributes in order, for a caller that reads more than one: they are read in one pass.

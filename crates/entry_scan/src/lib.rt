@@ -13,6 +13,7 @@ mod form_numbers;
 mod forms;
 mod inside;
 mod item;
+mod marks;
 mod sizes;
 mod token;
 mod tree;

@@ -4,11 +4,13 @@ ghost use Rattle.std.specs.Prelude.{◌≡◌, ◌<◌, ◌≤◌, ◌+◌, ◌^
 ghost use Rattle.ix_base.specs.Moves.{MovesOn};
 ghost use Rattle.index_model.specs.Gives.{GivesAlways};
 ghost use Rattle.index_model.specs.Tags.{is_root_tag};
+ghost use Rattle.entry_scan.specs.Fronts.{IsFront};
+ghost use Rattle.entry_scan.specs.Marks.{AreMarks};
 
-use crate::abbreviations::{Abbrev, Abbrevs};
+use crate::abbreviations::{Abbrevs, Shape};
 use crate::attributes::Attributes;
 use crate::item::Item;
-use crate::values::{Format, pass};
+use crate::values::{Format, pass_all};
 use index_model::Unit;
 use ix_base::code::{BAD_CODE, BAD_ROOT, DEPTH, TRUNCATED};
 use ix_base::{Cursor, MAX_DEPTH};
@@ -95,7 +97,7 @@ impl<'a> Frame<'a> {
                 after: self.offset(cursor),
             });
         }
-        let Some(shape) = self.abbrevs.find(code) else {
+        let Some(shape) = self.abbrevs.shape(code) else {
             return Err(BAD_CODE);
         };
         self.entry(levels, at, shape, cursor)
@@ -106,20 +108,27 @@ impl<'a> Frame<'a> {
         &self,
         levels: Levels,
         at: u64,
-        shape: Abbrev<'a>,
+        shape: Shape<'a>,
         cursor: &mut Cursor<'a>,
     ) -> Result<Token<'a>, u8>
         requires place { at < 2 ^ 63 }
+        requires front { IsFront shape.abbrev.specs.now shape.front }
+        requires marks { AreMarks shape.abbrev.specs.now shape.marks }
         requires small { self.now.unit.start + cursor.old.at + length cursor.old.rest < 2 ^ 63 }
         ensures value { GivesAlways (λ t. (token_seen t, joint self.now.unit.start cursor.new)) result
-            (entry_at self.now.unit self.now.abbrevs.now (levels_seen levels) at (abbrev_seen 0 shape.entry) (joint self.now.unit.start cursor.old)) }
+            (entry_at self.now.unit self.now.abbrevs.now (levels_seen levels) at (abbrev_seen 0 shape.entry.abbrev) (joint self.now.unit.start cursor.old)) }
         ensures place { MovesOn cursor.old cursor.new }
         ensures shallow { IfOk result (λ t. OnEntry t (levels.depth ≤ 1024)) }
     {
         if levels.depth > MAX_DEPTH {
             return Err(DEPTH);
         }
-        if !may_stand(levels.root, shape.tag) {
+        let Shape {
+            abbrev,
+            front,
+            marks,
+        } = shape;
+        if !may_stand(levels.root, abbrev.tag) {
             return Err(BAD_ROOT);
         }
         let format = Format {
@@ -127,16 +136,17 @@ impl<'a> Frame<'a> {
             wide: self.unit.wide,
         };
         let begin = cursor.copied();
-        if let Err(code) = pass(shape.specs, format, cursor) {
+        if let Err(code) = pass_all(abbrev.specs, front, format, cursor) {
             return Err(code);
         }
         Ok(Token::Entry(Item {
             at,
             after: self.offset(cursor),
             depth: levels.depth,
-            children: shape.children,
-            tag: shape.tag,
-            values: Attributes::new(shape.specs, begin, format),
+            children: abbrev.children,
+            tag: abbrev.tag,
+            marks,
+            values: Attributes::new(abbrev.specs, begin, format),
         }))
     }
 }

@@ -5,11 +5,12 @@ ghost use Rattle.ix_base.specs.Moves.{MovesOn};
 ghost use Rattle.index_model.specs.Forms.{value_at};
 ghost use Rattle.index_model.specs.Gives.{GivesAlways};
 ghost use Rattle.index_model.specs.FormSeen.{seen};
+ghost use Rattle.entry_scan.specs.Fronts.{IsFront};
 ghost use Rattle.entry_scan.specs.Values.{values_at, place_read};
 
 use crate::abbreviation::Spec;
 use crate::forms::read_value;
-use crate::sizes::size_of;
+use crate::sizes::{Front, size_of};
 use index_model::Value;
 use ix_base::Cursor;
 use ix_base::code::TRUNCATED;
@@ -40,12 +41,12 @@ pub(crate) fn read<'a>(
 }
 
 // Passes the value at the cursor, by its spec. Where its size is known it isn't read.
-fn pass_one(spec: &Spec, format: Format, cursor: &mut Cursor<'_>) -> Result<(), u8>
+pub(crate) fn pass_one(spec: &Spec, format: Format, cursor: &mut Cursor<'_>) -> Result<(), u8>
     ensures value { GivesAlways (λ _. cursor.new) result (place_read (value_at format.version format.wide spec.now.form spec.now.constant cursor.old)) }
     ensures place { MovesOn cursor.old cursor.new }
 {
-    match size_of(spec.form, format) {
-        Some(size) => match cursor.skip(size) {
+    match size_of(spec.form, format.wide) {
+        Some(size) => match cursor.skip(u64::from(size)) {
             Some(_) => Ok(()),
             None => Err(TRUNCATED),
         },
@@ -67,4 +68,24 @@ pub(crate) fn pass(specs: &[Spec], format: Format, cursor: &mut Cursor<'_>) -> R
         }
     }
     Ok(())
+}
+
+// The same, by the front of these attributes, whose values are passed in one.
+pub(crate) fn pass_all(
+    specs: &[Spec],
+    front: Front,
+    format: Format,
+    cursor: &mut Cursor<'_>,
+) -> Result<(), u8>
+    requires { IsFront specs.now front }
+    ensures value { GivesAlways (λ _. cursor.new) result (place_read (values_at format specs.now cursor.old)) }
+    ensures place { MovesOn cursor.old cursor.new }
+{
+    if format.wide {
+        return pass(specs, format, cursor);
+    }
+    match cursor.skip(u64::from(front.bytes)) {
+        Some(_) => pass(&specs[front.count as usize..], format, cursor),
+        None => Err(TRUNCATED),
+    }
 }

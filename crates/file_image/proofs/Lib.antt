@@ -8,3 +8,4 @@ mod Loops
 mod InsideLaws
 mod Both
 pub mod Images
+mod TextLaws

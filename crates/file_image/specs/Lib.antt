@@ -5,3 +5,4 @@ pub mod Heads
 pub mod Images
 pub mod Inside
 pub mod Resolved
+pub mod TextLimits

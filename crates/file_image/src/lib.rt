@@ -16,6 +16,7 @@ mod section_table;
 mod sections;
 mod strings;
 mod table;
+mod text_limits;
 mod tile;
 mod unit_header;
 
@@ -23,5 +24,5 @@ pub use image::Image;
 pub use section_header::Header;
 pub use section_table::SectionTable;
 pub use sections::Sections;
-pub use strings::text;
+pub use strings::{test_text, text};
 pub use tile::units;

@@ -3,12 +3,14 @@
 ghost use Rattle.std.specs.Prelude.{◌≡◌, ◌≤◌, codes, length};
 ghost use Rattle.index_model.specs.Gives.{Gives};
 ghost use Rattle.index_model.specs.Sections.{index_named, section_bytes, sections_of};
+ghost use Rattle.file_image.specs.TextLimits.{AreLimits};
 
 use crate::compressed::check_compressed;
 use crate::found::{Found, index_named, sections_of_table, table_fault};
 use crate::ident::check_ident;
 use crate::resolved::{Resolved, content_of};
 use crate::table::Table;
+use crate::text_limits::TextLimits;
 use ix_base::{Fault, MAX_FILE_BYTES, Stop, code};
 use std::alloc::Global;
 use std::marker::Model;
@@ -18,6 +20,7 @@ use std::marker::Model;
 pub struct Sections<'f> {
     found: Vec<Found<'f>>,
     resolved: Resolved<'f>,
+    limits: TextLimits,
 }
 
 impl<'f> Model for Sections<'f> {
@@ -25,12 +28,13 @@ impl<'f> Model for Sections<'f> {
     ghost use Rattle.index_model.specs.Sections.{Section};
     ghost use Rattle.file_image.specs.Found.{section, AreSmall};
     ghost use Rattle.file_image.specs.Resolved.{AreFound};
+    ghost use Rattle.file_image.specs.TextLimits.{AreLimits};
 
     ghost Value = { List Section };
 
     ghost view = { λ s. map section s.found.items };
 
-    ghost invariant = { λ s. AreSmall s.found.items × AreFound (map section s.found.items) s.resolved };
+    ghost invariant = { λ s. AreSmall s.found.items × AreFound (map section s.found.items) s.resolved × AreLimits s.resolved.str.now s.resolved.line_str.now s.limits };
 }
 
 impl<'f> Sections<'f> {
@@ -55,7 +59,12 @@ impl<'f> Sections<'f> {
                 at: 0,
             }));
         }
-        Ok(Sections { found, resolved })
+        let limits = TextLimits::of(resolved.str, resolved.line_str);
+        Ok(Sections {
+            found,
+            resolved,
+            limits,
+        })
     }
 
     /// The bytes of the first section of this name; none, where there is no such section.
@@ -128,6 +137,13 @@ impl<'f> Sections<'f> {
         ensures small { length result.now ≤ MAX_FILE_BYTES }
     {
         self.resolved.ranges
+    }
+
+    // Up to which places the strings of `.debug_str` and `.debug_line_str` are sound.
+    pub(crate) fn limits(&self) -> TextLimits
+        ensures { AreLimits (section_bytes self.now (codes ".debug_str")) (section_bytes self.now (codes ".debug_line_str")) result }
+    {
+        self.limits
     }
 
     /// The index of the first section of this name among all headers, of which that of section 0 is the first; None where there

@@ -4,6 +4,7 @@ ghost use Rattle.std.specs.Prelude.{◌≡◌, ◌≤◌, length, drop, option_m
 ghost use Rattle.index_model.specs.Gives.{GivesAlways};
 ghost use Rattle.index_model.specs.Strings.{bounded, string_at, str_offset, text_of};
 ghost use Rattle.index_model.specs.FormSeen.{seen};
+ghost use Rattle.file_image.specs.TextLimits.{AreSound, tested};
 
 use crate::sections::Sections;
 use index_model::Value;
@@ -86,5 +87,45 @@ pub fn text<'f>(
             string_in(sections.debug_str(), at)
         }
         _ => Ok(None),
+    }
+}
+
+// Whether the string at an offset of a section is sound. The strings at offsets below the limit are.
+fn test_in(bytes: &[u8], limit: u64, at: u64) -> Result<(), u8>
+    requires { AreSound bytes.now limit }
+    ensures { GivesAlways (λ done. done) result (tested (string_at bytes.now at)) }
+{
+    if at < limit {
+        return Ok(());
+    }
+    match string_in(bytes, at) {
+        Ok(_) => Ok(()),
+        Err(code) => Err(code),
+    }
+}
+
+/// Whether the text of a value is sound: the same as `text`, where the text isn't asked for. Most are told by one comparison.
+#[tactic(auto, unfolding(index_model::specs::Strings::text_of))]
+pub fn test_text(
+    sections: &Sections<'_>,
+    base: Option<u64>,
+    wide: bool,
+    value: &Value<'_>,
+) -> Result<(), u8>
+    ensures { GivesAlways (λ done. done) result (tested (text_of sections.now base wide (seen value.now))) }
+{
+    let limits = sections.limits();
+    match *value {
+        Value::Inline(text) => match within_limit(text) {
+            Ok(_) => Ok(()),
+            Err(code) => Err(code),
+        },
+        Value::Str(at) => test_in(sections.debug_str(), limits.str, at),
+        Value::LineStr(at) => test_in(sections.debug_line_str(), limits.line_str, at),
+        Value::StrIndex(index) => {
+            let at = indexed_offset(sections, base, wide, index)?;
+            test_in(sections.debug_str(), limits.str, at)
+        }
+        _ => Ok(()),
     }
 }

@@ -8,7 +8,7 @@ use Rattle.entry_scan.proofs.abbreviation.read_parts.Given as goal
 -- the abbreviations so far, and those that are still to come
 abbrev pub invariant-abbreviations : goal.invariant-abbreviations
 invariant-abbreviations l = record {
-  within : All (IsWithin (length l.parts.specs.items)) l.parts.heads.items;
+  within : All (IsWithin l.parts.specs.items) l.parts.heads.items;
   split : IsSplit l.parts.heads.items l.parts.others.items;
   so_far : with_first (heads_seen l.parts.specs.items l.parts.heads.items) (abbrevs_at (l.end - l.counter) l.cursor) ≡ abbrevs_at (length l.bytes) (input l.bytes l.at);
 }
