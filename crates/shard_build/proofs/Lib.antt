@@ -1,4 +1,3 @@
-mod KeepLaws
 mod FoundLaws
 mod TokenSteps
 mod EntrySteps

@@ -1,5 +1,5 @@
 -- The texts of an entry, by what its unit's root says (DWARF 5, 7.5.5 on the class string).
-use Rattle.std.specs.Prelude.{◌≡◌, ℕ, ◌-◌, Bool, List, Option, Some, option_map, Result, Ok, Err}
+use Rattle.std.specs.Prelude.{◌≡◌, ℕ, ◌-◌, Bool, List, Option, Some, option_map, Result, Ok}
 use Rattle.shard_build.specs.declared.texts.Texts.{Texts as TextsRead}
 use Rattle.index_model.specs.declared.unit.Unit.{Unit as UnitHeader}
 use Rattle.index_model.specs.Meaning.{◌>>=◌, if_some}
@@ -29,8 +29,3 @@ HoldsTexts bytes u d = (n : ℕ) (text : List ℕ) → attribute n d ≡ Some (I
 -- the texts with their bytes
 abbrev pub texts_seen : TextsRead → Texts
 texts_seen t = record { name = option_map (λ b. b.now) t.name; linkage = option_map (λ b. b.now) t.linkage }
-
--- only what is wrong of a meaning
-abbrev pub tested : {A E : Type 0} → Result A E → Result (Unit {0}) E
-tested (Ok x) = Ok tt
-tested (Err e) = Err e

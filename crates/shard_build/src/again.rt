@@ -8,7 +8,7 @@ ghost use Rattle.shard_build.specs.Again.{walk_by, IsSound};
 ghost use Rattle.shard_build.specs.Entries.{IsNodeIn};
 ghost use Rattle.shard_build.specs.Found.{located_in_span, IsSpanOfParent};
 
-use crate::attributes::Attributes;
+use crate::facts;
 use crate::home::Home;
 use entry_scan::{Abbrevs, Walk, item_at};
 use index_model::{Node, Span};
@@ -26,9 +26,8 @@ impl<'s, 'f> Home<'s, 'f> {
         ensures { IsNodeIn self.now.sections.now result (located_in_span (walk_by self.now abbrevs.now) span.now offset) }
     {
         let item = item_at(self.bytes, &self.unit, abbrevs, span, offset)?;
-        let entry = Attributes::of(item);
-        match self.texts(self.str_offsets_base(abbrevs), &entry) {
-            Ok(texts) => Some(self.node_under(Some(span.entry), &entry, texts)),
+        match self.texts(self.str_offsets_base(abbrevs), &item) {
+            Ok(texts) => Some(self.node_under(Some(span.entry), &item, texts)),
             Err(_) => unreachable!(),
         }
     }
@@ -41,7 +40,7 @@ impl<'s, 'f> Home<'s, 'f> {
         ensures { result ≡ base_of 0x72 (walk_by self.now abbrevs.now) }
     {
         match Walk::new(self.bytes, &self.unit, abbrevs).next() {
-            Ok(Some(root)) => Attributes::of(root).str_offsets_base(),
+            Ok(Some(root)) => facts::str_offsets_base(&root),
             _ => None,
         }
     }

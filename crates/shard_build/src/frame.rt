@@ -5,8 +5,9 @@ ghost use Rattle.index_model.specs.Languages.{class_of};
 ghost use Rattle.index_model.specs.Rules.{is_ada};
 ghost use Rattle.shard_build.specs.Frames.{blank, frame_of, frame_at};
 
-use crate::attributes::Attributes;
+use crate::facts;
 use entry_rules::{Class, class};
+use entry_scan::Item;
 use index_model::Root;
 
 const PARTIAL_UNIT: u64 = 0x3c;
@@ -40,31 +41,29 @@ impl Frame {
 
     // What a root says.
     #[tactic(auto, unfolding(crate::specs::Frames::frame_of))]
-    fn of(entry: &Attributes<'_>) -> Frame
+    fn of(entry: &Item<'_>) -> Frame
         ensures { result ≡ frame_of entry.now }
     {
-        let language = entry.language();
-        let partial = entry.item().tag() == PARTIAL_UNIT;
+        let language = facts::language(entry);
+        let partial = entry.tag() == PARTIAL_UNIT;
         Frame {
             root: Root {
                 language,
-                addr_base: entry.addr_base(),
-                rnglists_base: entry.rnglists_base(),
+                addr_base: facts::addr_base(entry),
+                rnglists_base: facts::rnglists_base(entry),
                 partial,
             },
-            str_offsets_base: entry.str_offsets_base(),
+            str_offsets_base: facts::str_offsets_base(entry),
             ada: is_ada(language.unwrap_or(0)) || (partial && language.is_none()),
         }
     }
 
-    /// What is known at an entry, the root's own attributes included.
-    pub fn at(self, entry: &Attributes<'_>) -> Frame
-        ensures { result ≡ frame_at self entry.now }
+    /// Takes in what an entry says of the whole unit, if it is the root.
+    pub fn learn(&mut self, entry: &Item<'_>)
+        ensures { self.new ≡ frame_at self.old entry.now }
     {
-        if entry.item().depth() == 0 {
-            Frame::of(entry)
-        } else {
-            self
+        if entry.depth() == 0 {
+            *self = Frame::of(entry);
         }
     }
 }

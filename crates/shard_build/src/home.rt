@@ -7,7 +7,7 @@ ghost use Rattle.file_image.specs.Images.{unit_bytes};
 ghost use Rattle.shard_build.specs.Kept.{node_by, node_under, target_by, span_from, imports_by};
 ghost use Rattle.shard_build.specs.Texts.{texts_seen};
 
-use crate::attributes::Attributes;
+use crate::facts;
 use crate::open::Open;
 use crate::texts::Texts;
 use entry_scan::Item;
@@ -48,7 +48,7 @@ impl<'s, 'f> Home<'s, 'f> {
 
     /// The node of an entry in this one, with these texts.
     #[tactic(auto, unfolding(crate::specs::Kept::node_by))]
-    pub fn node(&self, outer: Option<Open>, entry: &Attributes<'_>, texts: Texts<'f>) -> Node<'f>
+    pub fn node(&self, outer: Option<Open>, entry: &Item<'_>, texts: Texts<'f>) -> Node<'f>
         ensures { node_seen result ≡ node_by self.now.sections.now (self.now.number, self.now.unit) outer entry.now (texts_seen texts.entry) }
     {
         self.node_under(outer.map(|open| open.at), entry, texts)
@@ -56,33 +56,28 @@ impl<'s, 'f> Home<'s, 'f> {
 
     /// The node of an entry whose parent has this joint offset, with these texts.
     #[tactic(auto, unfolding(crate::specs::Kept::node_under))]
-    pub fn node_under(
-        &self,
-        parent: Option<u64>,
-        entry: &Attributes<'_>,
-        texts: Texts<'f>,
-    ) -> Node<'f>
+    pub fn node_under(&self, parent: Option<u64>, entry: &Item<'_>, texts: Texts<'f>) -> Node<'f>
         ensures { node_seen result ≡ node_under self.now.sections.now (self.now.number, self.now.unit) parent entry.now (texts_seen texts.entry) }
     {
         let version = self.unit.version;
         Node {
             unit: self.number,
-            offset: entry.item().offset(),
+            offset: entry.offset(),
             parent,
-            tag: entry.item().tag(),
-            declaration: entry.is_declaration(),
-            external: entry.is_external(),
-            enum_class: entry.is_enum_class(),
-            main: entry.is_main(),
-            address: entry.has_address(version),
-            value: entry.has_value(),
+            tag: entry.tag(),
+            declaration: facts::is_declaration(entry),
+            external: facts::is_external(entry),
+            enum_class: facts::is_enum_class(entry),
+            main: facts::is_main(entry),
+            address: facts::has_address(entry, version),
+            value: facts::has_value(entry),
             name: texts.name,
             linkage: texts.linkage,
-            next: entry.next(),
-            signature: entry.signature(),
-            low: entry.low(),
-            high: entry.high(),
-            ranges: entry.ranges(version),
+            next: facts::next(entry),
+            signature: facts::signature(entry),
+            low: facts::low(entry),
+            high: facts::high(entry),
+            ranges: facts::ranges(entry, version),
         }
     }
 
@@ -101,14 +96,14 @@ impl<'s, 'f> Home<'s, 'f> {
     }
 
     /// The import of an entry, if it is an imported unit that names a place.
-    pub fn import(&self, entry: &Attributes<'_>) -> Option<Import>
+    pub fn import(&self, entry: &Item<'_>) -> Option<Import>
         requires { self.now.unit.start + self.now.unit.length < 2 ^ 63 }
         ensures { option_to_list result ≡ imports_by self.now.sections.now (self.now.number, self.now.unit) entry.now }
     {
-        if entry.item().tag() != IMPORTED_UNIT {
+        if entry.tag() != IMPORTED_UNIT {
             return None;
         }
-        match entry.import() {
+        match facts::import(entry) {
             None => None,
             Some(reference) => match self.target(reference) {
                 None => None,

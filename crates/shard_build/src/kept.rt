@@ -2,13 +2,12 @@
 
 ghost use Rattle.std.specs.Prelude.{◌≡◌, ◌+◌, ◌<◌, ◌^◌, ◌++◌, ◌∷◌, [], ℕ, length, reverse, OnOk};
 ghost use Rattle.index_model.specs.Gives.{Gives};
-ghost use Rattle.shard_build.specs.Kept.{has_node, node_by, nodes_added, with_texts, spans_by, opened_by, imports_by};
+ghost use Rattle.shard_build.specs.Kept.{has_node, is_visited_in, node_by, nodes_added, with_texts, spans_by, opened_by, imports_by};
 ghost use Rattle.shard_build.specs.Texts.{HoldsTexts};
 
-use crate::attributes::Attributes;
 use crate::frame::Frame;
 use crate::home::Home;
-use crate::open::{Open, innermost, is_visited_in, role_of};
+use crate::open::{Open, role_of};
 use crate::text_places::TextPlaces;
 use entry_rules::in_table;
 use entry_scan::Item;
@@ -37,13 +36,15 @@ pub(crate) fn add_node<'f>(
     home: &Home<'_, 'f>,
     frame: &Frame,
     outer: Option<Open>,
-    entry: &Attributes<'_>,
+    visited: bool,
+    entry: &Item<'_>,
 ) -> Result<(), Stop>
-    requires { HoldsTexts home.now.bytes.now home.now.unit entry.now }
+    requires texts { HoldsTexts home.now.bytes.now home.now.unit entry.now }
+    requires visited { visited ≡ is_visited_in outer frame.now.ada }
     ensures { Gives (λ _. nodes.new) result (nodes_added home.now.sections.now (home.now.number, home.now.unit) frame.now outer nodes.old entry.now) }
 {
     let base = frame.str_offsets_base;
-    if has_node(home, frame, outer, entry.item()) {
+    if has_node(home, frame, outer, visited, entry) {
         add_node_with_texts(nodes, places, home, base, outer, entry)
     } else {
         Ok(home.test(base, entry)?)
@@ -52,10 +53,17 @@ pub(crate) fn add_node<'f>(
 
 // Whether an entry in this one has a node.
 #[tactic(auto, unfolding(crate::specs::Kept::has_node))]
-fn has_node(home: &Home<'_, '_>, frame: &Frame, outer: Option<Open>, item: &Item<'_>) -> bool
+fn has_node(
+    home: &Home<'_, '_>,
+    frame: &Frame,
+    outer: Option<Open>,
+    visited: bool,
+    item: &Item<'_>,
+) -> bool
+    requires { visited ≡ is_visited_in outer frame.now.ada }
     ensures { result ≡ has_node home.now.sections.now (home.now.number, home.now.unit) frame.now outer item.now }
 {
-    item.depth() == 0 || (in_table(item.tag()) && is_visited_in(outer, frame.ada))
+    item.depth() == 0 || (visited && in_table(item.tag()))
 }
 
 // Adds the node of an entry, with its texts.
@@ -65,7 +73,7 @@ fn add_node_with_texts<'f>(
     home: &Home<'_, 'f>,
     base: Option<u64>,
     outer: Option<Open>,
-    entry: &Attributes<'_>,
+    entry: &Item<'_>,
 ) -> Result<(), Stop>
     requires { HoldsTexts home.now.bytes.now home.now.unit entry.now }
     ensures { Gives (λ _. nodes.new) result (with_texts home.now.sections.now (home.now.number, home.now.unit) base entry.now (λ t. nodes.old ++ node_by home.now.sections.now (home.now.number, home.now.unit) outer entry.now t ∷ [])) }
@@ -80,7 +88,7 @@ fn add_node_with_texts<'f>(
 pub(crate) fn add_import(
     imports: &mut Vec<Import>,
     home: &Home<'_, '_>,
-    entry: &Attributes<'_>,
+    entry: &Item<'_>,
 ) -> Result<(), NoMemory>
     requires { home.now.unit.start + home.now.unit.length < 2 ^ 63 }
     ensures { OnOk result (imports.new.items ≡ imports.old.items ++ imports_by home.now.sections.now (home.now.number, home.now.unit) entry.now) }

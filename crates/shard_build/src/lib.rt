@@ -3,7 +3,6 @@
 #![tactic(auto)]
 
 mod again;
-mod attributes;
 mod entries;
 mod facts;
 mod forms;

@@ -1,6 +1,6 @@
 //! Where in the file the texts of entries are thought to stand. Nothing rests on it: a list of nodes compares the bytes there.
 
-use crate::attributes::Attributes;
+use crate::facts;
 use crate::home::Home;
 use entry_scan::Item;
 use file_image::SectionTable;
@@ -38,16 +38,10 @@ impl TextPlaces {
     }
 
     /// Where the texts of an entry stand, whose unit's part of `.debug_str_offsets` begins at the base.
-    pub fn of_entry(
-        &self,
-        home: &Home<'_, '_>,
-        base: Option<u64>,
-        entry: &Attributes<'_>,
-    ) -> Places {
-        let item = entry.item();
+    pub fn of_entry(&self, home: &Home<'_, '_>, base: Option<u64>, entry: &Item<'_>) -> Places {
         Places {
-            name: self.of_value(home, base, item, entry.name()),
-            linkage: self.of_value(home, base, item, entry.linkage_name()),
+            name: self.of_value(home, base, entry, facts::name(entry)),
+            linkage: self.of_value(home, base, entry, facts::linkage_name(entry)),
         }
     }
 

@@ -7,12 +7,13 @@ ghost use Rattle.index_model.specs.Gives.{GivesAlways};
 ghost use Rattle.index_model.specs.LawsTexts.{StandsIn};
 ghost use Rattle.index_model.specs.Meaning.{at_place};
 ghost use Rattle.index_model.specs.Strings.{bounded};
-ghost use Rattle.shard_build.specs.Texts.{text_by, texts_by, texts_seen, tested, HoldsTexts};
+ghost use Rattle.file_image.specs.TextLimits.{tested};
+ghost use Rattle.shard_build.specs.Texts.{text_by, texts_by, texts_seen, HoldsTexts};
 
-use crate::attributes::Attributes;
+use crate::facts;
 use crate::home::Home;
 use entry_scan::Item;
-use file_image::text;
+use file_image::{test_text, text};
 use index_model::Value;
 use ix_base::code::NAME_TOO_LONG;
 use ix_base::{Fault, MAX_STRING};
@@ -27,7 +28,7 @@ pub(crate) struct Texts<'f> {
 
 impl<'s, 'f> Home<'s, 'f> {
     /// The texts of an entry, which are borrowed from the file. The fault is the first of them, name before linkage name.
-    pub fn texts(&self, base: Option<u64>, entry: &Attributes<'_>) -> Result<Texts<'f>, Fault>
+    pub fn texts(&self, base: Option<u64>, entry: &Item<'_>) -> Result<Texts<'f>, Fault>
         requires { HoldsTexts self.now.bytes.now self.now.unit entry.now }
         ensures { GivesAlways texts_seen result (at_place entry.now.at (texts_by self.now.sections.now base self.now.unit.wide entry.now)) }
     {
@@ -35,20 +36,19 @@ impl<'s, 'f> Home<'s, 'f> {
             Ok(texts) => Ok(texts),
             Err(code) => Err(Fault {
                 code,
-                at: entry.item().offset(),
+                at: entry.offset(),
             }),
         }
     }
 
     // The same; the error is the code of the fault.
     #[tactic(auto, unfolding(crate::specs::Texts::texts_by))]
-    fn own_texts(&self, base: Option<u64>, entry: &Attributes<'_>) -> Result<Texts<'f>, u8>
+    fn own_texts(&self, base: Option<u64>, entry: &Item<'_>) -> Result<Texts<'f>, u8>
         requires { HoldsTexts self.now.bytes.now self.now.unit entry.now }
         ensures { GivesAlways texts_seen result (texts_by self.now.sections.now base self.now.unit.wide entry.now) }
     {
-        let item = entry.item();
-        let name = self.text(base, item, entry.name())?;
-        let linkage = self.text(base, item, entry.linkage_name())?;
+        let name = self.text(base, entry, facts::name(entry))?;
+        let linkage = self.text(base, entry, facts::linkage_name(entry))?;
         Ok(Texts { name, linkage })
     }
 
@@ -101,7 +101,7 @@ impl<'s, 'f> Home<'s, 'f> {
     }
 
     /// Whether the texts of an entry are sound: the same as `texts`, where they aren't kept.
-    pub fn test<'a>(&self, base: Option<u64>, entry: &Attributes<'a>) -> Result<(), Fault>
+    pub fn test<'a>(&self, base: Option<u64>, entry: &Item<'a>) -> Result<(), Fault>
     where
         'f: 'a,
         ensures { GivesAlways (λ done. done) result (tested (at_place entry.now.at (texts_by self.now.sections.now base self.now.unit.wide entry.now))) }
@@ -110,20 +110,20 @@ impl<'s, 'f> Home<'s, 'f> {
             Ok(()) => Ok(()),
             Err(code) => Err(Fault {
                 code,
-                at: entry.item().offset(),
+                at: entry.offset(),
             }),
         }
     }
 
     // The same; the error is the code of the fault.
     #[tactic(auto, unfolding(crate::specs::Texts::texts_by))]
-    fn test_own<'a>(&self, base: Option<u64>, entry: &Attributes<'a>) -> Result<(), u8>
+    fn test_own<'a>(&self, base: Option<u64>, entry: &Item<'a>) -> Result<(), u8>
     where
         'f: 'a,
         ensures { GivesAlways (λ done. done) result (tested (texts_by self.now.sections.now base self.now.unit.wide entry.now)) }
     {
-        self.test_text(base, entry.name())?;
-        self.test_text(base, entry.linkage_name())
+        self.test_text(base, facts::name(entry))?;
+        self.test_text(base, facts::linkage_name(entry))
     }
 
     // Whether the text of a value is sound, if there is one.
@@ -132,12 +132,9 @@ impl<'s, 'f> Home<'s, 'f> {
         'f: 'a,
         ensures { GivesAlways (λ done. done) result (tested (text_by self.now.sections.now base self.now.unit.wide (option_map seen value.entry))) }
     {
-        let Some(value) = value else {
-            return Ok(());
-        };
-        match text(self.sections, base, self.unit.wide, &value) {
-            Ok(_) => Ok(()),
-            Err(code) => Err(code),
+        match value {
+            Some(value) => test_text(self.sections, base, self.unit.wide, &value),
+            None => Ok(()),
         }
     }
 }

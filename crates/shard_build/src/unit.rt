@@ -9,22 +9,21 @@ ghost use Rattle.shard_build.specs.Kept.{kept_seen, entered, with_others, closed
 ghost use Rattle.shard_build.specs.Texts.{HoldsTexts};
 ghost use Rattle.shard_build.specs.Tokens.{OnEntry, ended, behind_walk};
 
-use crate::attributes::Attributes;
 use crate::home::Home;
 use crate::kept::{Kept, add_import, add_node, add_span, open};
 use crate::open::{innermost, is_visited_in};
-use entry_scan::{Token, Walk};
+use entry_scan::{Item, Token, Walk};
 use ix_base::{Fault, NoMemory, Stop};
 
 impl<'f> Kept<'f> {
     // Takes in an entry.
     #[tactic(auto, unfolding(crate::specs::Kept::entered))]
-    fn enter(&mut self, home: &Home<'_, 'f>, entry: &Attributes<'_>) -> Result<(), Stop>
+    fn enter(&mut self, home: &Home<'_, 'f>, entry: &Item<'_>) -> Result<(), Stop>
         requires small { home.now.unit.start + home.now.unit.length < 2 ^ 63 }
         requires texts { HoldsTexts home.now.bytes.now home.now.unit entry.now }
         ensures { Gives (λ _. kept_seen self.new) result (entered home.now.sections.now (home.now.number, home.now.unit) (kept_seen self.old) entry.now) }
     {
-        self.frame = self.frame.at(entry);
+        self.frame.learn(entry);
         let outer = innermost(&self.opened);
         let visited = is_visited_in(outer, self.frame.ada);
         add_node(
@@ -33,6 +32,7 @@ impl<'f> Kept<'f> {
             home,
             &self.frame,
             outer,
+            visited,
             entry,
         )?;
         self.add_others(home, entry, visited)?;
@@ -43,14 +43,14 @@ impl<'f> Kept<'f> {
     fn add_others(
         &mut self,
         home: &Home<'_, 'f>,
-        entry: &Attributes<'_>,
+        entry: &Item<'_>,
         visited: bool,
     ) -> Result<(), NoMemory>
         requires { home.now.unit.start + home.now.unit.length < 2 ^ 63 }
         ensures { OnOk result (kept_seen self.new ≡ with_others home.now.sections.now (home.now.number, home.now.unit) (kept_seen self.old) entry.now visited) }
     {
-        open(&mut self.opened, entry.item(), visited, self.spans.len())?;
-        add_span(&mut self.spans, home, entry.item())?;
+        open(&mut self.opened, entry, visited, self.spans.len())?;
+        add_span(&mut self.spans, home, entry)?;
         add_import(&mut self.imports, home, entry)
     }
 
@@ -65,17 +65,17 @@ impl<'f> Kept<'f> {
     }
 
     // Takes in a token.
-    fn take(&mut self, home: &Home<'_, 'f>, token: Token<'_>) -> Result<(), Stop>
+    fn take(&mut self, home: &Home<'_, 'f>, token: &Token<'_>) -> Result<(), Stop>
         requires small { home.now.unit.start + home.now.unit.length < 2 ^ 63 }
-        requires texts { OnEntry (token_seen token) (HoldsTexts home.now.bytes.now home.now.unit) }
-        ensures { Gives (λ _. kept_seen self.new) result (behind home.now.sections.now (home.now.number, home.now.unit) (kept_seen self.old) (token_seen token.entry)) }
+        requires texts { OnEntry (token_seen token.now) (HoldsTexts home.now.bytes.now home.now.unit) }
+        ensures { Gives (λ _. kept_seen self.new) result (behind home.now.sections.now (home.now.number, home.now.unit) (kept_seen self.old) (token_seen token.now)) }
     {
         match token {
             Token::Null { after, .. } => {
-                self.close(after)?;
+                self.close(*after)?;
                 Ok(())
             }
-            Token::Entry(item) => self.enter(home, &Attributes::of(item)),
+            Token::Entry(item) => self.enter(home, item),
         }
     }
 
@@ -86,7 +86,7 @@ impl<'f> Kept<'f> {
         ensures { Gives (λ _. kept_seen self.new) result (behind_walk home.now.sections.now (home.now.number, home.now.unit) (kept_seen self.old) walk.entry) }
     {
         while let Some(token) = walk.token()? {
-            if let Err(stop) = self.take(home, token) {
+            if let Err(stop) = self.take(home, &token) {
                 finish(&mut walk)?;
                 return Err(stop);
             }

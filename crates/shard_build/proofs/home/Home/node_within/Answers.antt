@@ -13,7 +13,7 @@ use Rattle.entry_scan.specs.Inside.{walked_of}
 use Rattle.shard_build.specs.Again.{walk_by}
 use Rattle.shard_build.specs.Entries.{IsNodeIn}
 use Rattle.shard_build.specs.Kept.{node_under}
-use Rattle.shard_build.specs.Texts.{HoldsTexts, texts_by, texts_seen}
+use Rattle.shard_build.specs.Texts.{texts_by, texts_seen}
 use Rattle.shard_build.proofs.AgainLaws.{holds_texts, texts_read, node_again}
 use Rattle.shard_build.proofs.FoundSpans.{in_span}
 use Rattle.shard_build.proofs.home.Home.node_within.Goals as goal
@@ -29,7 +29,7 @@ texts-requires c =
     let found : item_in_span w s o ≡ Some c.in_ok-item.item = ap (λ (n : ℕ). item_in_span (walked_of home.unit c.args.abbrevs.now home.bytes.now n) s o) (sym c.requires.number) ∙ sym c.item_at.ensures ∙ was in
     let member = (in_span w s o c.in_ok-item.item found).0 in
     let walk = (scanned_walked home.sections.now u w c.requires.sound).0 in
-    subst (HoldsTexts home.bytes.now home.unit) (sym c.of-entry.ensures) (holds_texts home.sections.now u w walk home.bytes.now c.requires.own c.in_ok-item.item member)
+    holds_texts home.sections.now u w walk home.bytes.now c.requires.own c.in_ok-item.item member
 
 pub unreachable-requires : goal.unreachable-requires
 unreachable-requires c =
@@ -44,8 +44,7 @@ unreachable-requires c =
     let t = texts_read home.sections.now u w c.requires.sound c.str_offsets_base.result c.str_offsets_base.ensures home.unit.wide refl c.in_ok-item.item member in
     let placed : Item → Result Texts Fault = λ (d : Item). at_place d.at (texts_by home.sections.now c.str_offsets_base.result home.unit.wide d) in
     let sound : placed c.in_ok-item.item ≡ Ok t.0 = ap (at_place c.in_ok-item.item.at) t.2 in
-    let wrong : placed c.of-entry.result ≡ Err c.in-Err.field-0 = c.in-Err.ensures in
-    let here : placed c.of-entry.result ≡ placed c.in_ok-item.item = ap placed c.of-entry.ensures in
+    let wrong : placed c.in_ok-item.item ≡ Err c.in-Err.field-0 = c.in-Err.ensures in
     absurd cc
 
 pub returns : goal.returns
@@ -62,9 +61,9 @@ returns c =
     let t = texts_read home.sections.now u w c.requires.sound c.str_offsets_base.result c.str_offsets_base.ensures home.unit.wide refl d member in
     let placed : Item → Result Texts Fault = λ (x : Item). at_place x.at (texts_by home.sections.now c.str_offsets_base.result home.unit.wide x) in
     let sound : placed d ≡ Ok t.0 = ap (at_place d.at) t.2 in
-    let read : placed c.of-entry.result ≡ Ok (texts_seen c.in-Ok.texts) = c.in-Ok.ensures in
-    let same : t.0 ≡ texts_seen c.in-Ok.texts = same_ok t.0 (texts_seen c.in-Ok.texts) (sym sound ∙ sym (ap placed c.of-entry.ensures) ∙ read) in
-    let seen = c.node_under.ensures ∙ ap (λ (x : Item). node_under home.sections.now u (Some s.entry) x (texts_seen c.in-Ok.texts)) c.of-entry.ensures ∙ ap (node_under home.sections.now u (Some s.entry) d) (sym same) in
+    let read : placed d ≡ Ok (texts_seen c.in-Ok.texts) = c.in-Ok.ensures in
+    let same : t.0 ≡ texts_seen c.in-Ok.texts = same_ok t.0 (texts_seen c.in-Ok.texts) (sym sound ∙ read) in
+    let seen = c.node_under.ensures ∙ ap (node_under home.sections.now u (Some s.entry) d) (sym same) in
     let there : Some (at_home w d) ≡ option_map (at_home w) (item_in_span w s o) = ap (option_map (at_home w)) (sym found) in
     let parent = c.requires.parent (at_home w d) (sym there) in
     subst (IsNodeIn home.sections.now (Some c.node_under.result)) there (node_again home.sections.now w d t.0 t.1 c.node_under.result s.entry parent seen)

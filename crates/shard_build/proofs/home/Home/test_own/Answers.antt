@@ -4,7 +4,8 @@ use Rattle.index_model.specs.Forms.{Value}
 use Rattle.index_model.specs.Gives.{GivesAlways}
 use Rattle.index_model.specs.Meaning.{◌>>=◌}
 use Rattle.index_model.specs.Strings.{Texts}
-use Rattle.shard_build.specs.Texts.{text_by, texts_by, tested}
+use Rattle.file_image.specs.TextLimits.{tested}
+use Rattle.shard_build.specs.Texts.{text_by, texts_by}
 use Rattle.shard_build.proofs.home.Home.test_own.Goals as goal
 
 abbrev both : Result (Option (List ℕ)) ℕ → Result (Option (List ℕ)) ℕ → Result Texts ℕ
