@@ -7,6 +7,7 @@ mod PairLaws
 mod MarkLaws
 mod GroupLaws
 mod NamesLaws
+mod OrderLaws
 mod CountingLaws
 mod RankLaws
 mod SearchLaws

@@ -5,6 +5,7 @@ pub mod Front
 pub mod Groups
 pub mod Halving
 pub mod Marks
+pub mod Orders
 pub mod Pairs
 pub mod Ranks
 pub mod Seen

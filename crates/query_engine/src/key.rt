@@ -73,6 +73,19 @@ pub(crate) fn sorted_keys<'r, R: Threads + Sync>(
     Ok(keys)
 }
 
+/// The same by one thread.
+pub(crate) fn keys_sorted_alone<'r>(
+    alloc: Global,
+    texts: &[Spelling<'r>],
+) -> Result<Vec<Key<'r>>, AllocError>
+    requires few { length texts.now < 2 ^ 32 }
+    ensures { IfOk result (λ v. IsSortOf (enumerate_from 0 (texts_seen texts.now)) (pairs_seen v.items)) }
+{
+    let mut keys = keys_of(alloc, texts)?;
+    sort_alone(&mut keys)?;
+    Ok(keys)
+}
+
 // The keys of texts, in their order.
 fn keys_of<'r>(alloc: Global, texts: &[Spelling<'r>]) -> Result<Vec<Key<'r>>, AllocError>
     requires few { length texts.now < 2 ^ 32 }
@@ -97,4 +110,11 @@ fn sort_keys<R: Threads + Sync>(
     ensures { OnOk result (IsSortOf (pairs_seen keys.old) (pairs_seen keys.new)) }
 {
     par_sort(rt, alloc, keys)
+}
+
+// The same by one thread.
+fn sort_alone(keys: &mut Vec<Key<'_>>) -> Result<(), AllocError>
+    ensures { OnOk result (IsSortOf (pairs_seen keys.old.items) (pairs_seen keys.new.items)) }
+{
+    keys.sort()
 }

@@ -9,6 +9,7 @@ mod groups;
 mod key;
 mod marks;
 mod names;
+mod order;
 mod ranks;
 mod search;
 mod spelling;

@@ -5,7 +5,7 @@ ghost use Rattle.query_engine.specs.Pairs.{IsAscending};
 ghost use Rattle.query_engine.specs.Ranks.{AreRanksOf, AreRanksIn, AreNumbersOf, GoesOnAt};
 ghost use Rattle.query_engine.specs.Seen.{pairs_seen, texts_seen};
 
-use crate::key::{Key, sorted_keys};
+use crate::key::{Key, keys_sorted_alone, sorted_keys};
 use crate::spelling::Spelling;
 use std::alloc::{AllocError, Global};
 use std::thread::Threads;
@@ -27,6 +27,18 @@ pub(crate) fn ranks_of<'r, R: Threads + Sync>(
     ensures { IfOk result (λ r. AreRanksOf (texts_seen texts.now) (texts_seen r.distinct.items) r.ranks.items) }
 {
     let keys = sorted_keys(rt, alloc, texts)?;
+    ranks_in(alloc, &keys)
+}
+
+/// The same by one thread.
+pub(crate) fn ranks_alone<'r>(
+    alloc: Global,
+    texts: &[Spelling<'r>],
+) -> Result<Ranks<'r>, AllocError>
+    requires few { length texts.now < 2 ^ 32 }
+    ensures { IfOk result (λ r. AreRanksOf (texts_seen texts.now) (texts_seen r.distinct.items) r.ranks.items) }
+{
+    let keys = keys_sorted_alone(alloc, texts)?;
     ranks_in(alloc, &keys)
 }
 

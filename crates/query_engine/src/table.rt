@@ -5,10 +5,13 @@ ghost use Rattle.index_model.specs.Answers.{places, is_named, is_simply_named};
 ghost use Rattle.query_engine.specs.Asked.{TailsFit, is_asked};
 ghost use Rattle.query_engine.specs.Counts.{name_count, simple_count, without_linkage, text_count};
 ghost use Rattle.query_engine.specs.Halving.{AddsHalvings};
+ghost use Rattle.query_engine.specs.Orders.{AreByText};
 ghost use Rattle.query_engine.specs.Sorted.{AreNamesOf};
+ghost use Rattle.query_engine.specs.declared.way.Way.TheVariants.{ByListed};
 ghost use Rattle.query_engine.specs.Texts.{table_names};
 
 use crate::names::Names;
+use crate::order::places_by_text;
 use crate::search::find;
 use crate::way::Way;
 use index_model::{Entry, Run, Steps};
@@ -117,6 +120,18 @@ impl<'f> Table<'f> {
         ensures { result.now ≡ places (is_named (slice_index_or (table_names self.now) index [])) self.now }
     {
         self.by_name.places_at(&self.entries, index)
+    }
+
+    /// The places of all entries by the names under which a `.debug_names` lists them, and then ascending: linkage entries
+    /// stand there under their names, all others under their simple names. n entries cost at most n log n comparisons.
+    ///
+    /// # Errors
+    ///
+    /// `NoMemory` where memory was refused.
+    pub fn places_as_listed(&self, alloc: Global) -> Result<Vec<u32>, NoMemory>
+        ensures { IfOk result (λ v. AreByText ByListed self.now v.items) }
+    {
+        Ok(places_by_text(alloc, Way::ByListed, &self.entries)?)
     }
 
     /// How many distinct names the entries have that aren't linkage entries. Takes no memory.

@@ -1,4 +1,4 @@
-//! The two ways to ask for an entry: by its name, or by its simple name.
+//! The ways to ask for an entry: by its name, by its simple name, or by the one under which a `.debug_names` lists it.
 
 ghost use Rattle.std.specs.Prelude.{◌≡◌, ◌≤◌, length};
 ghost use Rattle.query_engine.specs.Asked.{is_counted, text_of};
@@ -10,6 +10,8 @@ use index_model::Entry;
 pub(crate) enum Way {
     ByName,
     BySimple,
+    // Linkage entries by their names, all others by their simple names.
+    ByListed,
 }
 
 impl Way {
@@ -20,6 +22,7 @@ impl Way {
         match self {
             Way::ByName => true,
             Way::BySimple => !entry.linkage,
+            Way::ByListed => true,
         }
     }
 
@@ -29,9 +32,11 @@ impl Way {
         ensures { result.now ≡ text_of self entry.now }
     {
         let name = entry.name.bytes();
+        let simple = &name[name.len() - entry.tail as usize..];
         match self {
             Way::ByName => name,
-            Way::BySimple => &name[name.len() - entry.tail as usize..],
+            Way::BySimple => simple,
+            Way::ByListed => if entry.linkage { name } else { simple },
         }
     }
 }
