@@ -11,6 +11,7 @@ mod FollowLaws
 mod TracedLaws
 pub mod PathSteps
 pub mod Outwards
+mod PassedLaws
 mod Steps
 mod Lengths
 mod LinkParts

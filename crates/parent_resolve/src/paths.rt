@@ -1,7 +1,7 @@
 //! The scope paths of a file's entries (DWARF 5, section 2.13.2).
 //!
-//! Most entries share their lexical parent with others. So the scope of a path is kept by the place of its first member, and
-//! the path around it is followed once.
+//! Most entries share their lexical parent with others. So the scope of a path is kept by the place of its first member, for
+//! each member that is passed, and each member is passed once.
 
 ghost use Rattle.std.specs.Prelude.{◌≡◌, ◌+◌, ◌<◌, ◌≤◌, map, min, IfOk, IfSome, Ok, Err};
 ghost use Rattle.std.specs.Arc.{arc_value};
@@ -15,11 +15,11 @@ ghost use Rattle.shard_build.specs.Entries.{AreShardsOfFile};
 ghost use Rattle.parent_resolve.specs.Followed.{followed_of, ForEntry};
 ghost use Rattle.parent_resolve.specs.Scopes.{greatest, IsScope};
 ghost use Rattle.parent_resolve.specs.Traced.{IsTraced};
-ghost use Rattle.parent_resolve.specs.Paths.{ForAround, ForEnd, IsScopeAround};
+ghost use Rattle.parent_resolve.specs.Paths.{EndIn, ForAround, ForEnd, IsScopeAround};
 
 use crate::members::{step_at, too_long};
 use crate::references::References;
-use crate::scope::{Scope, part_length};
+use crate::scope::{PathMember, Scope, part_length};
 use crate::traced::Traced;
 use file_image::Image;
 use index_model::{Node, Shard};
@@ -115,7 +115,7 @@ impl<'s, 'f> Paths<'s, 'f> {
         if let Some(scope) = self.at_hand(parent) {
             return Ok(scope);
         }
-        let scope = self.kept_around(alloc, parent, at)?;
+        let scope = self.follow_path(alloc, parent, at)?;
         self.last = Some(ScopeAround { parent, scope });
         Ok(scope)
     }
@@ -130,19 +130,6 @@ impl<'s, 'f> Paths<'s, 'f> {
         }
     }
 
-    // The scope of the path around an entry with this lexical parent. It is known from then on.
-    fn kept_around(&mut self, alloc: Global, parent: u64, at: u64) -> Result<Scope, Stop>
-        ensures value { ForAround self.old parent (λ p d. GivesFor IsScope result (at_place at (scope_path p d))) }
-        ensures kept { self.new ≡ self.old }
-    {
-        if let Some(scope) = self.known_at(parent) {
-            return Ok(scope);
-        }
-        let scope = self.follow_path(alloc, parent, at)?;
-        self.known.insert(parent, scope)?;
-        Ok(scope)
-    }
-
     // The scope that is known of the path around an entry with this lexical parent.
     fn known_at(&self, parent: u64) -> Option<Scope>
         ensures { IfSome result (IsScopeAround self.now parent) }
@@ -150,25 +137,58 @@ impl<'s, 'f> Paths<'s, 'f> {
         self.known.get(&parent).copied()
     }
 
-    // Follows the path around an entry with this lexical parent, outwards up to a known scope or to the end.
+    // Follows the path around an entry with this lexical parent, outwards up to a known scope or to the end. The scopes around
+    // the members that it passes are known from then on, so that no member is passed twice.
     fn follow_path(&mut self, alloc: Global, parent: u64, at: u64) -> Result<Scope, Stop>
         ensures value { ForAround self.old parent (λ p d. GivesFor IsScope result (at_place at (scope_path p d))) }
         ensures kept { self.new ≡ self.old }
     {
         let mut scope = Scope::EMPTY;
         let mut around = parent;
+        let mut passed = Vec::new(alloc);
         while scope.steps < MAX_PATH_STEPS {
             if let Some(outer) = self.known_at(around) {
-                return joined(scope, outer, at);
+                let whole = joined(scope, outer, at)?;
+                self.keep(passed, outer)?;
+                return Ok(whole);
             }
             let step = step_at(&mut self.references, alloc, around, at)?;
-            scope = scope.with(part_length(step.component));
+            let part = part_length(step.component);
+            passed.push(PathMember {
+                offset: around,
+                part,
+            })?;
+            scope = scope.with(part);
             match step.around {
                 Some(parent) => around = parent,
-                None => return Ok(scope),
+                None => {
+                    self.keep(passed, Scope::EMPTY)?;
+                    return Ok(scope);
+                }
             }
         }
         Err(too_long(at))
+    }
+
+    // Takes in the scopes around these members of a path, from the outside inwards. This is the scope behind the last.
+    fn keep(&mut self, mut passed: Vec<PathMember>, mut scope: Scope) -> Result<(), NoMemory>
+        requires { EndIn self.old passed.items scope }
+        ensures { self.new ≡ self.old }
+    {
+        while let Some(member) = passed.pop() {
+            scope = scope.with(member.part);
+            self.know(member.offset, scope)?;
+        }
+        Ok(())
+    }
+
+    // Takes in the scope around what is in one member.
+    fn know(&mut self, member: u64, scope: Scope) -> Result<(), NoMemory>
+        requires { IsScopeAround self.old member scope }
+        ensures { self.new ≡ self.old }
+    {
+        self.known.insert(member, scope)?;
+        Ok(())
     }
 }
 

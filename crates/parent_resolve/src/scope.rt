@@ -69,6 +69,14 @@ impl Scope {
     }
 }
 
+/// A member of a scope path by its joint offset, and the length of what it puts before a name, or the greatest `usize` where
+/// it is greater.
+#[derive(Clone, Copy)]
+pub(crate) struct PathMember {
+    pub(crate) offset: u64,
+    pub(crate) part: usize,
+}
+
 /// The name of an entry for which the file spells this name: a namespace without one is anonymous.
 #[tactic(auto, unfolding(index_model::specs::ShardParts::node_facts))]
 pub(crate) fn name_with<'f>(node: &Node<'f>, spelled: Option<&'f [u8]>) -> Option<&'f [u8]>
