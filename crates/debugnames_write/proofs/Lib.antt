@@ -10,6 +10,7 @@ mod BucketLaws
 mod PoolLaws
 mod TableLaws
 mod Whole
+mod ListedLaws
 mod Stops
 mod NamesMade
 mod Assembly

@@ -59,7 +59,7 @@ same_names es fs same = ascending_is bytes_lt bytes_order (map (λ (e : Indexed)
 all_unmap : {X Y : Type 0} (P : Y → Type 0) (f : X → Y) (xs : List X) → All P (map f xs) → All (λ x. P (f x)) xs
 all_unmap P f xs h k d lt = let size = length-map xs f in subst P (get_or-map f xs k d (f d) lt) (h k (f d) (omega (arith, size)))
 
-contains_map : {X Y : Type 0} (f : X → Y) (xs : List X) (x : X) → Contains xs x → Contains (map f xs) (f x)
+pub contains_map : {X Y : Type 0} (f : X → Y) (xs : List X) (x : X) → Contains xs x → Contains (map f xs) (f x)
 contains_map f xs x c = (c.0, (let size = length-map xs f in omega (arith, size, c.1)), get_or-map f xs c.0 x (f x) c.1 ∙ ap f c.2)
 
 pub have_rows : (es : List Indexed) (name : List ℕ) (items : List Item) → items_seen items ≡ entries_named name es → HaveRows (rows_of es) items

@@ -1,7 +1,7 @@
 //! The entries of each name.
 
-ghost use Rattle.std.specs.Prelude.{◌≡◌, ◌<◌, ◌-◌, ◌∷◌, [], length, MatchBool, IfOk, OnOk};
-ghost use Rattle.debugnames_write.specs.Groups.{AreSorted, SameByName, AreGroupsOf, GoesOnAt};
+ghost use Rattle.std.specs.Prelude.{◌<◌, MatchBool, IfOk};
+ghost use Rattle.debugnames_write.specs.Groups.{AreSorted, AreGroupsOf, GoesOnAt};
 ghost use Rattle.debugnames_write.specs.Seen.{items_seen};
 
 use crate::item::Item;
@@ -12,14 +12,6 @@ use std::alloc::{AllocError, Global};
 pub(crate) struct Group<'r> {
     pub name: &'r [u8],
     pub items: &'r [Item<'r>],
-}
-
-/// Sorts entries by name. Those of one name stay in their order.
-pub(crate) fn sort_items(items: &mut Vec<Item<'_>>) -> Result<(), AllocError>
-    ensures sorted { OnOk result (AreSorted items.new.items) }
-    ensures same { SameByName (items_seen items.old.items) (items_seen items.new.items) }
-{
-    items.sort()
 }
 
 /// The groups of sorted entries, one for each name, in byte order.

@@ -1,19 +1,19 @@
 //! The entries that the index has (DWARF 5, section 6.1.1.1).
 
-ghost use Rattle.std.specs.Prelude.{◌≡◌, ◌<◌, ◌≤◌, nat_eq, Some, refl, length, option_map, All, sum_by, IfOk};
-ghost use Rattle.std.specs.Ordering.{nat_cmp};
-ghost use Rattle.std.specs.Cmp.{partial_equiv_from_equiv, on_per, on_equiv, on_po, on_total};
-ghost use Rattle.std.specs.Cmp.Lexicographic.{pointwise, slice_cmp, nat_list_eq_equiv, nat_list_cmp_total, texts_ties, texts_po};
+ghost use Rattle.std.specs.Prelude.{◌≡◌, ◌<◌, ◌≤◌, length, option_map, All, sum_by, IfOk};
+ghost use Rattle.index_model.specs.Answers.{entries_at};
 ghost use Rattle.index_model.specs.NameIndex.{all_indexed, indexed_entry, string_of_entry};
 ghost use Rattle.debugnames_write.specs.Conditions.{IsInside};
+ghost use Rattle.debugnames_write.specs.Groups.{AreSorted, SameByName};
 ghost use Rattle.debugnames_write.specs.Seen.{item_seen, items_seen};
 ghost use Rattle.debugnames_write.specs.Units.{ArePlacesOf};
 ghost use Rattle.query_engine.specs.Asked.{TailsFit};
 
 use crate::units::{UnitPlaces, is_type_unit};
 use index_model::{Entry, Part, Unit};
+use ix_base::NoMemory;
+use query_engine::Table;
 use std::alloc::{AllocError, Global};
-use std::cmp::Ordering;
 
 /// What entries of one abbreviation have in common: their tag, and whether their units are type units.
 #[derive(Clone, Copy, PartialEq, Eq)]
@@ -33,61 +33,41 @@ pub(crate) struct Item<'r> {
     pub offset: u32,
 }
 
-// Entries are ordered by their names alone.
-impl PartialEq for Item<'_> {
-    ghost eq = { λ x y. pointwise nat_eq x.name.now y.name.now };
-
-    ghost laws = { on_per (λ x. x.name.now) (partial_equiv_from_equiv nat_list_eq_equiv) };
-
-    fn eq(&self, other: &Self) -> bool {
-        self.name == other.name
-    }
+/// The entries of units of `.debug_info` by their names, those of one name in section order.
+pub(crate) fn sorted_items<'r>(
+    alloc: Global,
+    units: &[Unit],
+    places: &UnitPlaces,
+    table: &'r Table<'_>,
+) -> Result<Vec<Item<'r>>, NoMemory>
+    requires places { ArePlacesOf units.now places.now }
+    requires inside { All (IsInside units.now) table.now }
+    requires short { sum_by (λ u. u.length) units.now < 4294967296 }
+    ensures sorted { IfOk result (λ v. AreSorted v.items) }
+    ensures same { IfOk result (λ v. SameByName (all_indexed units.now table.now) (items_seen v.items)) }
+{
+    let order = table.places_as_listed(alloc)?;
+    Ok(items_at(alloc, units, places, table.entries(), &order)?)
 }
 
-impl Eq for Item<'_> {
-    ghost laws = { on_equiv (λ x. x.name.now) nat_list_eq_equiv };
-}
-
-impl PartialOrd for Item<'_> {
-    ghost partial_cmp = { λ x y. Some (slice_cmp nat_cmp x.name.now y.name.now) };
-
-    ghost laws = { on_po (λ x. x.name.now) texts_po };
-
-    fn partial_cmp(&self, other: &Self) -> Option<Ordering> {
-        Some(self.cmp(other))
-    }
-}
-
-impl Ord for Item<'_> {
-    ghost cmp = { λ x y. slice_cmp nat_cmp x.name.now y.name.now };
-
-    ghost total = { on_total (λ x. x.name.now) nat_list_cmp_total };
-
-    ghost matches_partial_cmp = { λ x y. refl };
-
-    ghost matches_eq = { λ x y. texts_ties x.name.now y.name.now };
-
-    fn cmp(&self, other: &Self) -> Ordering {
-        self.name.cmp(other.name)
-    }
-}
-
-/// The entries of units of `.debug_info`, in section order.
-pub(crate) fn items_of<'r>(
+// The entries at these places in their order, without those of units of `.debug_types`.
+fn items_at<'r>(
     alloc: Global,
     units: &[Unit],
     places: &UnitPlaces,
     entries: &'r [Entry<'_>],
+    order: &[u32],
 ) -> Result<Vec<Item<'r>>, AllocError>
     requires places { ArePlacesOf units.now places.now }
     requires inside { All (IsInside units.now) entries.now }
     requires short { sum_by (λ u. u.length) units.now < 4294967296 }
     requires tails { TailsFit entries.now }
-    ensures { IfOk result (λ v. items_seen v.items ≡ all_indexed units.now entries.now) }
+    requires within { All (λ p. p < length entries.now) order.now }
+    ensures { IfOk result (λ v. items_seen v.items ≡ all_indexed units.now (entries_at entries.now order.now)) }
 {
-    let mut items = Vec::with_capacity(alloc, entries.len())?;
-    for entry in entries {
-        if let Some(item) = item_of(units, places, entry) {
+    let mut items = Vec::with_capacity(alloc, order.len())?;
+    for place in order {
+        if let Some(item) = item_of(units, places, &entries[*place as usize]) {
             items.push(item)?;
         }
     }

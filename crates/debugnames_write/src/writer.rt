@@ -10,13 +10,14 @@ ghost use Rattle.debugnames_write.specs.Units.{ArePlacesOf};
 ghost use Rattle.debugnames_write.specs.declared.writer.WriteStop.TheVariants as stops;
 
 use crate::abbreviations::Abbreviations;
-use crate::groups::{groups_of, sort_items};
+use crate::groups::groups_of;
 use crate::index::index_bytes;
-use crate::item::{Item, items_of};
+use crate::item::{Item, sorted_items};
 use crate::name::sorted_names;
 use crate::strings::strings_of;
 use crate::units::UnitPlaces;
 use index_model::{List, Unit};
+use ix_base::NoMemory;
 use query_engine::Table;
 use std::alloc::{AllocError, AllocFailed, Global};
 
@@ -40,6 +41,14 @@ impl From<AllocError> for WriteStop {
     ghost from_gives = { λ _ e. e ≡ stops.Memory };
 
     fn from(_error: AllocError) -> WriteStop {
+        WriteStop::Memory
+    }
+}
+
+impl From<NoMemory> for WriteStop {
+    ghost from_gives = { λ _ e. e ≡ stops.Memory };
+
+    fn from(_error: NoMemory) -> WriteStop {
         WriteStop::Memory
     }
 }
@@ -75,9 +84,8 @@ pub fn write(
     ensures too_large { IfErr result (λ stop. stop ≡ stops.TooLarge → ¬ Fits units.now old_strings table.now) }
 {
     let places = UnitPlaces::of(alloc, units)?;
-    let mut items = items_of(alloc, units, &places, table.entries())?;
+    let items = sorted_items(alloc, units, &places, table)?;
     let abbreviations = Abbreviations::of(alloc, &items)?;
-    sort_items(&mut items)?;
     name_bytes(alloc, units, &places, &abbreviations, &items, old_strings)
 }
 

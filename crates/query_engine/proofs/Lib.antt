@@ -6,10 +6,10 @@ mod SeenLaws
 mod PairLaws
 mod MarkLaws
 mod GroupLaws
-mod NamesLaws
-mod OrderLaws
+pub mod NamesLaws
+pub mod OrderLaws
 mod CountingLaws
-mod RankLaws
+pub mod RankLaws
 mod SearchLaws
 pub mod CountLaws
 mod PlainLaws
