@@ -1,5 +1,6 @@
 mod CutLaws
 mod LastLaws
 mod LengthLaws
+mod PartLaws
 pub mod ScopeLaws
 pub mod StayLaws

@@ -1,10 +1,10 @@
 //! Ada names as GNAT codes them: packages and subprograms joined by `__`.
 
 ghost use Rattle.std.specs.Prelude.{◌≡◌, ◌++◌, length, true, false, IfOk, OnOk, MatchOption};
-ghost use Rattle.std.specs.List.{list_all};
-ghost use Rattle.index_model.specs.AdaNames.{pieces as pieces_of, decoded, decoded_simple, shortened as shortened_to, is_coded, is_good_byte, is_good_piece, last_of};
+ghost use Rattle.index_model.specs.AdaNames.{pieces as pieces_of, decoded, decoded_simple, shortened as shortened_to, is_coded, last_of};
 ghost use Rattle.name_forms.specs.Pieces.{pointed};
 
+use crate::parts::is_good;
 use crate::pieces::Pieces;
 use crate::shortened::shortened;
 use ix_base::NoMemory;
@@ -49,39 +49,7 @@ fn coded(name: &[u8]) -> Option<&[u8]>
     ensures { MatchOption result (is_coded name.now ≡ false) (λ short. (is_coded name.now ≡ true) × (short.now ≡ shortened_to name.now)) }
 {
     let short = shortened(name);
-    if has_good_bytes(short) && has_good_pieces(short) {
-        Some(short)
-    } else {
-        None
-    }
-}
-
-fn has_good_bytes(short: &[u8]) -> bool
-    ensures { result ≡ list_all is_good_byte short.now }
-{
-    short.iter().all(|b| is_good_byte(*b))
-}
-
-fn has_good_pieces(short: &[u8]) -> bool
-    ensures { result ≡ list_all is_good_piece (pieces_of short.now) }
-{
-    Pieces::of(short).all(|piece| is_good_piece(piece))
-}
-
-fn is_good_byte(b: u8) -> bool
-    ensures { result ≡ is_good_byte b }
-{
-    b.is_ascii_lowercase() || b.is_ascii_digit() || b == b'_'
-}
-
-// A piece begins with a letter and doesn't end with `_`.
-fn is_good_piece(piece: &[u8]) -> bool
-    ensures { result ≡ is_good_piece piece.now }
-{
-    match piece.first() {
-        Some(b) => b.is_ascii_lowercase() && !piece.ends_with(b"_"),
-        None => false,
-    }
+    if is_good(short) { Some(short) } else { None }
 }
 
 // The pieces joined by points, in room of their length.

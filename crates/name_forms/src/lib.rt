@@ -4,6 +4,7 @@
 #![tactic(auto)]
 
 mod decoding;
+mod parts;
 mod pieces;
 mod scope;
 mod shortened;

@@ -10,8 +10,8 @@ use std::marker::Model;
 /// Stands between two pieces, and before a number that tells overloaded subprograms apart.
 pub(crate) const CUT: &[u8] = b"__";
 
-// The byte of which a cut is made.
-const LINE: u8 = b'_';
+/// The byte of which a cut is made.
+pub(crate) const LINE: u8 = b'_';
 
 /// The pieces that are still to come, from the left. Contracts see them as a list.
 #[derive(Drop)]
