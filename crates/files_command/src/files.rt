@@ -22,8 +22,12 @@ use ix_base::{Fault, Stop};
 use line_files::{FileHit, list};
 use outside::{Gate, Sink, write_all};
 use std::alloc::Global;
+use std::mem::forget;
 use std::sync::Wait;
 use std::thread::Threads;
+
+// The stage from which on a file has no fault.
+const MAIN_AVAILABLE: u8 = 1;
 
 /// Writes the files with this name that the line tables of the file's bytes name, or the first fault of these tables, or of the file.
 pub fn list_files<R: Threads + Wait + Sync, K: Sink, G: Gate + Sync>(
@@ -39,15 +43,16 @@ pub fn list_files<R: Threads + Wait + Sync, K: Sink, G: Gate + Sync>(
     ensures causes { CausesOfTable (Rose (K.write_faults out.old) (K.write_faults out.new)) result }
     ensures counts { K.write_faults out.old ≤ K.write_faults out.new }
 {
-    match crew.build_file(file, CacheKind::Gdb8) {
+    match crew.build_until(file, CacheKind::Gdb8, MAIN_AVAILABLE) {
         Ok((board, mut pass)) => {
             let mut reader = board.reader(&mut pass);
             let status = match reader.fetch(crew.rt) {
                 Ok(()) => answer(crew, board.image(), &reader, name, out),
                 Err(_) => Status::NoMemory,
             };
-            board.join(&mut pass, reader.end());
-            board.close(pass);
+            drop(reader);
+            // Nothing comes behind the command, so what was built isn't freed piece by piece.
+            forget(board);
             status
         }
         Err(_) => Status::NoMemory,
