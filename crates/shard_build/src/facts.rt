@@ -12,7 +12,7 @@ use index_model::{Next, Raw, Value};
 
 const LOCATION: u64 = 0x02;
 
-const NAME: u64 = 0x03;
+pub(crate) const NAME: u64 = 0x03;
 
 const LOW_PC: u64 = 0x11;
 
@@ -44,7 +44,7 @@ const MAIN_SUBPROGRAM: u64 = 0x6a;
 
 const ENUM_CLASS: u64 = 0x6d;
 
-const LINKAGE_NAME: u64 = 0x6e;
+pub(crate) const LINKAGE_NAME: u64 = 0x6e;
 
 const STR_OFFSETS_BASE: u64 = 0x72;
 
@@ -52,8 +52,8 @@ const ADDR_BASE: u64 = 0x73;
 
 const RNGLISTS_BASE: u64 = 0x74;
 
-// The linkage name of older producers.
-const OLD_LINKAGE_NAME: u64 = 0x2007;
+/// The linkage name of older producers.
+pub(crate) const OLD_LINKAGE_NAME: u64 = 0x2007;
 
 // The calling convention of a main program.
 const PROGRAM: u64 = 2;

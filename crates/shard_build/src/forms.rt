@@ -18,6 +18,16 @@ pub(crate) fn text<'a>(value: Option<Value<'a>>) -> Option<Value<'a>>
     }
 }
 
+/// Whether it is a text.
+pub(crate) fn is_text(value: &Option<Value<'_>>) -> bool
+    ensures { result ≡ is_some (option_and_then as_text (option_map seen value.now)) }
+{
+    matches!(
+        value,
+        Some(Value::Inline(_) | Value::Str(_) | Value::LineStr(_) | Value::StrIndex(_))
+    )
+}
+
 /// An address, as it stands in the entry.
 pub(crate) fn address(value: Option<Value<'_>>) -> Option<Raw>
     ensures { result ≡ option_and_then raw_of (option_and_then as_address (option_map seen value.entry)) }

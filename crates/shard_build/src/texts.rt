@@ -1,6 +1,7 @@
 //! The texts of an entry, borrowed from the file (DWARF 5, section 7.5.5 on the class string).
 
-ghost use Rattle.std.specs.Prelude.{◌≡◌, ◌-◌, ℕ, List, Some, option_map};
+ghost use Rattle.std.specs.Prelude.{◌≡◌, ◌-◌, ℕ, List, Some, option_map, option_and_then};
+ghost use Rattle.index_model.specs.Attributes.{as_text, linkage_value};
 ghost use Rattle.index_model.specs.FormSeen.{seen};
 ghost use Rattle.index_model.specs.Forms.{Inline};
 ghost use Rattle.index_model.specs.Gives.{GivesAlways};
@@ -11,6 +12,8 @@ ghost use Rattle.file_image.specs.TextLimits.{tested};
 ghost use Rattle.shard_build.specs.Texts.{text_by, texts_by, texts_seen, HoldsTexts};
 
 use crate::facts;
+use crate::facts::{LINKAGE_NAME, NAME, OLD_LINKAGE_NAME};
+use crate::forms::is_text;
 use crate::home::Home;
 use entry_scan::Item;
 use file_image::{test_text, text};
@@ -122,18 +125,33 @@ impl<'s, 'f> Home<'s, 'f> {
         'f: 'a,
         ensures { GivesAlways (λ done. done) result (tested (texts_by self.now.sections.now base self.now.unit.wide entry.now)) }
     {
-        self.test_text(base, facts::name(entry))?;
-        self.test_text(base, facts::linkage_name(entry))
+        self.test_text(base, &entry.value(NAME))?;
+        self.test_linkage(base, entry)
     }
 
-    // Whether the text of a value is sound, if there is one.
-    fn test_text<'a>(&self, base: Option<u64>, value: Option<Value<'a>>) -> Result<(), u8>
+    // Whether its linkage name is sound, if it has one.
+    fn test_linkage<'a>(&self, base: Option<u64>, entry: &Item<'a>) -> Result<(), u8>
     where
         'f: 'a,
-        ensures { GivesAlways (λ done. done) result (tested (text_by self.now.sections.now base self.now.unit.wide (option_map seen value.entry))) }
+        ensures { GivesAlways (λ done. done) result (tested (text_by self.now.sections.now base self.now.unit.wide (linkage_value entry.now))) }
+    {
+        let value = entry.value(LINKAGE_NAME);
+        if is_text(&value) {
+            self.test_text(base, &value)
+        } else {
+            self.test_text(base, &entry.value(OLD_LINKAGE_NAME))
+        }
+    }
+
+    // Whether a value is a sound text, if it is a text. It is read where it stands, since a copy would cost more than the test.
+    #[tactic(auto, using(crate::proofs::TextLaws::text_anyway))]
+    fn test_text<'a>(&self, base: Option<u64>, value: &Option<Value<'a>>) -> Result<(), u8>
+    where
+        'f: 'a,
+        ensures { GivesAlways (λ done. done) result (tested (text_by self.now.sections.now base self.now.unit.wide (option_and_then as_text (option_map seen value.now)))) }
     {
         match value {
-            Some(value) => test_text(self.sections, base, self.unit.wide, &value),
+            Some(value) => test_text(self.sections, base, self.unit.wide, value),
             None => Ok(()),
         }
     }
