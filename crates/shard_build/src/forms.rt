@@ -8,16 +8,6 @@ ghost use Rattle.index_model.specs.FormSeen.{seen};
 
 use index_model::{Next, Raw, Value};
 
-/// The value of a text.
-pub(crate) fn text<'a>(value: Option<Value<'a>>) -> Option<Value<'a>>
-    ensures { option_map seen result ≡ option_and_then as_text (option_map seen value.entry) }
-{
-    match value {
-        Some(Value::Inline(_) | Value::Str(_) | Value::LineStr(_) | Value::StrIndex(_)) => value,
-        _ => None,
-    }
-}
-
 /// Whether it is a text.
 pub(crate) fn is_text(value: &Option<Value<'_>>) -> bool
     ensures { result ≡ is_some (option_and_then as_text (option_map seen value.now)) }

@@ -11,7 +11,6 @@ ghost use Rattle.index_model.specs.Strings.{bounded};
 ghost use Rattle.file_image.specs.TextLimits.{tested};
 ghost use Rattle.shard_build.specs.Texts.{text_by, texts_by, texts_seen, HoldsTexts};
 
-use crate::facts;
 use crate::facts::{LINKAGE_NAME, NAME, OLD_LINKAGE_NAME};
 use crate::forms::is_text;
 use crate::home::Home;
@@ -50,37 +49,50 @@ impl<'s, 'f> Home<'s, 'f> {
         requires { HoldsTexts self.now.bytes.now self.now.unit entry.now }
         ensures { GivesAlways texts_seen result (texts_by self.now.sections.now base self.now.unit.wide entry.now) }
     {
-        let name = self.text(base, entry, facts::name(entry))?;
-        let linkage = self.text(base, entry, facts::linkage_name(entry))?;
+        let name = self.text(base, entry, &entry.value(NAME))?;
+        let linkage = self.own_linkage(base, entry)?;
         Ok(Texts { name, linkage })
     }
 
-    // The text of a value of an entry, if there is one.
+    // Its linkage name, if it has one.
+    fn own_linkage(&self, base: Option<u64>, entry: &Item<'_>) -> Result<Option<&'f [u8]>, u8>
+        requires { HoldsTexts self.now.bytes.now self.now.unit entry.now }
+        ensures { GivesAlways (λ t. option_map (λ bytes. bytes.now) t) result (text_by self.now.sections.now base self.now.unit.wide (linkage_value entry.now)) }
+    {
+        let value = entry.value(LINKAGE_NAME);
+        if is_text(&value) {
+            self.text(base, entry, &value)
+        } else {
+            self.text(base, entry, &entry.value(OLD_LINKAGE_NAME))
+        }
+    }
+
+    // The text of a value of an entry, if it is one.
     #[tactic(auto, unfolding(index_model::specs::Strings::text_of))]
     fn text(
         &self,
         base: Option<u64>,
         item: &Item<'_>,
-        value: Option<Value<'_>>,
+        value: &Option<Value<'_>>,
     ) -> Result<Option<&'f [u8]>, u8>
-        requires { (t : List ℕ) → option_map seen value ≡ Some (Inline t) → StandsIn self.now.bytes.now t (item.now.at - self.now.unit.start) (item.now.after - self.now.unit.start) }
-        ensures { GivesAlways (λ t. option_map (λ bytes. bytes.now) t) result (text_by self.now.sections.now base self.now.unit.wide (option_map seen value.entry)) }
+        requires { (t : List ℕ) → option_map seen value.now ≡ Some (Inline t) → StandsIn self.now.bytes.now t (item.now.at - self.now.unit.start) (item.now.after - self.now.unit.start) }
+        ensures { GivesAlways (λ t. option_map (λ bytes. bytes.now) t) result (text_by self.now.sections.now base self.now.unit.wide (option_and_then as_text (option_map seen value.now))) }
     {
         match value {
             None => Ok(None),
             Some(Value::Inline(text)) => self.inline(item, text),
-            Some(Value::Str(at)) => text(self.sections, base, self.unit.wide, &Value::Str(at)),
+            Some(Value::Str(at)) => text(self.sections, base, self.unit.wide, &Value::Str(*at)),
             Some(Value::LineStr(at)) => text(
                 self.sections,
                 base,
                 self.unit.wide,
-                &Value::LineStr(at),
+                &Value::LineStr(*at),
             ),
             Some(Value::StrIndex(index)) => text(
                 self.sections,
                 base,
                 self.unit.wide,
-                &Value::StrIndex(index),
+                &Value::StrIndex(*index),
             ),
             Some(_) => Ok(None),
         }
