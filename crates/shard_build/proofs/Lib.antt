@@ -21,3 +21,4 @@ mod FoundShards
 mod AgainLaws
 mod AgainUnits
 pub mod WholeFile
+mod TextLaws

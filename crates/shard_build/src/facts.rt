@@ -1,18 +1,17 @@
 //! What an entry says of itself (DWARF 5, sections 2 to 5).
 
 ghost use Rattle.std.specs.Prelude.{◌≡◌, option_map, option_and_then};
-ghost use Rattle.index_model.specs.FormSeen.{seen};
-ghost use Rattle.index_model.specs.Attributes.{attribute as attribute_of, name_value, linkage_value, low_pc, high_pc, ranges_value, has_address, is_declaration, has_external, has_enum_class, says_main, signature_of, next_reference, import_of, language_value, read_as, as_offset};
+ghost use Rattle.index_model.specs.Attributes.{low_pc, high_pc, ranges_value, has_address, is_declaration, has_external, has_enum_class, says_main, signature_of, next_reference, import_of, language_value, read_as, as_offset};
 ghost use Rattle.index_model.specs.Rules.{has_value};
 ghost use Rattle.index_model.specs.ShardParts.{raw_of, raw_of_high, as_next};
 
 use crate::forms;
 use entry_scan::Item;
-use index_model::{Next, Raw, Value};
+use index_model::{Next, Raw};
 
 const LOCATION: u64 = 0x02;
 
-const NAME: u64 = 0x03;
+pub(crate) const NAME: u64 = 0x03;
 
 const LOW_PC: u64 = 0x11;
 
@@ -44,7 +43,7 @@ const MAIN_SUBPROGRAM: u64 = 0x6a;
 
 const ENUM_CLASS: u64 = 0x6d;
 
-const LINKAGE_NAME: u64 = 0x6e;
+pub(crate) const LINKAGE_NAME: u64 = 0x6e;
 
 const STR_OFFSETS_BASE: u64 = 0x72;
 
@@ -52,30 +51,13 @@ const ADDR_BASE: u64 = 0x73;
 
 const RNGLISTS_BASE: u64 = 0x74;
 
-// The linkage name of older producers.
-const OLD_LINKAGE_NAME: u64 = 0x2007;
+/// The linkage name of older producers.
+pub(crate) const OLD_LINKAGE_NAME: u64 = 0x2007;
 
 // The calling convention of a main program.
 const PROGRAM: u64 = 2;
 
 const VARIABLE: u64 = 0x34;
-
-/// The value of its name.
-pub(crate) fn name<'a>(entry: &Item<'a>) -> Option<Value<'a>>
-    ensures { option_map seen result ≡ name_value entry.now }
-{
-    forms::text(entry.value(NAME))
-}
-
-/// The value of its linkage name, else that of the attribute of older producers.
-pub(crate) fn linkage_name<'a>(entry: &Item<'a>) -> Option<Value<'a>>
-    ensures { option_map seen result ≡ linkage_value entry.now }
-{
-    match forms::text(entry.value(LINKAGE_NAME)) {
-        Some(value) => Some(value),
-        None => forms::text(entry.value(OLD_LINKAGE_NAME)),
-    }
-}
 
 /// Its low_pc, as it stands there.
 pub(crate) fn low(entry: &Item<'_>) -> Option<Raw>

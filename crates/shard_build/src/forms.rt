@@ -8,14 +8,14 @@ ghost use Rattle.index_model.specs.FormSeen.{seen};
 
 use index_model::{Next, Raw, Value};
 
-/// The value of a text.
-pub(crate) fn text<'a>(value: Option<Value<'a>>) -> Option<Value<'a>>
-    ensures { option_map seen result ≡ option_and_then as_text (option_map seen value.entry) }
+/// Whether it is a text.
+pub(crate) fn is_text(value: &Option<Value<'_>>) -> bool
+    ensures { result ≡ is_some (option_and_then as_text (option_map seen value.now)) }
 {
-    match value {
-        Some(Value::Inline(_) | Value::Str(_) | Value::LineStr(_) | Value::StrIndex(_)) => value,
-        _ => None,
-    }
+    matches!(
+        value,
+        Some(Value::Inline(_) | Value::Str(_) | Value::LineStr(_) | Value::StrIndex(_))
+    )
 }
 
 /// An address, as it stands in the entry.

@@ -1,6 +1,7 @@
 //! Where in the file the texts of entries are thought to stand. Nothing rests on it: a list of nodes compares the bytes there.
 
-use crate::facts;
+use crate::facts::{LINKAGE_NAME, NAME, OLD_LINKAGE_NAME};
+use crate::forms::is_text;
 use crate::home::Home;
 use entry_scan::Item;
 use file_image::SectionTable;
@@ -40,8 +41,18 @@ impl TextPlaces {
     /// Where the texts of an entry stand, whose unit's part of `.debug_str_offsets` begins at the base.
     pub fn of_entry(&self, home: &Home<'_, '_>, base: Option<u64>, entry: &Item<'_>) -> Places {
         Places {
-            name: self.of_value(home, base, entry, facts::name(entry)),
-            linkage: self.of_value(home, base, entry, facts::linkage_name(entry)),
+            name: self.of_value(home, base, entry, &entry.value(NAME)),
+            linkage: self.of_linkage(home, base, entry),
+        }
+    }
+
+    // Where its linkage name stands.
+    fn of_linkage(&self, home: &Home<'_, '_>, base: Option<u64>, entry: &Item<'_>) -> u64 {
+        let value = entry.value(LINKAGE_NAME);
+        if is_text(&value) {
+            self.of_value(home, base, entry, &value)
+        } else {
+            self.of_value(home, base, entry, &entry.value(OLD_LINKAGE_NAME))
         }
     }
 
@@ -51,14 +62,14 @@ impl TextPlaces {
         home: &Home<'_, '_>,
         base: Option<u64>,
         item: &Item<'_>,
-        value: Option<Value<'_>>,
+        value: &Option<Value<'_>>,
     ) -> u64 {
         match value {
             Some(Value::Inline(text)) => self.of_inline(home, item, text),
-            Some(Value::Str(at)) => self.str.saturating_add(at),
-            Some(Value::LineStr(at)) => self.line_str.saturating_add(at),
+            Some(Value::Str(at)) => self.str.saturating_add(*at),
+            Some(Value::LineStr(at)) => self.line_str.saturating_add(*at),
             Some(Value::StrIndex(index)) => {
-                self.str.saturating_add(indexed_offset(home, base, index))
+                self.str.saturating_add(indexed_offset(home, base, *index))
             }
             _ => 0,
         }

@@ -1,6 +1,7 @@
 //! The texts of an entry, borrowed from the file (DWARF 5, section 7.5.5 on the class string).
 
-ghost use Rattle.std.specs.Prelude.{◌≡◌, ◌-◌, ℕ, List, Some, option_map};
+ghost use Rattle.std.specs.Prelude.{◌≡◌, ◌-◌, ℕ, List, Some, option_map, option_and_then};
+ghost use Rattle.index_model.specs.Attributes.{as_text, linkage_value};
 ghost use Rattle.index_model.specs.FormSeen.{seen};
 ghost use Rattle.index_model.specs.Forms.{Inline};
 ghost use Rattle.index_model.specs.Gives.{GivesAlways};
@@ -10,7 +11,8 @@ ghost use Rattle.index_model.specs.Strings.{bounded};
 ghost use Rattle.file_image.specs.TextLimits.{tested};
 ghost use Rattle.shard_build.specs.Texts.{text_by, texts_by, texts_seen, HoldsTexts};
 
-use crate::facts;
+use crate::facts::{LINKAGE_NAME, NAME, OLD_LINKAGE_NAME};
+use crate::forms::is_text;
 use crate::home::Home;
 use entry_scan::Item;
 use file_image::{test_text, text};
@@ -47,37 +49,50 @@ impl<'s, 'f> Home<'s, 'f> {
         requires { HoldsTexts self.now.bytes.now self.now.unit entry.now }
         ensures { GivesAlways texts_seen result (texts_by self.now.sections.now base self.now.unit.wide entry.now) }
     {
-        let name = self.text(base, entry, facts::name(entry))?;
-        let linkage = self.text(base, entry, facts::linkage_name(entry))?;
+        let name = self.text(base, entry, &entry.value(NAME))?;
+        let linkage = self.own_linkage(base, entry)?;
         Ok(Texts { name, linkage })
     }
 
-    // The text of a value of an entry, if there is one.
+    // Its linkage name, if it has one.
+    fn own_linkage(&self, base: Option<u64>, entry: &Item<'_>) -> Result<Option<&'f [u8]>, u8>
+        requires { HoldsTexts self.now.bytes.now self.now.unit entry.now }
+        ensures { GivesAlways (λ t. option_map (λ bytes. bytes.now) t) result (text_by self.now.sections.now base self.now.unit.wide (linkage_value entry.now)) }
+    {
+        let value = entry.value(LINKAGE_NAME);
+        if is_text(&value) {
+            self.text(base, entry, &value)
+        } else {
+            self.text(base, entry, &entry.value(OLD_LINKAGE_NAME))
+        }
+    }
+
+    // The text of a value of an entry, if it is one.
     #[tactic(auto, unfolding(index_model::specs::Strings::text_of))]
     fn text(
         &self,
         base: Option<u64>,
         item: &Item<'_>,
-        value: Option<Value<'_>>,
+        value: &Option<Value<'_>>,
     ) -> Result<Option<&'f [u8]>, u8>
-        requires { (t : List ℕ) → option_map seen value ≡ Some (Inline t) → StandsIn self.now.bytes.now t (item.now.at - self.now.unit.start) (item.now.after - self.now.unit.start) }
-        ensures { GivesAlways (λ t. option_map (λ bytes. bytes.now) t) result (text_by self.now.sections.now base self.now.unit.wide (option_map seen value.entry)) }
+        requires { (t : List ℕ) → option_map seen value.now ≡ Some (Inline t) → StandsIn self.now.bytes.now t (item.now.at - self.now.unit.start) (item.now.after - self.now.unit.start) }
+        ensures { GivesAlways (λ t. option_map (λ bytes. bytes.now) t) result (text_by self.now.sections.now base self.now.unit.wide (option_and_then as_text (option_map seen value.now))) }
     {
         match value {
             None => Ok(None),
             Some(Value::Inline(text)) => self.inline(item, text),
-            Some(Value::Str(at)) => text(self.sections, base, self.unit.wide, &Value::Str(at)),
+            Some(Value::Str(at)) => text(self.sections, base, self.unit.wide, &Value::Str(*at)),
             Some(Value::LineStr(at)) => text(
                 self.sections,
                 base,
                 self.unit.wide,
-                &Value::LineStr(at),
+                &Value::LineStr(*at),
             ),
             Some(Value::StrIndex(index)) => text(
                 self.sections,
                 base,
                 self.unit.wide,
-                &Value::StrIndex(index),
+                &Value::StrIndex(*index),
             ),
             Some(_) => Ok(None),
         }
@@ -122,18 +137,33 @@ impl<'s, 'f> Home<'s, 'f> {
         'f: 'a,
         ensures { GivesAlways (λ done. done) result (tested (texts_by self.now.sections.now base self.now.unit.wide entry.now)) }
     {
-        self.test_text(base, facts::name(entry))?;
-        self.test_text(base, facts::linkage_name(entry))
+        self.test_text(base, &entry.value(NAME))?;
+        self.test_linkage(base, entry)
     }
 
-    // Whether the text of a value is sound, if there is one.
-    fn test_text<'a>(&self, base: Option<u64>, value: Option<Value<'a>>) -> Result<(), u8>
+    // Whether its linkage name is sound, if it has one.
+    fn test_linkage<'a>(&self, base: Option<u64>, entry: &Item<'a>) -> Result<(), u8>
     where
         'f: 'a,
-        ensures { GivesAlways (λ done. done) result (tested (text_by self.now.sections.now base self.now.unit.wide (option_map seen value.entry))) }
+        ensures { GivesAlways (λ done. done) result (tested (text_by self.now.sections.now base self.now.unit.wide (linkage_value entry.now))) }
+    {
+        let value = entry.value(LINKAGE_NAME);
+        if is_text(&value) {
+            self.test_text(base, &value)
+        } else {
+            self.test_text(base, &entry.value(OLD_LINKAGE_NAME))
+        }
+    }
+
+    // Whether a value is a sound text, if it is a text. It is read where it stands, since a copy would cost more than the test.
+    #[tactic(auto, using(crate::proofs::TextLaws::text_anyway))]
+    fn test_text<'a>(&self, base: Option<u64>, value: &Option<Value<'a>>) -> Result<(), u8>
+    where
+        'f: 'a,
+        ensures { GivesAlways (λ done. done) result (tested (text_by self.now.sections.now base self.now.unit.wide (option_and_then as_text (option_map seen value.now)))) }
     {
         match value {
-            Some(value) => test_text(self.sections, base, self.unit.wide, &value),
+            Some(value) => test_text(self.sections, base, self.unit.wide, value),
             None => Ok(()),
         }
     }

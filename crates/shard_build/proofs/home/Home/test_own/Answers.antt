@@ -1,5 +1,5 @@
-use Rattle.std.proofs.Common.{◌≡◌, ℕ, List, Option, Result, Ok, Err, sym, ap, subst, ◌∙◌}
-use Rattle.index_model.specs.Attributes.{name_value, linkage_value}
+use Rattle.std.proofs.Common.{option_and_then, ◌≡◌, ℕ, List, Option, Result, Ok, Err, sym, ap, ◌∙◌}
+use Rattle.index_model.specs.Attributes.{as_text, name_value, linkage_value}
 use Rattle.index_model.specs.Forms.{Value}
 use Rattle.index_model.specs.Gives.{GivesAlways}
 use Rattle.index_model.specs.Meaning.{◌>>=◌}
@@ -23,6 +23,5 @@ returns c =
     let home = c.args.self.now in
     let d = c.args.entry.now in
     let by : Option Value → Result (Option (List ℕ)) ℕ = text_by home.sections.now c.args.base home.unit.wide in
-    let name : tested (by (name_value d)) ≡ Ok c.in_ok-test_text.field-0 = ap (λ (v : Option Value). tested (by v)) (sym c.name.ensures) ∙ c.in_ok-test_text.ensures in
-    let linkage = subst (λ (v : Option Value). GivesAlways (λ done. done) c.test_text-2.result (tested (by v))) c.linkage_name.ensures c.test_text-2.ensures in
-    second_decides (by (name_value d)) (by (linkage_value d)) c.in_ok-test_text.field-0 c.test_text-2.result name linkage
+    let name : tested (by (name_value d)) ≡ Ok c.in_ok-test_text.field-0 = ap (λ (v : Option Value). tested (by v)) (ap (option_and_then as_text) (sym c.value.ensures)) ∙ c.in_ok-test_text.ensures in
+    second_decides (by (name_value d)) (by (linkage_value d)) c.in_ok-test_text.field-0 c.test_linkage.result name c.test_linkage.ensures
