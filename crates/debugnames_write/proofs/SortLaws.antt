@@ -1,20 +1,12 @@
 -- The names of sorted entries.
-use Rattle.std.proofs.Common.{◌≡◌, ℕ, ◌-◌, ◌<◌, Bool, true, false, List, [], ◌∷◌, length, get_or, refl, sym, ap, ◌∙◌, arith}
+use Rattle.std.proofs.Common.{◌≡◌, ℕ, ◌-◌, ◌<◌, Bool, true, false, List, [], length, get_or, sym, ◌∙◌, arith}
 use mathlib.Core.Bool.{true≢false}
-use Rattle.std.specs.Prelude.{bytes_eq, filter}
+use Rattle.std.specs.Prelude.{bytes_eq}
 use Rattle.std.specs.Bool.{MatchBool}
-use Rattle.std.specs.List.{list_any}
-use Rattle.std.specs.List.Sorted.{IsPermutation, IsSorted, IsStable, ties}
-use Rattle.std.specs.Ordering.{is_lt}
-use Rattle.std.specs.declared.cmp.Ordering.{Ordering}
-use Rattle.std.proofs.lemmas.Cmp.{nat_list_cmp_total}
 use Rattle.std.proofs.lemmas.List.{get_or-map}
-use Rattle.std.proofs.lemmas.List.Elements.{filter_agree}
-use Rattle.std.proofs.lemmas.List.Sorted.{sorted_far, ranks_by, list_any-IsPermutation}
-use Rattle.query_engine.proofs.TextOrder.{text_cmp, same_from_eq, eq_from_same, ties_are_same, filter_none, some_passes}
+use Rattle.query_engine.proofs.TextOrder.{same_from_eq, eq_from_same}
 use Rattle.debugnames_write.specs.declared.item.Item.{Item}
-use Rattle.debugnames_write.specs.Groups.{GoesOnAt, name_at, AreSorted, SameByName, entries_named}
-use Rattle.debugnames_write.specs.Seen.{item_seen, items_seen}
+use Rattle.debugnames_write.specs.Groups.{GoesOnAt, name_at}
 
 abbrev name_of : Item → List ℕ
 name_of i = i.name.now

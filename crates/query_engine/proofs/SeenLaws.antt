@@ -1,10 +1,9 @@
 -- What contracts see of texts, one text more.
-use Rattle.std.proofs.Common.{◌≡◌, ℕ, suc, ◌+◌, ◌<◌, List, [], ◌∷◌, ◌++◌, length, get_or, take, map, sym, ap, ◌∙◌, arith}
+use Rattle.std.proofs.Common.{◌≡◌, ℕ, suc, ◌+◌, ◌<◌, List, [], ◌∷◌, ◌++◌, length, get_or, take, sym, ap, ◌∙◌, arith}
 use Rattle.std.specs.List.{enumerate_from}
 use Rattle.std.proofs.lemmas.List.{get_or-map, map-append, take_more, length-take, length-map}
 use Rattle.query_engine.specs.declared.spelling.Spelling.{Spelling}
 use Rattle.query_engine.specs.Marks.{text_with}
-use Rattle.query_engine.specs.Pairs.{Pair}
 use Rattle.query_engine.specs.Seen.{texts_seen}
 
 pub text_seen : (ss : List Spelling) (k : ℕ) (x : Spelling) → k < length ss → x ≡ get_or ss k x → text_with (texts_seen ss) k ≡ x.bytes.now

@@ -1,4 +1,4 @@
-use Rattle.std.proofs.Common.{◌≡◌, ap, ◌∙◌}
+use Rattle.std.proofs.Common.{◌≡◌}
 use Rattle.index_model.specs.Answers.{entries_at}
 use Rattle.index_model.specs.NameIndex.{all_indexed}
 use Rattle.debugnames_write.specs.Seen.{items_seen}

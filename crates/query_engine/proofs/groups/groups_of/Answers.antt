@@ -1,4 +1,4 @@
-use Rattle.std.proofs.Common.{◌≡◌, ℕ, List, ◌∷◌, length, get_or, refl, ap, ◌∙◌, add-one, arith, length-append}
+use Rattle.std.proofs.Common.{◌≡◌, ℕ, List, length, refl, ap, ◌∙◌, add-one, arith, length-append}
 use Rattle.query_engine.specs.Front.{IsFrontOf}
 use Rattle.query_engine.specs.Marks.{text_with}
 use Rattle.query_engine.specs.Seen.{texts_seen}

@@ -1,11 +1,11 @@
-use Rattle.std.proofs.Common.{◌≡◌, ℕ, ◌+◌, List, [], ◌∷◌, ◌++◌, length, take, map, sym, ap, ◌∙◌, arith}
+use Rattle.std.proofs.Common.{◌≡◌, ℕ, ◌+◌, List, [], ◌∷◌, ◌++◌, take, sym, ◌∙◌, arith}
 use Rattle.std.proofs.lemmas.List.{length-map}
 use Rattle.query_engine.specs.declared.spelling.Spelling.{Spelling}
 use Rattle.query_engine.specs.Asked.{text_of}
 use Rattle.query_engine.specs.Marks.{Numbers}
 use Rattle.query_engine.specs.Pairs.{pairs_in}
 use Rattle.query_engine.specs.Seen.{texts_seen}
-use Rattle.query_engine.proofs.MarkLaws.{marks_more, texts_more, no_marks}
+use Rattle.query_engine.proofs.MarkLaws.{marks_more, texts_more}
 use Rattle.query_engine.proofs.PairLaws.{pairs_push, pairs_keep}
 use Rattle.query_engine.proofs.marks.marks_of.Goals as goal
 use Rattle.query_engine.proofs.marks.marks_of.Goals.{then-counts+in_ok-number+in_ok-push, else-counts}

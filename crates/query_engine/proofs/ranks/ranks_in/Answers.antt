@@ -1,11 +1,11 @@
-use Rattle.std.proofs.Common.{◌≡◌, ◌<◌, ◌≤◌, ℕ, ◌+◌, ◌-◌, Vec, Global, List, [], ◌∷◌, ◌++◌, length, get_or, refl, sym, ap, ◌∙◌, subst, arith}
+use Rattle.std.proofs.Common.{◌≡◌, ◌<◌, ◌≤◌, ℕ, ◌-◌, Vec, Global, List, [], ◌∷◌, ◌++◌, length, get_or, refl, ap, ◌∙◌, subst, arith}
 use Rattle.std.proofs.lemmas.List.{get_or-map, length-map, length-set, map-append}
 use Rattle.query_engine.specs.declared.key.Key.{Key}
 use Rattle.query_engine.specs.declared.spelling.Spelling.{Spelling}
 use Rattle.query_engine.specs.Pairs.{Pair, number_at, text_at}
 use Rattle.query_engine.specs.Ranks.{AreRanksIn}
 use Rattle.query_engine.specs.Seen.{pairs_seen, pair_seen, texts_seen}
-use Rattle.query_engine.proofs.RankLaws.{ranks_on, ranks_new, last_on, last_new, no_ranks, no_last}
+use Rattle.query_engine.proofs.RankLaws.{ranks_on, ranks_new, last_on, last_new}
 use Rattle.query_engine.proofs.SortLaws.{at_key}
 use Rattle.query_engine.proofs.ranks.ranks_in.Goals as goal
 use Rattle.query_engine.proofs.ranks.ranks_in.Goals.{then-not-goes_on_at+in_ok-push, else-not-goes_on_at}
