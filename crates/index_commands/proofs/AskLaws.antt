@@ -20,10 +20,12 @@ use Rattle.index_board.specs.Readers.{Reader}
 use Rattle.index_pool.specs.Ends.{IsLast}
 use Rattle.query_text.specs.Places.{PlacesFit}
 use Rattle.query_text.proofs.PlaceLaws.{answer_fits}
+use Rattle.query_text.specs.Questions.{Question}
+use Rattle.query_text.specs.Spelled.{answer_in, reply_in}
 use Rattle.command_base.specs.Replies.{SaysFile, SaysReply, Wrote}
 use Rattle.command_base.specs.declared.status.Status.{Status}
 use Rattle.command_base.specs.declared.status.Status.TheVariants.{Answered, Refused, Usage, ReadFault, StoreFault, WriteFault, NoMemory, IndexRefused, TableRefused, IndexTooLarge, FileTooBig, AlreadyIndexed, TooManySections, InputFault, InputTooLong, Stopped as Halted}
-use Rattle.command_base.proofs.ReplyLaws.{wrote_weaker}
+use Rattle.command_base.proofs.ReplyLaws.{answered_in, refused_in, stopped_in, wrote_weaker}
 
 -- ---- replies
 
@@ -54,45 +56,52 @@ module _ (file : List ℕ) (q : Query) where
   reply_fits r (wrong f is) = tt
   reply_fits r halted = tt
 
-  -- what is written of it is what the file means
-  says : (r : Reply) → IsFileReply file q r → (status : Status) (text : List ℕ) → SaysReply r status text → SaysFile file q status text
-  says r (gives b is) Answered text h = record { built = b; accepted = is; text_is = h }
-  says r (gives b is) Refused text h = absurd h
-  says r (gives b is) Usage text h = absurd h
-  says r (gives b is) ReadFault text h = absurd h
-  says r (gives b is) WriteFault text h = absurd h
-  says r (gives b is) NoMemory text h = absurd h
-  says r (gives b is) FileTooBig text h = absurd h
-  says r (gives b is) AlreadyIndexed text h = absurd h
-  says r (gives b is) TooManySections text h = absurd h
-  says r (gives b is) (TableRefused table) text h = absurd h
-  says r (gives b is) InputFault text h = absurd h
-  says r (gives b is) InputTooLong text h = absurd h
-  says r (gives b is) Halted text h = absurd h
-  says r (gives b is) StoreFault text h = absurd h
-  says r (gives b is) IndexRefused text h = absurd h
-  says r (gives b is) IndexTooLarge text h = absurd h
-  says r (wrong f is) Refused text h = record { fault = f; first = is; text_is = h }
-  says r (wrong f is) Answered text h = absurd h
-  says r (wrong f is) Usage text h = absurd h
-  says r (wrong f is) ReadFault text h = absurd h
-  says r (wrong f is) WriteFault text h = absurd h
-  says r (wrong f is) NoMemory text h = absurd h
-  says r (wrong f is) FileTooBig text h = absurd h
-  says r (wrong f is) AlreadyIndexed text h = absurd h
-  says r (wrong f is) TooManySections text h = absurd h
-  says r (wrong f is) (TableRefused table) text h = absurd h
-  says r (wrong f is) InputFault text h = absurd h
-  says r (wrong f is) InputTooLong text h = absurd h
-  says r (wrong f is) Halted text h = absurd h
-  says r (wrong f is) StoreFault text h = absurd h
-  says r (wrong f is) IndexRefused text h = absurd h
-  says r (wrong f is) IndexTooLarge text h = absurd h
-  says r halted status text h = absurd h
+-- what is written of it is what the file means
+module _ (file : List ℕ) (q : Question) where
+  answered : (b : Built) → built_of file ≡ Ok b → (status : Status) (text : List ℕ) → SaysReply (Replied (answer_in q.spelling (answer_to b (size_in Gdb8 (Ok b)) q.query))) status text → SaysFile file q status text
+  answered b is Answered text h = record { built = b; accepted = is; text_is = h }
+  answered b is Refused text h = absurd h
+  answered b is Usage text h = absurd h
+  answered b is ReadFault text h = absurd h
+  answered b is WriteFault text h = absurd h
+  answered b is NoMemory text h = absurd h
+  answered b is FileTooBig text h = absurd h
+  answered b is AlreadyIndexed text h = absurd h
+  answered b is TooManySections text h = absurd h
+  answered b is (TableRefused table) text h = absurd h
+  answered b is InputFault text h = absurd h
+  answered b is InputTooLong text h = absurd h
+  answered b is Halted text h = absurd h
+  answered b is StoreFault text h = absurd h
+  answered b is IndexRefused text h = absurd h
+  answered b is IndexTooLarge text h = absurd h
+
+  refused : (f : Fault) → first_fault file ≡ Some f → (status : Status) (text : List ℕ) → SaysReply (Refuses f) status text → SaysFile file q status text
+  refused f is Refused text h = record { fault = f; first = is; text_is = h }
+  refused f is Answered text h = absurd h
+  refused f is Usage text h = absurd h
+  refused f is ReadFault text h = absurd h
+  refused f is WriteFault text h = absurd h
+  refused f is NoMemory text h = absurd h
+  refused f is FileTooBig text h = absurd h
+  refused f is AlreadyIndexed text h = absurd h
+  refused f is TooManySections text h = absurd h
+  refused f is (TableRefused table) text h = absurd h
+  refused f is InputFault text h = absurd h
+  refused f is InputTooLong text h = absurd h
+  refused f is Halted text h = absurd h
+  refused f is StoreFault text h = absurd h
+  refused f is IndexRefused text h = absurd h
+  refused f is IndexTooLarge text h = absurd h
+
+  says : (r : Reply) → IsFileReply file q.query r → (status : Status) (text : List ℕ) → SaysReply (reply_in q.spelling r) status text → SaysFile file q status text
+  says r (gives b is) status text h = answered b is status text (subst (λ (r : Reply). SaysReply r status text) (answered_in q.spelling (answer_to b (size_in Gdb8 (Ok b)) q.query)) h)
+  says r (wrong f is) status text h = refused f is status text (subst (λ (r : Reply). SaysReply r status text) (refused_in q.spelling f) h)
+  says r halted status text h = absurd (subst (λ (r : Reply). SaysReply r status text) (stopped_in q.spelling) h)
 
   -- the status says the same
-  pub wrote_of : (r : Reply) → IsFileReply file q r → (status : Status) (old new : Option (List ℕ)) → Wrote (SaysReply r) status old new → Wrote (SaysFile file q) status old new
-  wrote_of r is status old new = wrote_weaker (SaysReply r) (SaysFile file q) (says r is) status old new
+  pub wrote_of : (r : Reply) → IsFileReply file q.query r → (status : Status) (old new : Option (List ℕ)) → Wrote (SaysReply (reply_in q.spelling r)) status old new → Wrote (SaysFile file q) status old new
+  wrote_of r is status old new = wrote_weaker (SaysReply (reply_in q.spelling r)) (SaysFile file q) (says r is) status old new
 
 -- ---- by a reader
 

@@ -7,4 +7,4 @@ mod names;
 
 pub use ask::ask_file;
 pub use index::index_file;
-pub use names::look_names;
+pub use names::{NamesLook, look_names};

@@ -11,6 +11,7 @@ use Rattle.session_commands.specs.SessionResults.{SaysServe}
 use Rattle.session_commands.specs.Sessions.{Serves}
 use Rattle.command_base.specs.declared.status.Status.{Status}
 use Rattle.command_base.specs.declared.status.Status.TheVariants.{Answered, Refused, WriteFault, InputFault, InputTooLong, Stopped}
+use Rattle.name_quotes.specs.declared.quote.Spelling.{Spelling}
 
 -- the status of a session that stopped
 abbrev pub status_of : SessionFault → Status
@@ -31,12 +32,6 @@ abbrev pub status_behind : {X : Type 0} → Result X SessionFault → Ended → 
 status_behind (Ok x) ended = status_at ended
 status_behind (Err fault) ended = status_of fault
 
--- The whole input was answered, and the reader has this floor then: no digit is above a most that the floor has. Or the
--- session stopped, and the text is that of its status.
-abbrev pub Listened : {X : Type 0} → List ℕ → ℕ → Heard → Option (List ℕ) → Option (List ℕ) → ℕ → Result X SessionFault → Type 0
-Listened file wait heard old new floor (Ok x) = (most : ℕ) → HasMost most floor → Writes old new (Serves file wait most heard)
-Listened file wait heard old new floor (Err fault) = Wrote (SaysServe file wait heard) (status_of fault) old new
-
 -- the cause of a status of a session
 abbrev pub CausesOfSession : Type 0 → Status → Type 0
 CausesOfSession writes Answered = ⊤
@@ -46,3 +41,10 @@ CausesOfSession writes InputTooLong = ⊤
 CausesOfSession writes Stopped = ⊤
 CausesOfSession writes WriteFault = writes
 CausesOfSession writes other = ⊥
+
+module _ (spelling : Spelling) where
+  -- The whole input was answered, and the reader has this floor then: no digit is above a most that the floor has. Or the
+  -- session stopped, and the text is that of its status.
+  abbrev pub Listened : {X : Type 0} → List ℕ → ℕ → Heard → Option (List ℕ) → Option (List ℕ) → ℕ → Result X SessionFault → Type 0
+  Listened file wait heard old new floor (Ok x) = (most : ℕ) → HasMost most floor → Writes old new (Serves spelling file wait most heard)
+  Listened file wait heard old new floor (Err fault) = Wrote (SaysServe spelling file wait heard) (status_of fault) old new

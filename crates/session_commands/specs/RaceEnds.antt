@@ -18,6 +18,7 @@ use Rattle.session_commands.specs.declared.race_end.Fate.TheVariants.{Whole, Lon
 use Rattle.session_commands.specs.declared.runner.Runner.{Runner}
 use Rattle.command_base.specs.declared.status.Status.{Status}
 use Rattle.command_base.specs.declared.status.Status.TheVariants.{Answered, Refused, WriteFault, InputTooLong, Stopped}
+use Rattle.name_quotes.specs.declared.quote.Spelling.{Spelling}
 
 -- the cause of a status of sessions of readers
 abbrev pub CausesOfRace : Type 0 → Status → Type 0
@@ -67,9 +68,10 @@ pub data IsFinished (rs : List Runner) (ended : Ended) (old new : Option (List �
   written : list_any has_lost rs ≡ false → Appends old new (texts_of rs) → IsFinished rs ended old new failed (race_status (list_any has_long rs) ended)
   cut : list_any has_lost rs ≡ false → failed → AppendsPrefix old new (texts_of rs) → IsFinished rs ended old new failed WriteFault
 
--- the readers of a board were in both sessions, the second after the build's end
-pub record HasEnded (board : Lock Subject) (script : List ℕ) (runners : List Runner) (ended : Ended) : Type 0 where
-  pub is_gdb : board.subject.cache ≡ Gdb8
-  pub each : EachAt (WasHeldTwice board script (stage_at_end ended)) runners
-  pub last : IsLast (stage_at_end ended)
-  pub fits : FitsFile board.subject (stage_at_end ended)
+module _ (spelling : Spelling) where
+  -- the readers of a board were in both sessions, the second after the build's end
+  pub record HasEnded (board : Lock Subject) (script : List ℕ) (runners : List Runner) (ended : Ended) : Type 0 where
+    pub is_gdb : board.subject.cache ≡ Gdb8
+    pub each : EachAt (WasHeldTwice spelling board script (stage_at_end ended)) runners
+    pub last : IsLast (stage_at_end ended)
+    pub fits : FitsFile board.subject (stage_at_end ended)

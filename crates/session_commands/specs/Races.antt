@@ -9,6 +9,7 @@ use Rattle.query_text.specs.WholeLines.{whole_lines_of}
 use Rattle.session_commands.specs.Sessions.{AreDigits, IsTranscript}
 use Rattle.command_base.specs.declared.status.Status.{Status}
 use Rattle.command_base.specs.declared.status.Status.TheVariants.{Answered, Refused, InputTooLong, Stopped}
+use Rattle.name_quotes.specs.declared.quote.Spelling.{Spelling}
 
 -- ---- the lines of a script that a session answers
 
@@ -41,17 +42,6 @@ pub record Texts : Type 0 where
   pub during : List ℕ
   pub after : List ℕ
 
--- The texts are those of such lines. No digit is above the most, those of the second session are 3 or more, and each is
--- reachable from the one before it, over both sessions.
-pub record SaysTwice (file : List ℕ) (most : ℕ) (Lines : List (List ℕ) → Type 0) (texts : Texts) : Type 0 where
-  pub first_lines : List (List ℕ)
-  pub first_are : Lines first_lines
-  pub first : IsTranscript file initial most first_lines texts.during
-  pub second_lines : List (List ℕ)
-  pub second_are : Lines second_lines
-  pub second : IsTranscript file cache_written most second_lines texts.after
-  pub rises : AreDigits file initial (first.digits ++ second.digits)
-
 -- ---- all readers
 
 -- a word and the number of each reader on a line, from a number on, and behind it the text of its session
@@ -63,17 +53,29 @@ round_text word number (text ∷ texts) = line (word ∷ decimal number ∷ []) 
 abbrev pub race_text : List Texts → List ℕ
 race_text all = round_text (codes "during") 0 (map (λ t. t.during) all) ++ round_text (codes "after") 0 (map (λ t. t.after) all)
 
--- the text is that of so many readers
-pub record Races (file : List ℕ) (readers most : ℕ) (Lines : List (List ℕ) → Type 0) (text : List ℕ) : Type 0 where
-  pub all : List Texts
-  pub count : length all ≡ readers
-  pub each : All (SaysTwice file most Lines) all
-  pub text_is : text ≡ race_text all
+module _ (spelling : Spelling) where
+  -- The texts are those of such lines. No digit is above the most, those of the second session are 3 or more, and each is
+  -- reachable from the one before it, over both sessions.
+  pub record SaysTwice (file : List ℕ) (most : ℕ) (Lines : List (List ℕ) → Type 0) (texts : Texts) : Type 0 where
+    pub first_lines : List (List ℕ)
+    pub first_are : Lines first_lines
+    pub first : IsTranscript spelling file initial most first_lines texts.during
+    pub second_lines : List (List ℕ)
+    pub second_are : Lines second_lines
+    pub second : IsTranscript spelling file cache_written most second_lines texts.after
+    pub rises : AreDigits file initial (first.digits ++ second.digits)
 
--- Readers over a file and a script. Where they ended well, all lines were answered and no look was at stage 5.
-abbrev pub SaysRace : List ℕ → ℕ → List ℕ → Status → List ℕ → Type 0
-SaysRace file readers script Answered text = IsAccepted file × Races file readers refused (AreAll script) text
-SaysRace file readers script Refused text = IsSome (first_fault file) × Races file readers refused (AreAll script) text
-SaysRace file readers script InputTooLong text = Races file readers stopped (AreBeforeLong script) text
-SaysRace file readers script Stopped text = Races file readers stopped (AreFirst script) text
-SaysRace file readers script other text = ⊥
+  -- the text is that of so many readers
+  pub record Races (file : List ℕ) (readers most : ℕ) (Lines : List (List ℕ) → Type 0) (text : List ℕ) : Type 0 where
+    pub all : List Texts
+    pub count : length all ≡ readers
+    pub each : All (SaysTwice file most Lines) all
+    pub text_is : text ≡ race_text all
+
+  -- Readers over a file and a script. Where they ended well, all lines were answered and no look was at stage 5.
+  abbrev pub SaysRace : List ℕ → ℕ → List ℕ → Status → List ℕ → Type 0
+  SaysRace file readers script Answered text = IsAccepted file × Races file readers refused (AreAll script) text
+  SaysRace file readers script Refused text = IsSome (first_fault file) × Races file readers refused (AreAll script) text
+  SaysRace file readers script InputTooLong text = Races file readers stopped (AreBeforeLong script) text
+  SaysRace file readers script Stopped text = Races file readers stopped (AreFirst script) text
+  SaysRace file readers script other text = ⊥

@@ -11,6 +11,7 @@ ghost use Rattle.session_commands.specs.Listens.{CausesOfSession, Listened, stat
 use command_base::Status;
 use index_board::{Pass, Reader};
 use index_pool::Ended;
+use name_quotes::Spelling;
 use outside::{Gate, Sink, Source};
 use query_text::{LineBuf, SessionFault, session};
 use std::sync::Wait;
@@ -28,6 +29,7 @@ impl<'f> Listener<'_, 'f> {
         &mut self,
         rt: &R,
         wait: u8,
+        spelling: Spelling,
         input: &mut S,
         out: &mut K,
         gate: &G,
@@ -35,13 +37,22 @@ impl<'f> Listener<'_, 'f> {
         requires wait { wait ≤ 3 }
         requires kind { self.old.reader.board.subject.cache ≡ Gdb8 }
         requires reached { IsReachable initial self.old.reader.pass.floor }
-        ensures text { Listened self.old.reader.board.subject.file wait (heard S.left S.read_faults input.old input.new) (K.written out.old) (K.written out.new) self.new.reader.pass.floor result }
+        ensures text { Listened spelling self.old.reader.board.subject.file wait (heard S.left S.read_faults input.old input.new) (K.written out.old) (K.written out.new) self.new.reader.pass.floor result }
         ensures causes { IfErr result (λ fault. CausesOfSession (Rose (K.write_faults out.old) (K.write_faults out.new)) (status_of fault)) }
         ensures board { self.new.reader.board ≡ self.old.reader.board }
         ensures counts { K.write_faults out.old ≤ K.write_faults out.new }
     {
         wait_for(rt, &mut self.reader, wait);
-        session(rt, 0, &mut self.reader, input, out, &mut self.line, gate)
+        session(
+            rt,
+            0,
+            spelling,
+            &mut self.reader,
+            input,
+            out,
+            &mut self.line,
+            gate,
+        )
     }
 
     /// The reader's pass.

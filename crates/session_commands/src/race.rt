@@ -19,16 +19,18 @@ use command_base::Status;
 use index_board::{Board, Pass};
 use index_model::CacheKind;
 use index_pool::Crew;
+use name_quotes::Spelling;
 use outside::{Gate, Sink};
 use std::sync::Wait;
 use std::thread::Threads;
 
-/// Builds the index of the file's bytes, and answers the lines of the script meanwhile and after it, for each of the readers.
+/// Builds the index of the file's bytes, and answers the lines of the script meanwhile and after it, for each of the readers, with names as they are written.
 pub fn race_file<R: Threads + Wait + Sync, K: Sink, G: Gate + Sync>(
     crew: &Crew<'_, R, G>,
     file: &[u8],
     script: &[u8],
     readers: u32,
+    spelling: Spelling,
     out: &mut K,
 ) -> Status
     requires small { length file.now ≤ MAX_FILE_BYTES }
@@ -37,13 +39,13 @@ pub fn race_file<R: Threads + Wait + Sync, K: Sink, G: Gate + Sync>(
     requires few_workers { crew.now.workers ≤ 64 }
     requires one_reader { 0 < readers }
     requires few_readers { readers ≤ 16 }
-    ensures wrote { Wrote (SaysRace file.now readers script.now) result (K.written out.old) (K.written out.new) }
+    ensures wrote { Wrote (SaysRace spelling file.now readers script.now) result (K.written out.old) (K.written out.new) }
     ensures causes { CausesOfRace (Rose (K.write_faults out.old) (K.write_faults out.new)) result }
     ensures counts { K.write_faults out.old ≤ K.write_faults out.new }
 {
     match crew.open(file, CacheKind::Gdb8) {
         Ok((board, mut pass)) => {
-            let status = race_board(crew, &board, &mut pass, script, readers, out);
+            let status = race_board(crew, &board, &mut pass, script, readers, spelling, out);
             board.close(pass);
             status
         }
@@ -58,6 +60,7 @@ fn race_board<'f, R: Threads + Wait + Sync, K: Sink, G: Gate + Sync>(
     pass: &mut Pass<'f>,
     script: &[u8],
     readers: u32,
+    spelling: Spelling,
     out: &mut K,
 ) -> Status
     requires own { IsPassOf board.now pass.old }
@@ -71,12 +74,12 @@ fn race_board<'f, R: Threads + Wait + Sync, K: Sink, G: Gate + Sync>(
     requires few_readers { readers ≤ 16 }
     ensures own { IsPassOf board.now pass.new }
     ensures idle { pass.new.holding ≡ false }
-    ensures wrote { Wrote (SaysRace board.now.subject.file readers script.now) result (K.written out.old) (K.written out.new) }
+    ensures wrote { Wrote (SaysRace spelling board.now.subject.file readers script.now) result (K.written out.old) (K.written out.new) }
     ensures causes { CausesOfRace (Rose (K.write_faults out.old) (K.write_faults out.new)) result }
     ensures counts { K.write_faults out.old ≤ K.write_faults out.new }
 {
     match gather(crew.alloc, board, pass, readers) {
-        Ok(mut runners) => race_readers(crew, board, pass, &mut runners, script, out),
+        Ok(mut runners) => race_readers(crew, board, pass, &mut runners, script, spelling, out),
         Err(_) => Status::Stopped,
     }
 }
@@ -88,6 +91,7 @@ fn race_readers<'f, R: Threads + Wait + Sync, K: Sink, G: Gate + Sync>(
     pass: &mut Pass<'f>,
     runners: &mut [Runner<'_, 'f>],
     script: &[u8],
+    spelling: Spelling,
     out: &mut K,
 ) -> Status
     requires own { IsPassOf board.now pass.old }
@@ -102,13 +106,13 @@ fn race_readers<'f, R: Threads + Wait + Sync, K: Sink, G: Gate + Sync>(
     requires few_readers { length runners.old ≤ 16 }
     ensures own { IsPassOf board.now pass.new }
     ensures idle { pass.new.holding ≡ false }
-    ensures wrote { Wrote (SaysRace board.now.subject.file (length runners.old) script.now) result (K.written out.old) (K.written out.new) }
+    ensures wrote { Wrote (SaysRace spelling board.now.subject.file (length runners.old) script.now) result (K.written out.old) (K.written out.new) }
     ensures causes { CausesOfRace (Rose (K.write_faults out.old) (K.write_faults out.new)) result }
     ensures counts { K.write_faults out.old ≤ K.write_faults out.new }
 {
-    let ended = race_beside(crew, board, pass, runners, script);
+    let ended = race_beside(crew, board, pass, runners, spelling, script);
     // From here on no reader gets another mark than that of the build's end.
     tell(board, pass, runners);
-    answer_all(crew.rt, Round::After, script, crew.gate, runners);
+    answer_all(crew.rt, Round::After, spelling, script, crew.gate, runners);
     finish(out, runners, ended)
 }

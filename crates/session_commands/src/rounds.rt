@@ -12,6 +12,7 @@ use crate::runner::{Round, Runner};
 use index_board::{Board, Pass};
 use index_pool::{Crew, Ended, build};
 use ix_base::NoMemory;
+use name_quotes::Spelling;
 use outside::Gate;
 use std::alloc::Global;
 use std::sync::Wait;
@@ -46,6 +47,7 @@ pub(crate) fn race_beside<'f, R: Threads + Wait + Sync, G: Gate + Sync>(
     board: &Board<'f>,
     pass: &mut Pass<'f>,
     runners: &mut [Runner<'_, 'f>],
+    spelling: Spelling,
     script: &[u8],
 ) -> Ended
     requires own { IsPassOf board.now pass.old }
@@ -55,7 +57,7 @@ pub(crate) fn race_beside<'f, R: Threads + Wait + Sync, G: Gate + Sync>(
     requires some { 0 < length runners.old }
     requires few { length runners.old ≤ 16 }
     requires script { length script.now ≤ MAX_SCRIPT_BYTES }
-    ensures answered { AllAnswered During script.now runners.old runners.new }
+    ensures answered { AllAnswered spelling During script.now runners.old runners.new }
     ensures own { IsPassOf board.now pass.new }
     ensures idle { pass.new.holding ≡ false }
     ensures ended { pass.new.floor ≡ stage_at_end result }
@@ -75,7 +77,7 @@ pub(crate) fn race_beside<'f, R: Threads + Wait + Sync, G: Gate + Sync>(
             requires some { 0 < length runners.now }
             requires few { length runners.now ≤ 16 }
             requires script { length script.now ≤ MAX_SCRIPT_BYTES }
-        { answer_all(rt, Round::During, script, gate, runners) },
+        { answer_all(rt, Round::During, spelling, script, gate, runners) },
         &mut ||
             requires own { IsPassOf board.now pass.now }
             requires idle { pass.now.holding ≡ false }
@@ -90,6 +92,7 @@ pub(crate) fn race_beside<'f, R: Threads + Wait + Sync, G: Gate + Sync>(
 pub(crate) fn answer_all<R: Threads + Wait + Sync, G: Gate + Sync>(
     rt: &R,
     round: Round,
+    spelling: Spelling,
     script: &[u8],
     gate: &G,
     runners: &mut [Runner<'_, '_>],
@@ -97,7 +100,7 @@ pub(crate) fn answer_all<R: Threads + Wait + Sync, G: Gate + Sync>(
     requires some { 0 < length runners.old }
     requires few { length runners.old ≤ 16 }
     requires script { length script.now ≤ MAX_SCRIPT_BYTES }
-    ensures { AllAnswered round script.now runners.old runners.new }
+    ensures { AllAnswered spelling round script.now runners.old runners.new }
 {
     let threads = runners.len();
     for_each_mut(
@@ -107,7 +110,7 @@ pub(crate) fn answer_all<R: Threads + Wait + Sync, G: Gate + Sync>(
         &|number, runner|
             requires script { length script.now ≤ MAX_SCRIPT_BYTES }
             requires few { number < 16 }
-        { runner.answer(rt, round, number, script, gate) },
+        { runner.answer(rt, round, number, spelling, script, gate) },
     );
 }
 

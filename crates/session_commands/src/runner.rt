@@ -7,6 +7,7 @@ ghost use Rattle.session_commands.specs.declared.script.TheConstants.{MAX_SCRIPT
 use crate::script::Script;
 use index_board::Reader;
 use ix_base::NoMemory;
+use name_quotes::Spelling;
 use outside::{Failed, Gate, MemSink, write_all};
 use query_text::{LineBuf, SessionFault, session};
 use std::alloc::Global;
@@ -58,14 +59,15 @@ impl<'b, 'f> Runner<'b, 'f> {
         rt: &R,
         round: Round,
         number: usize,
+        spelling: Spelling,
         script: &[u8],
         gate: &G,
     )
         requires script { length script.now ≤ MAX_SCRIPT_BYTES }
         requires few { number < 16 }
-        ensures { Answered round number script.now self.old self.new }
+        ensures { Answered spelling round number script.now self.old self.new }
     {
-        let session = self.hold(rt, round, number, script, gate);
+        let session = self.hold(rt, round, number, spelling, script, gate);
         match round {
             Round::During => self.during = session,
             Round::After => self.after = session,
@@ -78,6 +80,7 @@ impl<'b, 'f> Runner<'b, 'f> {
         rt: &R,
         round: Round,
         number: usize,
+        spelling: Spelling,
         script: &[u8],
         gate: &G,
     ) -> Session
@@ -85,7 +88,7 @@ impl<'b, 'f> Runner<'b, 'f> {
         requires few { number < 16 }
         ensures board { self.new.reader.board ≡ self.old.reader.board }
         ensures during { self.new.during ≡ self.old.during }
-        ensures held { IsHeld self.old.reader.board.subject script.now (head_of round number) self.old.reader.pass.floor self.new.reader.pass.floor result }
+        ensures held { IsHeld spelling self.old.reader.board.subject script.now (head_of round number) self.old.reader.pass.floor self.new.reader.pass.floor result }
     {
         let mut text = MemSink::new(self.alloc);
         if begin(self.alloc, &mut text, round, number).is_err() {
@@ -98,6 +101,7 @@ impl<'b, 'f> Runner<'b, 'f> {
         let ended = session(
             rt,
             number as u32,
+            spelling,
             &mut self.reader,
             &mut input,
             &mut text,

@@ -18,17 +18,19 @@ use command_base::Status;
 use index_board::{Board, Pass};
 use index_model::CacheKind;
 use index_pool::{Crew, Ended, build};
+use name_quotes::Spelling;
 use outside::{Gate, Sink, Source};
 use query_text::{LineBuf, SessionFault};
 use std::sync::Wait;
 use std::thread::{Threads, join_mut};
 
 /// Builds the index of the file's bytes, and answers the lines of the input meanwhile. The session begins after a mark of at least
-/// this stage.
+/// this stage, and writes names in this spelling.
 pub fn serve_file<R: Threads + Wait + Sync, S: Source + Send, K: Sink + Send, G: Gate + Sync>(
     crew: &Crew<'_, R, G>,
     file: &[u8],
     wait: u8,
+    spelling: Spelling,
     input: &mut S,
     out: &mut K,
 ) -> Status
@@ -36,7 +38,7 @@ pub fn serve_file<R: Threads + Wait + Sync, S: Source + Send, K: Sink + Send, G:
     requires some { 0 < crew.now.workers }
     requires few { crew.now.workers ≤ 64 }
     requires wait { wait ≤ 3 }
-    ensures wrote { Wrote (SaysServe file.now wait (heard S.left S.read_faults input.old input.new)) result (K.written out.old) (K.written out.new) }
+    ensures wrote { Wrote (SaysServe spelling file.now wait (heard S.left S.read_faults input.old input.new)) result (K.written out.old) (K.written out.new) }
     ensures causes { CausesOfSession (Rose (K.write_faults out.old) (K.write_faults out.new)) result }
     ensures counts { K.write_faults out.old ≤ K.write_faults out.new }
 {
@@ -46,7 +48,7 @@ pub fn serve_file<R: Threads + Wait + Sync, S: Source + Send, K: Sink + Send, G:
     };
     match crew.open(file, CacheKind::Gdb8) {
         Ok((board, mut pass)) => {
-            let status = serve_board(crew, &board, &mut pass, line, wait, input, out);
+            let status = serve_board(crew, &board, &mut pass, line, wait, spelling, input, out);
             board.close(pass);
             status
         }
@@ -61,6 +63,7 @@ fn serve_board<'f, R: Threads + Wait + Sync, S: Source + Send, K: Sink + Send, G
     pass: &mut Pass<'f>,
     line: LineBuf,
     wait: u8,
+    spelling: Spelling,
     input: &mut S,
     out: &mut K,
 ) -> Status
@@ -73,13 +76,13 @@ fn serve_board<'f, R: Threads + Wait + Sync, S: Source + Send, K: Sink + Send, G
     requires wait { wait ≤ 3 }
     ensures own { IsPassOf board.now pass.new }
     ensures idle { pass.new.holding ≡ false }
-    ensures wrote { Wrote (SaysServe board.now.subject.file wait (heard S.left S.read_faults input.old input.new)) result (K.written out.old) (K.written out.new) }
+    ensures wrote { Wrote (SaysServe spelling board.now.subject.file wait (heard S.left S.read_faults input.old input.new)) result (K.written out.old) (K.written out.new) }
     ensures causes { CausesOfSession (Rose (K.write_faults out.old) (K.write_faults out.new)) result }
     ensures counts { K.write_faults out.old ≤ K.write_faults out.new }
 {
     let reader = board.reader(pass);
     let mut listener = Listener { reader, line };
-    let (listened, ended) = listen_beside(crew, board, pass, &mut listener, wait, input, out);
+    let (listened, ended) = listen_beside(crew, board, pass, &mut listener, wait, spelling, input, out);
     board.join(pass, listener.end());
     status_behind(listened, ended)
 }
@@ -91,6 +94,7 @@ fn listen_beside<'f, R: Threads + Wait + Sync, S: Source + Send, K: Sink + Send,
     pass: &mut Pass<'f>,
     listener: &mut Listener<'_, 'f>,
     wait: u8,
+    spelling: Spelling,
     input: &mut S,
     out: &mut K,
 ) -> (Result<(), SessionFault>, Ended)
@@ -101,7 +105,7 @@ fn listen_beside<'f, R: Threads + Wait + Sync, S: Source + Send, K: Sink + Send,
     requires wait { wait ≤ 3 }
     requires kind { listener.old.reader.board.subject.cache ≡ Gdb8 }
     requires reached { IsReachable initial listener.old.reader.pass.floor }
-    ensures text { Listened listener.old.reader.board.subject.file wait (heard S.left S.read_faults input.old input.new) (K.written out.old) (K.written out.new) listener.new.reader.pass.floor result.0 }
+    ensures text { Listened spelling listener.old.reader.board.subject.file wait (heard S.left S.read_faults input.old input.new) (K.written out.old) (K.written out.new) listener.new.reader.pass.floor result.0 }
     ensures causes { IfErr result.0 (λ fault. CausesOfSession (Rose (K.write_faults out.old) (K.write_faults out.new)) (status_of fault)) }
     ensures board { listener.new.reader.board ≡ listener.old.reader.board }
     ensures counts { K.write_faults out.old ≤ K.write_faults out.new }
@@ -124,7 +128,7 @@ fn listen_beside<'f, R: Threads + Wait + Sync, S: Source + Send, K: Sink + Send,
             requires wait { wait ≤ 3 }
             requires kind { listener.now.reader.board.subject.cache ≡ Gdb8 }
             requires reached { IsReachable initial listener.now.reader.pass.floor }
-        { listener.listen(rt, wait, input, out, gate) },
+        { listener.listen(rt, wait, spelling, input, out, gate) },
         &mut ||
             requires own { IsPassOf board.now pass.now }
             requires idle { pass.now.holding ≡ false }

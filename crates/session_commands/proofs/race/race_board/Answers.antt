@@ -20,8 +20,8 @@ race_readers-requires-clause-fresh g c κs within =
 pub returns-in-Ok-clause-wrote : goal.returns-in-Ok-clause-wrote
 returns-in-Ok-clause-wrote g c =
     let count : length c.deref_mut.result.now ≡ c.args.readers = c.deref_mut.ensures.len ∙ c.in-Ok.ensures.count in
-    subst (λ (n : ℕ). Wrote (SaysRace c.args.board.now.subject.file n c.args.script.now) c.race_readers.result (g.K.Sink.written c.args.out.now) (g.K.Sink.written c.race_readers.new.out)) count c.race_readers.ensures.wrote
+    subst (λ (n : ℕ). Wrote (SaysRace c.args.spelling c.args.board.now.subject.file n c.args.script.now) c.race_readers.result (g.K.Sink.written c.args.out.now) (g.K.Sink.written c.race_readers.new.out)) count c.race_readers.ensures.wrote
 
 -- where the readers were refused memory
 pub returns-in-Err-clause-wrote : goal.returns-in-Err-clause-wrote
-returns-in-Err-clause-wrote g c = nothing_raced c.args.board.now.subject.file c.args.readers c.args.script.now (g.K.Sink.written c.args.out.now)
+returns-in-Err-clause-wrote g c = nothing_raced c.args.spelling c.args.board.now.subject.file c.args.readers c.args.script.now (g.K.Sink.written c.args.out.now)

@@ -8,4 +8,4 @@ pub race_board-status-requires-clause-reached : goal.race_board-status-requires-
 race_board-status-requires-clause-reached g c κs within = subst (IsReachable initial) (sym (ap (λ p. p.floor) c.in-Ok.ensures.pass)) (first_reached c.args.file.now)
 
 pub returns-in-Err-clause-wrote : goal.returns-in-Err-clause-wrote
-returns-in-Err-clause-wrote g c = nothing_raced c.args.file.now c.args.readers c.args.script.now (g.K.Sink.written c.args.out.now)
+returns-in-Err-clause-wrote g c = nothing_raced c.args.spelling c.args.file.now c.args.readers c.args.script.now (g.K.Sink.written c.args.out.now)

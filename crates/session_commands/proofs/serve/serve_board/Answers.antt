@@ -14,5 +14,5 @@ returns-clause-wrote g c =
     let floor = both.new.listener.reader.pass.floor in
     -- no other stage is reachable from the end of the build, so the reader's floor reaches it
     let reach = subst (IsReachable floor) (both.ensures.last c.join.new.pass.floor c.join.ensures.reach) (subst (λ p. IsReachable p.floor c.join.new.pass.floor) c.end.ensures.pass c.join.ensures.other_reach) in
-    wrote_behind c.args.board.now.subject.file c.args.wait _ _ _ c.args.board.now.subject refl floor both.new.pass.floor reach both.ensures.fits _ both.result.0 both.result.1 c.status_behind.result (ap (λ r. r.board.subject.file) c.reader-reader.ensures.reader)
+    wrote_behind c.args.spelling c.args.board.now.subject.file c.args.wait _ _ _ c.args.board.now.subject refl floor both.new.pass.floor reach both.ensures.fits _ both.result.0 both.result.1 c.status_behind.result (ap (λ r. r.board.subject.file) c.reader-reader.ensures.reader)
     both.ensures.text both.ensures.ended c.status_behind.ensures

@@ -9,12 +9,12 @@ returns-clause-text g c =
     let started = c.args.self.now.reader in
     let waited = c.wait_for.new.reader in
     let over : IsOver started.board.subject.file waited.board.subject = record { file_is = ap (λ b. b.subject.file) c.wait_for.ensures.board; cache_is = ap (λ b. b.subject.cache) c.wait_for.ensures.board ∙ c.requires.kind } in
-    heard_lines started.board.subject.file c.args.wait _ _ _ _ waited c.session.new.reader _ _ _ _ over
+    heard_lines c.args.spelling started.board.subject.file c.args.wait _ _ _ _ waited c.session.new.reader _ _ _ _ over
     (closure.onwards 0 started.pass.floor waited.pass.floor c.requires.reached c.wait_for.ensures.reach)
     c.wait_for.ensures.least c.session.result c.session.ensures.ok c.session.ensures.err
 
 pub returns-clause-causes : goal.returns-clause-causes
-returns-clause-causes g c = causes_of _ _ _ _ c.wait_for.new.reader c.session.new.reader _ _ _ _ c.session.result c.session.ensures.err
+returns-clause-causes g c = causes_of c.args.spelling _ _ _ _ c.wait_for.new.reader c.session.new.reader _ _ _ _ c.session.result c.session.ensures.err
 
 pub returns-clause-board : goal.returns-clause-board
-returns-clause-board g c = board_stays _ _ _ _ c.wait_for.new.reader c.session.new.reader _ _ _ _ c.session.result c.session.ensures.ok c.session.ensures.err ∙ c.wait_for.ensures.board
+returns-clause-board g c = board_stays c.args.spelling _ _ _ _ c.wait_for.new.reader c.session.new.reader _ _ _ _ c.session.result c.session.ensures.ok c.session.ensures.err ∙ c.wait_for.ensures.board
