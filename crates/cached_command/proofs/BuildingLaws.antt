@@ -8,7 +8,7 @@ use Rattle.index_model.specs.declared.job.Job.TheVariants.{Write}
 use Rattle.index_model.specs.Cache.{Cache, GdbBytes, NameBytes, DoesNotFit, cache_in, cache_of}
 use Rattle.index_model.specs.Faults.{Built, built_of}
 use Rattle.index_model.specs.Outputs.{Makes, CacheOf}
-use Rattle.index_model.specs.Queries.{Query}
+use Rattle.query_text.specs.Questions.{Question}
 use Rattle.index_pool.proofs.Lists.{ok_and}
 use Rattle.index_alike.proofs.GdbBuilt.{alike_9}
 use Rattle.outside.specs.Files.{Files}
@@ -60,7 +60,7 @@ module _ (file : List ℕ) where
 
   -- ---- it is kept, and answers
 
-  module _ (before after : Option Files) (stores : Type 0) (spot : Option Spot) (why : Option Fault) (q : Query) where
+  module _ (before after : Option Files) (stores : Type 0) (spot : Option Spot) (why : Option Fault) (q : Question) where
     module _ (bytes : List ℕ) (index : IsIndexOf file bytes) where
       says_built : (status : Status) (text : List ℕ) → SaysSaved before after stores spot why bytes q status text → SaysBuilt before after stores file spot why q status text
       says_built Answered text h = (bytes, index, h)

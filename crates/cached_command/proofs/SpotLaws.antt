@@ -6,7 +6,7 @@ use Rattle.ix_base.specs.declared.fault.Fault.{Fault}
 use Rattle.file_image.specs.Images.{Image, image_of}
 use Rattle.index_model.specs.Faults.{first_fault}
 use Rattle.index_model.specs.Meaning.{◌>>=◌, wrong_in}
-use Rattle.index_model.specs.Queries.{Query}
+use Rattle.query_text.specs.Questions.{Question}
 use Rattle.index_board.specs.Boards.{IsImage}
 use Rattle.outside.specs.Files.{Files, SameFiles}
 use Rattle.outside.proofs.FileLaws.{same_files-trans}
@@ -97,7 +97,7 @@ module _ (file store : List ℕ) where
 
   -- ---- a kept index answers
 
-  module _ (before after : Option Files) (q : Query) (kept_reads stores : Type 0) where
+  module _ (before after : Option Files) (q : Question) (kept_reads stores : Type 0) where
     module _ (same : SameFiles before after) (spot : Option Spot) (own : IsSpotOf file store spot) where
       by_spot : (s : Option Spot) → IsSpotOf file store s → (text : List ℕ) → SaysHit before s q Answered text → IsCached before after file store q kept_reads stores text
       by_spot s (early f e) text h = absurd h
@@ -176,7 +176,7 @@ module _ (file store : List ℕ) where
 
   -- ---- the index was built
 
-  module _ (before mid after : Option Files) (q : Query) (kept_reads stores : Type 0) (same : SameFiles before mid) (why : Option Fault) where
+  module _ (before mid after : Option Files) (q : Question) (kept_reads stores : Type 0) (same : SameFiles before mid) (why : Option Fault) where
     module _ (missed : IsMissed before file store kept_reads why) (bytes : List ℕ) (index : IsIndexOf file bytes) (answer : List ℕ) (answers : IsGdbAnswerOf bytes q answer) (text : List ℕ) where
       by_saved : (spot : Option Spot) → IsSpotOf file store spot → (saved : Saved) → IsSaved before after stores spot bytes saved → text ≡ text_of_stale why ++ (text_of_saved saved ++ answer) → IsCached before after file store q kept_reads stores text
       by_saved spot (early f e) saved is text_is = absurd (not_early f e bytes index)

@@ -2,7 +2,7 @@
 use Rattle.std.proofs.Common.{inl, inr, ℕ, List, Option}
 use Rattle.std.specs.Prelude.{⊤}
 use Rattle.ix_base.specs.declared.fault.Fault.{Fault}
-use Rattle.index_model.specs.Queries.{Query}
+use Rattle.query_text.specs.Questions.{Question}
 use Rattle.outside.specs.Files.{Files}
 use Rattle.command_base.specs.Replies.{Wrote}
 use Rattle.command_base.specs.declared.status.Status.{Status}
@@ -13,7 +13,7 @@ use Rattle.cached_command.specs.Cached.{LeavesCached, MayKeep, SaysCached}
 use Rattle.cached_command.specs.Caches.{IsCached, IsMissed, IsNotKept, failed, hit, nowhere, stale, stored, unread, unsaved, without_id}
 use Rattle.cached_command.proofs.FilesLaws.{stored-prefix}
 
-module _ (before after : Option Files) (file store : List ℕ) (q : Query) (kept_reads stores : Type 0) where
+module _ (before after : Option Files) (file store : List ℕ) (q : Question) (kept_reads stores : Type 0) where
   -- ---- what is written
 
   any_miss : (why : Option Fault) → IsMissed before file store kept_reads why → IsMissed before file store ⊤ why

@@ -3,7 +3,7 @@ use Rattle.std.specs.Prelude.{◌≡◌, ℕ, ◌≤◌, List, ◌++◌, length,
 use Rattle.ix_base.specs.declared.fault.Fault.{Fault}
 use Rattle.ix_base.specs.declared.limits.TheConstants.{MAX_FILE_BYTES}
 use Rattle.index_model.specs.GdbIndexRead.{GdbIndex}
-use Rattle.index_model.specs.Queries.{Query}
+use Rattle.query_text.specs.Questions.{Question}
 use Rattle.reach_model.specs.KeptIndexes.{kept_index}
 use Rattle.reach_model.specs.KeptTexts.{text_of_hit}
 use Rattle.outside.specs.Files.{Files}
@@ -27,7 +27,7 @@ OnMissed (asks.Ended status) P = ⊤
 OnMissed (asks.Missed why) P = P why
 
 -- the index that is kept at the spot answers
-pub record IsHitAt (told : Option Files) (spot : Spot) (q : Query) (text : List ℕ) : Type 0 where
+pub record IsHitAt (told : Option Files) (spot : Spot) (q : Question) (text : List ℕ) : Type 0 where
   pub kept : List ℕ
   pub held : Holds told spot.name kept
   pub small : length kept ≤ MAX_FILE_BYTES
@@ -38,7 +38,7 @@ pub record IsHitAt (told : Option Files) (spot : Spot) (q : Query) (text : List 
   pub text_is : text ≡ text_of_hit ++ answer
 
 -- what is said of it
-abbrev pub SaysHit : Option Files → Option Spot → Query → Status → List ℕ → Type 0
+abbrev pub SaysHit : Option Files → Option Spot → Question → Status → List ℕ → Type 0
 SaysHit told (Some spot) q Answered text = IsHitAt told spot q text
 SaysHit told spot q status text = ⊥
 

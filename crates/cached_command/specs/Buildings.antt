@@ -2,7 +2,7 @@
 use Rattle.std.specs.Prelude.{◌≡◌, ◌⊎◌, ℕ, List, ◌++◌, Option, Ok, ⊤}
 use Rattle.ix_base.specs.declared.fault.Fault.{Fault}
 use Rattle.index_model.specs.GdbIndexRead.{GdbIndex, gdb_index}
-use Rattle.index_model.specs.Queries.{Query}
+use Rattle.query_text.specs.Questions.{Question}
 use Rattle.outside.specs.Files.{Files, SameFiles}
 use Rattle.reach_model.specs.KeptTexts.{text_of_stale}
 use Rattle.command_base.specs.GdbLooks.{IsGdbAnswerOf}
@@ -21,14 +21,14 @@ IsRead bytes = (index : GdbIndex) × (gdb_index bytes ≡ Ok index)
 
 -- ---- an index is kept, and answers
 
-pub record IsAnswerSaved (before after : Option Files) (stores : Type 0) (spot : Option Spot) (why : Option Fault) (bytes : List ℕ) (q : Query) (text : List ℕ) : Type 0 where
+pub record IsAnswerSaved (before after : Option Files) (stores : Type 0) (spot : Option Spot) (why : Option Fault) (bytes : List ℕ) (q : Question) (text : List ℕ) : Type 0 where
   pub saved : Saved
   pub is : IsSaved before after stores spot bytes saved
   pub answer : List ℕ
   pub answers : IsGdbAnswerOf bytes q answer
   pub text_is : text ≡ text_of_stale why ++ (text_of_saved saved ++ answer)
 
-abbrev pub SaysSaved : Option Files → Option Files → Type 0 → Option Spot → Option Fault → List ℕ → Query → Status → List ℕ → Type 0
+abbrev pub SaysSaved : Option Files → Option Files → Type 0 → Option Spot → Option Fault → List ℕ → Question → Status → List ℕ → Type 0
 SaysSaved before after stores spot why bytes q Answered text = IsAnswerSaved before after stores spot why bytes q text
 SaysSaved before after stores spot why bytes q other text = ⊥
 
@@ -40,7 +40,7 @@ CausesOfSaved before after writes other = ⊥
 
 -- ---- it is built before, or the file has a fault
 
-abbrev pub SaysBuilt : Option Files → Option Files → Type 0 → List ℕ → Option Spot → Option Fault → Query → Status → List ℕ → Type 0
+abbrev pub SaysBuilt : Option Files → Option Files → Type 0 → List ℕ → Option Spot → Option Fault → Question → Status → List ℕ → Type 0
 SaysBuilt before after stores file spot why q Answered text = (bytes : List ℕ) × IsIndexOf file bytes × IsAnswerSaved before after stores spot why bytes q text
 SaysBuilt before after stores file spot why q Refused text = IsRefusalOf file text × SameFiles before after
 SaysBuilt before after stores file spot why q other text = ⊥
@@ -55,7 +55,7 @@ CausesOfBuilt before after file writes other = ⊥
 
 -- ---- the whole command: what is written, with what the files hold then
 
-abbrev pub SaysTied : Option Files → Option Files → List ℕ → List ℕ → Query → Type 0 → Type 0 → Status → List ℕ → Type 0
+abbrev pub SaysTied : Option Files → Option Files → List ℕ → List ℕ → Question → Type 0 → Type 0 → Status → List ℕ → Type 0
 SaysTied before after file store q kept_reads stores Answered text = IsCached before after file store q kept_reads stores text
 SaysTied before after file store q kept_reads stores Refused text = IsRefusalOf file text × SameFiles before after × (((f : Fault) × FaultsEarly file f) ⊎ HasMissed before file store kept_reads)
 SaysTied before after file store q kept_reads stores other text = ⊥

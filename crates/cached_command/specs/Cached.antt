@@ -2,7 +2,7 @@
 use Rattle.std.specs.Prelude.{◌≡◌, ◌⊎◌, ℕ, List, Option, Some, Ok, ⊤}
 use Rattle.ix_base.specs.declared.fault.Fault.{Fault}
 use Rattle.index_model.specs.Faults.{first_fault}
-use Rattle.index_model.specs.Queries.{Query}
+use Rattle.query_text.specs.Questions.{Question}
 use Rattle.reach_model.specs.BuildIds.{cache_name}
 use Rattle.reach_model.specs.KeptIndexes.{kept_bytes}
 use Rattle.outside.specs.Files.{Files, SameFiles, StoredOrPrefix}
@@ -12,7 +12,7 @@ use Rattle.command_base.specs.declared.status.Status.TheVariants.{Answered, Refu
 use Rattle.cached_command.specs.Caches.{id_of, FaultsEarly, IsCached, IsIndexOf, IsMissed, IsTooLarge}
 
 -- what the text of a result says, by its status
-abbrev pub SaysCached : Option Files → List ℕ → List ℕ → Query → Status → List ℕ → Type 0
+abbrev pub SaysCached : Option Files → List ℕ → List ℕ → Question → Status → List ℕ → Type 0
 SaysCached told file store q Answered text = (after : Option Files) × IsCached told after file store q ⊤ ⊤ text
 SaysCached told file store q Refused text = IsRefusalOf file text
 SaysCached told file store q other text = ⊥

@@ -6,7 +6,7 @@ use Rattle.index_model.specs.declared.job.CacheKind.TheVariants.{Gdb9}
 use Rattle.index_model.specs.Cache.{GdbBytes, DoesNotFit, cache_in}
 use Rattle.index_model.specs.GdbIndexRead.{GdbIndex}
 use Rattle.index_model.specs.Meaning.{◌>>=◌, fault}
-use Rattle.index_model.specs.Queries.{Query}
+use Rattle.query_text.specs.Questions.{Question}
 use Rattle.file_image.specs.Images.{image_of}
 use Rattle.reach_model.specs.BuildIds.{build_id_of, cache_name}
 use Rattle.reach_model.specs.KeptIndexes.{kept_bytes, kept_index}
@@ -51,7 +51,7 @@ pub data IsMissed (told : Option Files) (file store : List ℕ) (kept_reads : Ty
 -- ---- what is said, and what the files hold then
 
 -- the kept index answers
-pub record IsHit (before after : Option Files) (file store : List ℕ) (q : Query) (text : List ℕ) : Type 0 where
+pub record IsHit (before after : Option Files) (file store : List ℕ) (q : Question) (text : List ℕ) : Type 0 where
   pub id : List ℕ
   pub own : id_of file ≡ Ok (Some id)
   pub kept : List ℕ
@@ -65,7 +65,7 @@ pub record IsHit (before after : Option Files) (file store : List ℕ) (q : Quer
   pub same : SameFiles before after
 
 -- the index was built, answers, and is kept now
-pub record IsStored (before after : Option Files) (file store : List ℕ) (q : Query) (kept_reads : Type 0) (text : List ℕ) : Type 0 where
+pub record IsStored (before after : Option Files) (file store : List ℕ) (q : Question) (kept_reads : Type 0) (text : List ℕ) : Type 0 where
   pub why : Option Fault
   pub missed : IsMissed before file store kept_reads why
   pub bytes : List ℕ
@@ -83,7 +83,7 @@ pub data IsNotKept (before after : Option Files) (file store bytes : List ℕ) (
   failed : (id : List ℕ) → id_of file ≡ Ok (Some id) → stores → StoredOrPrefix before after (cache_name store id) (kept_bytes id bytes) → IsNotKept before after file store bytes stores
 
 -- the index was built, answers, and isn't kept
-pub record IsUnsaved (before after : Option Files) (file store : List ℕ) (q : Query) (kept_reads stores : Type 0) (text : List ℕ) : Type 0 where
+pub record IsUnsaved (before after : Option Files) (file store : List ℕ) (q : Question) (kept_reads stores : Type 0) (text : List ℕ) : Type 0 where
   pub why : Option Fault
   pub missed : IsMissed before file store kept_reads why
   pub bytes : List ℕ
@@ -94,7 +94,7 @@ pub record IsUnsaved (before after : Option Files) (file store : List ℕ) (q : 
   pub not_kept : IsNotKept before after file store bytes stores
 
 -- what is written, and what the files hold then, by whether a read of what is kept failed, and a store
-pub data IsCached (before after : Option Files) (file store : List ℕ) (q : Query) (kept_reads stores : Type 0) (text : List ℕ) : Type 0 where
+pub data IsCached (before after : Option Files) (file store : List ℕ) (q : Question) (kept_reads stores : Type 0) (text : List ℕ) : Type 0 where
   hit : IsHit before after file store q text → IsCached before after file store q kept_reads stores text
   stored : IsStored before after file store q kept_reads text → IsCached before after file store q kept_reads stores text
   unsaved : IsUnsaved before after file store q kept_reads stores text → IsCached before after file store q kept_reads stores text

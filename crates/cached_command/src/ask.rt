@@ -3,7 +3,7 @@
 ghost use Rattle.std.specs.Prelude.{◌≡◌, ◌≤◌, None, Some, option_map};
 ghost use Rattle.outside.specs.Counts.{Rose};
 ghost use Rattle.outside.specs.Files.{SameFiles};
-ghost use Rattle.index_model.specs.Seen.{query_seen};
+ghost use Rattle.query_text.specs.Questions.{question_seen};
 ghost use Rattle.command_base.specs.GdbLooks.{offer_gdb};
 ghost use Rattle.command_base.specs.Replies.{Wrote};
 ghost use Rattle.cached_command.specs.Places.{place_seen};
@@ -14,9 +14,9 @@ use crate::place::Place;
 use crate::tell::tell;
 use command_base::{ReadStop, Status, ended};
 use index_cache::open;
-use index_model::Query;
 use ix_base::Fault;
 use outside::{Shelf, Sink};
+use query_text::Question;
 use reach_model::code::KEPT_TOO_LARGE;
 use std::alloc::Global;
 
@@ -33,12 +33,12 @@ pub(crate) enum Asked {
 pub(crate) fn ask<F: Shelf, K: Sink>(
     alloc: Global,
     place: Option<&Place<'_>>,
-    query: &Query<'_>,
+    question: &Question<'_>,
     shelf: &mut F,
     out: &mut K,
 ) -> Asked
-    requires { offer_gdb (query_seen query.now) ≡ Some (query_seen query.now) }
-    ensures wrote { OnEnded result (λ status. Wrote (SaysHit (F.files shelf.old) (option_map (λ p. place_seen p.now) place.entry) (query_seen query.now)) status (K.written out.old) (K.written out.new)) }
+    requires { offer_gdb (question_seen question.now).query ≡ Some (question_seen question.now).query }
+    ensures wrote { OnEnded result (λ status. Wrote (SaysHit (F.files shelf.old) (option_map (λ p. place_seen p.now) place.entry) (question_seen question.now)) status (K.written out.old) (K.written out.new)) }
     ensures causes { OnEnded result (CausesOfHit (Rose (K.write_faults out.old) (K.write_faults out.new))) }
     ensures missed { OnMissed result (IsMissedAt (F.files shelf.old) (option_map (λ p. place_seen p.now) place.entry) (Rose (F.kept_faults shelf.old) (F.kept_faults shelf.new))) }
     ensures quiet { OnMissed result (λ _. out.new ≡ out.old) }
@@ -50,7 +50,7 @@ pub(crate) fn ask<F: Shelf, K: Sink>(
     ensures counts { K.write_faults out.old ≤ K.write_faults out.new }
 {
     match place {
-        Some(place) => ask_at(alloc, place, query, shelf, out),
+        Some(place) => ask_at(alloc, place, question, shelf, out),
         None => Asked::Missed(None),
     }
 }
@@ -59,12 +59,12 @@ pub(crate) fn ask<F: Shelf, K: Sink>(
 fn ask_at<F: Shelf, K: Sink>(
     alloc: Global,
     place: &Place<'_>,
-    query: &Query<'_>,
+    question: &Question<'_>,
     shelf: &mut F,
     out: &mut K,
 ) -> Asked
-    requires { offer_gdb (query_seen query.now) ≡ Some (query_seen query.now) }
-    ensures wrote { OnEnded result (λ status. Wrote (SaysHit (F.files shelf.old) (Some (place_seen place.now)) (query_seen query.now)) status (K.written out.old) (K.written out.new)) }
+    requires { offer_gdb (question_seen question.now).query ≡ Some (question_seen question.now).query }
+    ensures wrote { OnEnded result (λ status. Wrote (SaysHit (F.files shelf.old) (Some (place_seen place.now)) (question_seen question.now)) status (K.written out.old) (K.written out.new)) }
     ensures causes { OnEnded result (CausesOfHit (Rose (K.write_faults out.old) (K.write_faults out.new))) }
     ensures missed { OnMissed result (IsMissedAt (F.files shelf.old) (Some (place_seen place.now)) (Rose (F.kept_faults shelf.old) (F.kept_faults shelf.new))) }
     ensures quiet { OnMissed result (λ _. out.new ≡ out.old) }
@@ -76,7 +76,7 @@ fn ask_at<F: Shelf, K: Sink>(
 {
     match read_kept(alloc, shelf, place.name.as_str()) {
         Ok(bytes) => match open(&bytes, place.id) {
-            Ok(index) => Asked::Ended(ended(tell(b"hit\n", &index, query, out), Status::Answered)),
+            Ok(index) => Asked::Ended(ended(tell(b"hit\n", &index, question, out), Status::Answered)),
             Err(fault) => Asked::Missed(Some(fault)),
         },
         Err(ReadStop::Fault) => Asked::Missed(None),

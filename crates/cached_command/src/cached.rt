@@ -5,7 +5,7 @@ ghost use Rattle.ix_base.specs.declared.fault.Fault.{Fault};
 ghost use Rattle.ix_base.specs.declared.limits.TheConstants.{MAX_FILE_BYTES};
 ghost use Rattle.index_model.specs.declared.job.CacheKind.TheVariants.{Gdb9};
 ghost use Rattle.index_model.specs.Faults.{first_fault};
-ghost use Rattle.index_model.specs.Seen.{query_seen};
+ghost use Rattle.query_text.specs.Questions.{question_seen};
 ghost use Rattle.stage_lock.specs.Seen.{IsPassOf};
 ghost use Rattle.outside.specs.Counts.{Rose};
 ghost use Rattle.outside.specs.Written.{Appends};
@@ -26,10 +26,11 @@ use crate::tell::{stale_text, tell_behind};
 use command_base::{Status, ended, refuse};
 use gdbindex_read::GdbIndex;
 use index_board::{Board, Pass, Reader};
-use index_model::{CacheKind, Query};
+use index_model::CacheKind;
 use index_pool::Crew;
 use ix_base::Fault;
 use outside::{Gate, Shelf, Sink};
+use query_text::Question;
 use stage_core::Cache;
 use std::alloc::Global;
 use std::sync::Wait;
@@ -50,18 +51,18 @@ pub fn cached_file<R: Threads + Wait + Sync, F: Shelf, K: Sink, G: Gate + Sync>(
     crew: &Crew<'_, R, G>,
     file: &[u8],
     store: &str,
-    query: &Query<'_>,
+    question: &Question<'_>,
     shelf: &mut F,
     out: &mut K,
 ) -> Status
     requires small { length file.now ≤ MAX_FILE_BYTES }
     requires some { 0 < crew.now.workers }
     requires few { crew.now.workers ≤ 64 }
-    requires offered { offer_gdb (query_seen query.now) ≡ Some (query_seen query.now) }
-    ensures wrote { Wrote (SaysCached (F.files shelf.old) file.now store.now (query_seen query.now)) result (K.written out.old) (K.written out.new) }
+    requires offered { offer_gdb (question_seen question.now).query ≡ Some (question_seen question.now).query }
+    ensures wrote { Wrote (SaysCached (F.files shelf.old) file.now store.now (question_seen question.now)) result (K.written out.old) (K.written out.new) }
     ensures causes { CausesOfCached file.now (Rose (K.write_faults out.old) (K.write_faults out.new)) result }
     ensures leaves { LeavesCached file.now store.now (F.files shelf.old) (F.files shelf.new) result }
-    ensures tied { result ≡ statuses.Answered → (text : List ℕ) × IsCached (F.files shelf.old) (F.files shelf.new) file.now store.now (query_seen query.now) (Rose (F.kept_faults shelf.old) (F.kept_faults shelf.new)) (Rose (F.store_faults shelf.old) (F.store_faults shelf.new)) text × Appends (K.written out.old) (K.written out.new) text }
+    ensures tied { result ≡ statuses.Answered → (text : List ℕ) × IsCached (F.files shelf.old) (F.files shelf.new) file.now store.now (question_seen question.now) (Rose (F.kept_faults shelf.old) (F.kept_faults shelf.new)) (Rose (F.store_faults shelf.old) (F.store_faults shelf.new)) text × Appends (K.written out.old) (K.written out.new) text }
     ensures looks_first { LooksFirst (F.files shelf.old) file.now store.now (Rose (F.kept_faults shelf.old) (F.kept_faults shelf.new)) result }
     ensures untouched { (f : Fault) → FaultsEarly file.now f → shelf.new ≡ shelf.old }
     ensures meant { (Rose (K.write_faults out.old) (K.write_faults out.new) → ⊥) → IsCachedMeant file.now (status_code result) }
@@ -72,7 +73,7 @@ pub fn cached_file<R: Threads + Wait + Sync, F: Shelf, K: Sink, G: Gate + Sync>(
 {
     match crew.open(file, CacheKind::Gdb9) {
         Ok((board, mut pass)) => {
-            let status = answer(crew, &board, &mut pass, store, query, shelf, out);
+            let status = answer(crew, &board, &mut pass, store, question, shelf, out);
             board.close(pass);
             status
         }
@@ -86,7 +87,7 @@ fn answer<'f, R: Threads + Wait + Sync, F: Shelf, K: Sink, G: Gate + Sync>(
     board: &Board<'f>,
     pass: &mut Pass<'f>,
     store: &str,
-    query: &Query<'_>,
+    question: &Question<'_>,
     shelf: &mut F,
     out: &mut K,
 ) -> Status
@@ -95,10 +96,10 @@ fn answer<'f, R: Threads + Wait + Sync, F: Shelf, K: Sink, G: Gate + Sync>(
     requires kind { board.now.subject.cache ≡ Gdb9 }
     requires some { 0 < crew.now.workers }
     requires few { crew.now.workers ≤ 64 }
-    requires offered { offer_gdb (query_seen query.now) ≡ Some (query_seen query.now) }
+    requires offered { offer_gdb (question_seen question.now).query ≡ Some (question_seen question.now).query }
     ensures own { IsPassOf board.now pass.new }
     ensures idle { pass.new.holding ≡ false }
-    ensures wrote { Wrote (SaysTied (F.files shelf.old) (F.files shelf.new) board.now.subject.file store.now (query_seen query.now) (Rose (F.kept_faults shelf.old) (F.kept_faults shelf.new)) (Rose (F.store_faults shelf.old) (F.store_faults shelf.new))) result (K.written out.old) (K.written out.new) }
+    ensures wrote { Wrote (SaysTied (F.files shelf.old) (F.files shelf.new) board.now.subject.file store.now (question_seen question.now) (Rose (F.kept_faults shelf.old) (F.kept_faults shelf.new)) (Rose (F.store_faults shelf.old) (F.store_faults shelf.new))) result (K.written out.old) (K.written out.new) }
     ensures causes { CausesTied (F.files shelf.old) (F.files shelf.new) board.now.subject.file store.now (Rose (F.kept_faults shelf.old) (F.kept_faults shelf.new)) (Rose (K.write_faults out.old) (K.write_faults out.new)) result }
     ensures untouched { (f : Fault) → FaultsEarly board.now.subject.file f → shelf.new ≡ shelf.old }
     ensures reads { F.read_faults shelf.new ≡ F.read_faults shelf.old }
@@ -109,10 +110,10 @@ fn answer<'f, R: Threads + Wait + Sync, F: Shelf, K: Sink, G: Gate + Sync>(
     match place_of(crew.alloc, board.image(), store) {
         Ok(place) => {
             let place = place.as_ref();
-            match ask(crew.alloc, place, query, shelf, out) {
+            match ask(crew.alloc, place, question, shelf, out) {
                 Asked::Ended(status) => status,
                 Asked::Missed(stale) => {
-                    build(crew, board, pass, Miss { place, stale }, query, shelf, out)
+                    build(crew, board, pass, Miss { place, stale }, question, shelf, out)
                 }
             }
         }
@@ -126,7 +127,7 @@ fn build<'f, R: Threads + Wait + Sync, F: Shelf, K: Sink, G: Gate + Sync>(
     board: &Board<'f>,
     pass: &mut Pass<'f>,
     miss: Miss<'_>,
-    query: &Query<'_>,
+    question: &Question<'_>,
     shelf: &mut F,
     out: &mut K,
 ) -> Status
@@ -136,10 +137,10 @@ fn build<'f, R: Threads + Wait + Sync, F: Shelf, K: Sink, G: Gate + Sync>(
     requires some { 0 < crew.now.workers }
     requires few { crew.now.workers ≤ 64 }
     requires id { IfSome miss.place (λ p. IsBuildId p.now.id.now) }
-    requires offered { offer_gdb (query_seen query.now) ≡ Some (query_seen query.now) }
+    requires offered { offer_gdb (question_seen question.now).query ≡ Some (question_seen question.now).query }
     ensures own { IsPassOf board.now pass.new }
     ensures idle { pass.new.holding ≡ false }
-    ensures wrote { Wrote (SaysBuilt (F.files shelf.old) (F.files shelf.new) (Rose (F.store_faults shelf.old) (F.store_faults shelf.new)) board.now.subject.file (option_map (λ p. place_seen p.now) miss.entry.place) miss.entry.stale (query_seen query.now)) result (K.written out.old) (K.written out.new) }
+    ensures wrote { Wrote (SaysBuilt (F.files shelf.old) (F.files shelf.new) (Rose (F.store_faults shelf.old) (F.store_faults shelf.new)) board.now.subject.file (option_map (λ p. place_seen p.now) miss.entry.place) miss.entry.stale (question_seen question.now)) result (K.written out.old) (K.written out.new) }
     ensures causes { CausesOfBuilt (F.files shelf.old) (F.files shelf.new) board.now.subject.file (Rose (K.write_faults out.old) (K.write_faults out.new)) result }
     ensures untouched { (f : Fault) → first_fault board.now.subject.file ≡ Some f → shelf.new ≡ shelf.old }
     ensures reads { F.read_faults shelf.new ≡ F.read_faults shelf.old }
@@ -150,7 +151,7 @@ fn build<'f, R: Threads + Wait + Sync, F: Shelf, K: Sink, G: Gate + Sync>(
     crew.build(board, pass);
     let mut reader = board.reader(pass);
     let status = match reader.fetch(crew.rt) {
-        Ok(()) => publish(crew.alloc, &reader, miss, query, shelf, out),
+        Ok(()) => publish(crew.alloc, &reader, miss, question, shelf, out),
         Err(_) => Status::NoMemory,
     };
     board.join(pass, reader.end());
@@ -162,14 +163,14 @@ fn publish<F: Shelf, K: Sink>(
     alloc: Global,
     reader: &Reader<'_, '_>,
     miss: Miss<'_>,
-    query: &Query<'_>,
+    question: &Question<'_>,
     shelf: &mut F,
     out: &mut K,
 ) -> Status
     requires kind { reader.now.board.subject.cache ≡ Gdb9 }
     requires id { IfSome miss.place (λ p. IsBuildId p.now.id.now) }
-    requires offered { offer_gdb (query_seen query.now) ≡ Some (query_seen query.now) }
-    ensures wrote { Wrote (SaysBuilt (F.files shelf.old) (F.files shelf.new) (Rose (F.store_faults shelf.old) (F.store_faults shelf.new)) reader.now.board.subject.file (option_map (λ p. place_seen p.now) miss.entry.place) miss.entry.stale (query_seen query.now)) result (K.written out.old) (K.written out.new) }
+    requires offered { offer_gdb (question_seen question.now).query ≡ Some (question_seen question.now).query }
+    ensures wrote { Wrote (SaysBuilt (F.files shelf.old) (F.files shelf.new) (Rose (F.store_faults shelf.old) (F.store_faults shelf.new)) reader.now.board.subject.file (option_map (λ p. place_seen p.now) miss.entry.place) miss.entry.stale (question_seen question.now)) result (K.written out.old) (K.written out.new) }
     ensures causes { CausesOfBuilt (F.files shelf.old) (F.files shelf.new) reader.now.board.subject.file (Rose (K.write_faults out.old) (K.write_faults out.new)) result }
     ensures untouched { (f : Fault) → first_fault reader.now.board.subject.file ≡ Some f → shelf.new ≡ shelf.old }
     ensures reads { F.read_faults shelf.new ≡ F.read_faults shelf.old }
@@ -185,7 +186,7 @@ fn publish<F: Shelf, K: Sink>(
             alloc,
             bytes.as_slice(),
             miss,
-            query,
+            question,
             shelf,
             out,
         ),
@@ -201,14 +202,14 @@ fn save_and_answer<F: Shelf, K: Sink>(
     alloc: Global,
     bytes: &[u8],
     miss: Miss<'_>,
-    query: &Query<'_>,
+    question: &Question<'_>,
     shelf: &mut F,
     out: &mut K,
 ) -> Status
     requires read { IsRead bytes.now }
     requires id { IfSome miss.place (λ p. IsBuildId p.now.id.now) }
-    requires offered { offer_gdb (query_seen query.now) ≡ Some (query_seen query.now) }
-    ensures wrote { Wrote (SaysSaved (F.files shelf.old) (F.files shelf.new) (Rose (F.store_faults shelf.old) (F.store_faults shelf.new)) (option_map (λ p. place_seen p.now) miss.entry.place) miss.entry.stale bytes.now (query_seen query.now)) result (K.written out.old) (K.written out.new) }
+    requires offered { offer_gdb (question_seen question.now).query ≡ Some (question_seen question.now).query }
+    ensures wrote { Wrote (SaysSaved (F.files shelf.old) (F.files shelf.new) (Rose (F.store_faults shelf.old) (F.store_faults shelf.new)) (option_map (λ p. place_seen p.now) miss.entry.place) miss.entry.stale bytes.now (question_seen question.now)) result (K.written out.old) (K.written out.new) }
     ensures causes { CausesOfSaved (F.files shelf.old) (F.files shelf.new) (Rose (K.write_faults out.old) (K.write_faults out.new)) result }
     ensures reads { F.read_faults shelf.new ≡ F.read_faults shelf.old }
     ensures stores { F.store_faults shelf.old ≤ F.store_faults shelf.new }
@@ -225,7 +226,7 @@ fn save_and_answer<F: Shelf, K: Sink>(
     };
     match save(alloc, miss.place, bytes, shelf) {
         Ok(saved) => ended(
-            tell_behind(stale.as_bytes(), saved.line(), &index, query, out),
+            tell_behind(stale.as_bytes(), saved.line(), &index, question, out),
             Status::Answered,
         ),
         Err(_) => Status::NoMemory,

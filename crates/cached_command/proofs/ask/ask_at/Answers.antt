@@ -1,6 +1,6 @@
 use Rattle.std.proofs.Common.{ℕ, ◌≤◌, List, ◌++◌, length, Some, refl, sym, ap, subst, ◌∙◌, arith}
 use Rattle.ix_base.specs.declared.limits.TheConstants.{MAX_FILE_BYTES}
-use Rattle.index_model.specs.Seen.{query_seen}
+use Rattle.query_text.specs.Questions.{question_seen}
 use Rattle.reach_model.specs.KeptIndexes.{kept_index}
 use Rattle.reach_model.specs.KeptTexts.{text_of_hit}
 use Rattle.command_base.specs.FilesRead.{Holds, HoldsMore}
@@ -17,7 +17,7 @@ returns-in-Ok-open-clause-wrote g c =
     let small : length c.in-Ok.bytes.items ≤ MAX_FILE_BYTES = omega (arith, c.in-Ok.ensures.bounded) in
     let files = g.F.Shelf.files c.args.shelf.now in
     let spot = place_seen c.args.place.now in
-    let q = query_seen c.args.query.now in
+    let q = question_seen c.args.question.now in
     let says = SaysHit files (Some spot) q in
     let old = g.K.Sink.written c.args.out.now in
     let new = g.K.Sink.written c.tell.new.out in

@@ -1,6 +1,6 @@
 use Rattle.std.proofs.Common.{ℕ, List, Option, sym, ap, subst, ◌∙◌}
 use Rattle.std.specs.Prelude.{option_map}
-use Rattle.index_model.specs.Seen.{query_seen}
+use Rattle.query_text.specs.Questions.{question_seen}
 use Rattle.outside.specs.Counts.{Rose}
 use Rattle.command_base.specs.Replies.{Wrote}
 use Rattle.cached_command.specs.Askings.{IsMissedAt}
@@ -14,13 +14,13 @@ returns-in-Ended-clause-wrote g c =
     let store = c.args.store.now in
     let spot = spot_behind c.as_ref-place.result in
     let own = place_spot file store c.as_ref-place.result c.in-Ok.place (option_map (λ i. i.now) c.image.result) c.as_ref-place.ensures.value c.in-Ok.ensures.place c.image.ensures in
-    hit_wrote file store (g.F.Shelf.files c.args.shelf.now) (g.F.Shelf.files c.ask.new.shelf) (query_seen c.args.query.now) (Rose (g.F.Shelf.kept_faults c.args.shelf.now) (g.F.Shelf.kept_faults c.ask.new.shelf)) (Rose (g.F.Shelf.store_faults c.args.shelf.now) (g.F.Shelf.store_faults c.ask.new.shelf)) c.in-Ended.ensures.same spot own c.in-Ended.status (g.K.Sink.written c.args.out.now) (g.K.Sink.written c.ask.new.out) c.in-Ended.ensures.wrote
+    hit_wrote file store (g.F.Shelf.files c.args.shelf.now) (g.F.Shelf.files c.ask.new.shelf) (question_seen c.args.question.now) (Rose (g.F.Shelf.kept_faults c.args.shelf.now) (g.F.Shelf.kept_faults c.ask.new.shelf)) (Rose (g.F.Shelf.store_faults c.args.shelf.now) (g.F.Shelf.store_faults c.ask.new.shelf)) c.in-Ended.ensures.same spot own c.in-Ended.status (g.K.Sink.written c.args.out.now) (g.K.Sink.written c.ask.new.out) c.in-Ended.ensures.wrote
 
 pub returns-in-Ok-clause-wrote : goal.returns-in-Ok-clause-wrote
 returns-in-Ok-clause-wrote g c =
     let file = c.args.board.now.subject.file in
     let store = c.args.store.now in
-    let q = query_seen c.args.query.now in
+    let q = question_seen c.args.question.now in
     let why = c.in-Missed.stale in
     let spot = spot_behind c.as_ref-place.result in
     let own = place_spot file store c.as_ref-place.result c.in-Ok.place (option_map (λ i. i.now) c.image.result) c.as_ref-place.ensures.value c.in-Ok.ensures.place c.image.ensures in
@@ -42,7 +42,7 @@ pub returns-in-Ok-clause-causes : goal.returns-in-Ok-clause-causes
 returns-in-Ok-clause-causes g c =
     let file = c.args.board.now.subject.file in
     let store = c.args.store.now in
-    let q = query_seen c.args.query.now in
+    let q = question_seen c.args.question.now in
     let why = c.in-Missed.stale in
     let spot = spot_behind c.as_ref-place.result in
     let own = place_spot file store c.as_ref-place.result c.in-Ok.place (option_map (λ i. i.now) c.image.result) c.as_ref-place.ensures.value c.in-Ok.ensures.place c.image.ensures in

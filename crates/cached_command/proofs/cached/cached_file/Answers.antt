@@ -1,5 +1,5 @@
 use Rattle.std.proofs.Common.{ℕ, List, subst}
-use Rattle.index_model.specs.Seen.{query_seen}
+use Rattle.query_text.specs.Questions.{question_seen}
 use Rattle.outside.specs.Counts.{Rose}
 use Rattle.command_base.specs.Replies.{Wrote}
 use Rattle.cached_command.specs.Buildings.{CausesTied, SaysTied}
@@ -9,7 +9,7 @@ use Rattle.cached_command.proofs.cached.cached_file.Goals as goal
 pub returns-in-Ok-clause-wrote : goal.returns-in-Ok-clause-wrote
 returns-in-Ok-clause-wrote g c =
     let store = c.args.store.now in
-    let q = query_seen c.args.query.now in
+    let q = question_seen c.args.question.now in
     let before = g.F.Shelf.files c.args.shelf.now in
     let after = g.F.Shelf.files c.answer-status.new.shelf in
     let kept_reads = Rose (g.F.Shelf.kept_faults c.args.shelf.now) (g.F.Shelf.kept_faults c.answer-status.new.shelf) in
@@ -22,7 +22,7 @@ returns-in-Ok-clause-wrote g c =
 pub returns-in-Ok-clause-leaves : goal.returns-in-Ok-clause-leaves
 returns-in-Ok-clause-leaves g c =
     let store = c.args.store.now in
-    let q = query_seen c.args.query.now in
+    let q = question_seen c.args.question.now in
     let before = g.F.Shelf.files c.args.shelf.now in
     let after = g.F.Shelf.files c.answer-status.new.shelf in
     let kept_reads = Rose (g.F.Shelf.kept_faults c.args.shelf.now) (g.F.Shelf.kept_faults c.answer-status.new.shelf) in

@@ -1,6 +1,6 @@
 use Rattle.std.proofs.Common.{◌≡◌, Some, option_map, sym, ap, subst, ◌∙◌}
 use Rattle.index_model.specs.Cache.{GdbBytes, NameBytes}
-use Rattle.index_model.specs.Seen.{query_seen}
+use Rattle.query_text.specs.Questions.{question_seen}
 use Rattle.outside.specs.Counts.{Rose}
 use Rattle.stage_core.specs.Outputs.{cache_seen}
 use Rattle.stage_core.specs.declared.output.Cache.{Cache}
@@ -30,4 +30,4 @@ returns-in-Some-Gdb-clause-wrote g c =
     let bytes = c.in-Some-Gdb.bytes in
     let kept : r.kept.cache ≡ Some (GdbBytes bytes) = sym c.cache.ensures ∙ ap (option_map (λ a. cache_seen a.now)) c.in-Some-Gdb.is ∙ ap (λ (x : Cache). Some (cache_seen x)) c.in-Some-Gdb.field-0-is in
     let index = subst (IsIndexOf r.board.subject.file) (sym c.as_slice.ensures) (bytes_of r.board.subject.file bytes (index_of r c.requires.kind c.parts.ensures.right (GdbBytes bytes) kept)) in
-    saved_wrote r.board.subject.file (g.F.Shelf.files c.args.shelf.now) (g.F.Shelf.files c.save_and_answer.new.shelf) (Rose (g.F.Shelf.store_faults c.args.shelf.now) (g.F.Shelf.store_faults c.save_and_answer.new.shelf)) (option_map (λ p. place_seen p.now) c.args.miss.place) c.args.miss.stale (query_seen c.args.query.now) c.as_slice.result.now index c.save_and_answer.result (g.K.Sink.written c.args.out.now) (g.K.Sink.written c.save_and_answer.new.out) c.save_and_answer.ensures.wrote
+    saved_wrote r.board.subject.file (g.F.Shelf.files c.args.shelf.now) (g.F.Shelf.files c.save_and_answer.new.shelf) (Rose (g.F.Shelf.store_faults c.args.shelf.now) (g.F.Shelf.store_faults c.save_and_answer.new.shelf)) (option_map (λ p. place_seen p.now) c.args.miss.place) c.args.miss.stale (question_seen c.args.question.now) c.as_slice.result.now index c.save_and_answer.result (g.K.Sink.written c.args.out.now) (g.K.Sink.written c.save_and_answer.new.out) c.save_and_answer.ensures.wrote

@@ -1,5 +1,5 @@
 use Rattle.std.proofs.Common.{◌≡◌, ◌++◌, option_map, sym, subst, ◌∙◌}
-use Rattle.index_model.specs.Seen.{query_seen}
+use Rattle.query_text.specs.Questions.{question_seen}
 use Rattle.reach_model.specs.KeptTexts.{text_of_stale}
 use Rattle.outside.specs.Counts.{Rose}
 use Rattle.command_base.specs.Replies.{Wrote}
@@ -12,7 +12,7 @@ use Rattle.cached_command.proofs.cached.save_and_answer.Goals as goal
 pub returns-in-Ok-save-clause-wrote : goal.returns-in-Ok-save-clause-wrote
 returns-in-Ok-save-clause-wrote g c =
     let rose = Rose (g.F.Shelf.store_faults c.args.shelf.now) (g.F.Shelf.store_faults c.save.new.shelf) in
-    let q = query_seen c.args.query.now in
+    let q = question_seen c.args.question.now in
     let says = SaysSaved (g.F.Shelf.files c.args.shelf.now) (g.F.Shelf.files c.save.new.shelf) rose (option_map (λ p. place_seen p.now) c.args.miss.place) c.args.miss.stale c.args.bytes.now q in
     let old = g.K.Sink.written c.args.out.now in
     let new = g.K.Sink.written c.tell_behind.new.out in
