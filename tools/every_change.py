@@ -5,6 +5,7 @@ Takes the worked programs and indexes of rows/vectors, the small ones first, and
 every change of one bit. The status of PROGRAM on each of them, what it writes and what it stores have to be those of the reading in
 tools/reading. The last line is 'every change: N passed, M failed'."""
 import argparse
+import itertools
 import multiprocessing
 import os
 import sys
@@ -14,12 +15,13 @@ import time
 from reading.check_rows import FOLDERS, inputs_of, words_of
 from reading.commands import COMMANDS
 from reading.words import task_of
-from spawned import Program, answer, limit_memory, meant, offers_cached
+from spawned import Spawner, compiled, limit_memory, meant, offers_cached
 
 MEMORY = 1 << 30
 # Of a program, what is asked beside the row's own question: its index says most of it.
 INDEX = ["index", "--as", "gdb8", "--workers", "1", None, "OUT"]
 MOST_SHOWN = 20
+BATCH = 64
 
 
 def with_one_worker(words, task):
@@ -75,23 +77,30 @@ def changes_of(data):
             yield "byte %#x bit %d" % (place, bit), data[:place] + bytes((data[place] ^ 1 << bit,)) + data[place + 1:]
 
 
+def batches_of(changes):
+    """The changes in parts."""
+    while batch := list(itertools.islice(changes, BATCH)):
+        yield batch
+
+
 def try_case(work):
     """(passed, the lines that say what differs) over every change of a case; none where there is no time left."""
-    program, case, end = work
+    made, program, case, end = work
     if time.monotonic() > end:
         return 0, []
     limit_memory(MEMORY)
     passed, wrong = 0, []
     with tempfile.TemporaryDirectory(dir="/dev/shm") as folder:
         os.chdir(folder)
-        runner = Program(program)
-        for done, data in changes_of(case.files[case.name]):
-            files = {**case.files, case.name: data}
-            got, wanted = answer(runner, case.words, files), meant(case.words, files)
-            passed += got == wanted
-            if got != wanted:
-                wrong.append("%s: %s: %s of %s: the program %s, the reading %s"
-                             % (case.row, " ".join(case.words), done, case.name, shown(got), shown(wanted)))
+        runner = Spawner(made, program)
+        for batch in batches_of(changes_of(case.files[case.name])):
+            runs = [(case.words, {**case.files, case.name: data}) for _, data in batch]
+            for (done, _), (words, files), got in zip(batch, runs, runner.answers(runs)):
+                wanted = meant(words, files)
+                passed += got == wanted
+                if got != wanted:
+                    wrong.append("%s: %s: %s of %s: the program %s, the reading %s"
+                                 % (case.row, " ".join(words), done, case.name, shown(got), shown(wanted)))
         runner.end()
         os.chdir("/")
     return passed, wrong
@@ -116,13 +125,16 @@ def main():
     cuts = sum(case.size() for case in cases)
     print("%d files, %d cuts, %d bits" % (len(cases), cuts, 8 * cuts), flush=True)
     passed = failed = left_out = 0
-    with multiprocessing.Pool(words.jobs) as pool:
-        for right, wrong in pool.imap_unordered(try_case, [(program, case, end) for case in cases]):
+    began = time.monotonic()
+    with tempfile.TemporaryDirectory() as folder, multiprocessing.Pool(words.jobs) as pool:
+        made = compiled(folder)
+        for right, wrong in pool.imap_unordered(try_case, [(made, program, case, end) for case in cases]):
             passed, failed, left_out = passed + right, failed + len(wrong), left_out + (right == 0 and not wrong)
             for line in wrong[:MOST_SHOWN]:
                 print(line, flush=True)
     if left_out:
         print("%d files left out: no bytes, or no time" % left_out)
+    print("%.0f runs a second" % ((passed + failed) / (time.monotonic() - began)))
     print("every change: %d passed, %d failed" % (passed, failed))
     return 1 if failed or not passed else 0
 

@@ -19,10 +19,10 @@ from fuzzing.seeds import all_seeds, program_seed
 from reading import kept
 from reading.faults import Fault
 from reading.program import open_program
-from spawned import Program, answer, limit_memory, meant, offers_cached, write
+from spawned import Spawner, compiled, limit_memory, meant, offers_cached, write
 
 MEMORY = 1 << 30
-BATCH = 200
+BATCH = 100
 KINDS = ("gdb8", "gdb9", "names")
 STORE = "c_"
 COMMANDS = ["ask", "ask", "ask", "index", "add", "aranges", "files"]
@@ -38,21 +38,25 @@ def query_of(random, seed, sorts):
     return [sort]
 
 
+def quoting(random):
+    return ["--quote"] if random.random() < 0.3 else []
+
+
 def words_for(random, seed):
     """What is asked of a changed file, which is called X; what lies beside it is called S."""
     workers = ["--workers", random.choice("1112")]
     if seed.sort == "gdb":
-        return ["look", "gdb", "X"] + query_of(random, seed, ("name", "name", "addr", "main"))
+        return ["look", "gdb"] + quoting(random) + ["X"] + query_of(random, seed, ("name", "name", "addr", "main"))
     if seed.sort == "names":
         base = ["--base", str(seed.base)] if seed.base else []
-        return ["look", "names"] + base + ["X", "S"] + query_of(random, seed, ("name",))
+        return ["look", "names"] + base + quoting(random) + ["X", "S"] + query_of(random, seed, ("name",))
     command = random.choice(COMMANDS)
     if command == "ask":
-        return ["ask"] + workers + ["X"] + query_of(random, seed, ASKED)
+        return ["ask"] + workers + quoting(random) + ["X"] + query_of(random, seed, ASKED)
     if command in ("index", "add"):
         return [command, "--as", random.choice(KINDS)] + workers + ["X", "OUT"]
     if command == "cached":
-        return ["cached"] + workers + ["X", STORE] + query_of(random, seed, ("name", "name", "addr", "main"))
+        return ["cached"] + workers + quoting(random) + ["X", STORE] + query_of(random, seed, ("name", "name", "addr", "main"))
     return [command] + workers + ["X"] + ([random.choice(seed.names).decode()] if command == "files" else [])
 
 
@@ -70,8 +74,8 @@ def kept_file(random, seed, file):
     return {kept.cache_name(STORE, build_id): whole}
 
 
-def try_one(program, seed, rng, is_read):
-    """(the words, the files, what is wrong or None) of one run."""
+def made_run(seed, rng):
+    """The words and the files of one run."""
     file = changed(rng, seed)
     if seed.is_invented:
         # what is asked has to be there now and then
@@ -81,13 +85,17 @@ def try_one(program, seed, rng, is_read):
         files["S"] = changed_strings(rng, seed.beside)
     if words[0] == "cached":
         files.update(kept_file(rng, seed, files["X"]))
-    got = answer(program, words, files)
+    return words, files
+
+
+def what_is_wrong(words, files, got, is_read):
+    """What is wrong with what came of a run, or None."""
     wrong = wrong_with(words, *got[:2])
     if wrong is None and is_read:
         wanted = meant(words, files)
         if wanted != got:
             wrong = "the reading has %s %r" % (wanted[0], wanted[1][:200])
-    return words, files, wrong and "%s; the program has %s %r" % (wrong, got[0], got[1][:200])
+    return wrong and "%s; the program has %s %r" % (wrong, got[0], got[1][:200])
 
 
 def changed_strings(random, strings):
@@ -112,19 +120,24 @@ def try_batch(work):
     if time.monotonic() > settings.end:
         return 0, []
     limit_memory(MEMORY)
-    program, passed, lines = Program(settings.program), 0, []
+    passed, lines = 0, []
     with tempfile.TemporaryDirectory(dir="/dev/shm") as folder:
         os.chdir(folder)
+        spawner = Spawner(settings.made, settings.program)
+        abouts, runs = [], []
         for number in range(first, behind):
             rng = random.Random("%d %d" % (settings.seed, number))
             seed = rng.choice(rng.choice(SEEDS))
-            words, files, wrong = try_one(program, seed, rng, number < settings.against_reading)
+            abouts.append(seed.about)
+            runs.append(made_run(seed, rng))
+        for number, about, (words, files), got in zip(range(first, behind), abouts, runs, spawner.answers(runs)):
+            wrong = what_is_wrong(words, files, got, number < settings.against_reading)
             passed += wrong is None
             if wrong is not None:
                 keep(settings.kept, number, words, files)
-                lines.append("fuzz: %d of %s, %s: %s" % (number, seed.about, " ".join(words), wrong))
+                lines.append("fuzz: %d of %s, %s: %s" % (number, about, " ".join(words), wrong))
+        spawner.end()
         os.chdir("/")
-    program.end()
     return passed, lines
 
 
@@ -155,7 +168,8 @@ def main():
     passed = failed = 0
     began = time.monotonic()
     settings.end = began + settings.seconds
-    with multiprocessing.Pool(settings.jobs) as pool:
+    with tempfile.TemporaryDirectory() as folder, multiprocessing.Pool(settings.jobs) as pool:
+        settings.made = compiled(folder)
         for right, lines in pool.imap(try_batch, batches(settings)):
             passed, failed = passed + right, failed + len(lines)
             for line in lines:

@@ -1,8 +1,13 @@
-"""Runs of a program that cost little: no shell, no thread, and one pipe for what it writes.  Beside them stands the reading's answer."""
+"""Runs of a program that cost little: no shell, no thread, and one pipe for what it writes.  Many runs at once cost less still, by a
+program in C that is compiled where it is used.  Beside them stands the reading's answer."""
 import os
 import resource
 import select
+import shutil
 import signal
+import struct
+import subprocess
+import tempfile
 import time
 
 from reading.commands import run
@@ -60,6 +65,84 @@ def answer(program, words, files):
         write(name, data)
     status, text = program.run(words)
     return status, text, {name: data for name, data in _take_files().items() if files.get(name) != data}
+
+
+NUMBER = struct.Struct("=I")
+STATUS = struct.Struct("=i")
+UNENDED = 0x7FFFFFFF
+
+
+def compiled(folder):
+    """The program of spawning.c, compiled into a folder; None where there is no gcc."""
+    if shutil.which("gcc") is None:
+        return None
+    made = os.path.join(folder, "spawning")
+    source = os.path.join(os.path.dirname(os.path.abspath(__file__)), "spawning.c")
+    subprocess.run(["gcc", "-O2", "-o", made, source], check=True)
+    return made
+
+
+def _counted(data):
+    return NUMBER.pack(len(data)) + data
+
+
+class Taken:
+    """Numbers and bytes, one after the other."""
+
+    def __init__(self, data):
+        self.data, self.at = data, 0
+
+    def number(self, form=NUMBER):
+        number, = form.unpack_from(self.data, self.at)
+        self.at += 4
+        return number
+
+    def bytes(self):
+        begin = self.at + 4
+        self.at = begin + self.number()
+        return self.data[begin:self.at]
+
+
+class Spawner:
+    """Runs of a program over files, many at once, in the current folder, which is empty."""
+
+    def __init__(self, made, path, seconds=SECONDS):
+        self.program = Program(path, seconds)
+        self.driver = made and subprocess.Popen([made, self.program.path, str(seconds)], stdin=subprocess.PIPE, stdout=subprocess.PIPE)
+
+    def end(self):
+        self.program.end()
+        if self.driver:
+            self.driver.stdin.close()
+            self.driver.wait()
+            self.driver.stdout.close()
+
+    def answers(self, runs):
+        """Of each run, its words and files, what `answer` has."""
+        if not self.driver:
+            return [answer(self.program, words, files) for words, files in runs]
+        batch = b"".join(_run_of(words, files) for words, files in runs)
+        self.driver.stdin.write(_counted(batch))
+        self.driver.stdin.flush()
+        length, = NUMBER.unpack(self.driver.stdout.read(4))
+        taken = Taken(self.driver.stdout.read(length))
+        return [_outcome(taken) for _ in runs]
+
+
+def _run_of(words, files):
+    parts = [NUMBER.pack(len(words))] + [_counted(os.fsencode(word)) for word in words] + [NUMBER.pack(len(files))]
+    for name, data in files.items():
+        parts += [_counted(os.fsencode(name)), _counted(data)]
+    return b"".join(parts)
+
+
+def _outcome(taken):
+    status, text = taken.number(STATUS), taken.bytes()
+    stored = {}
+    for _ in range(taken.number()):
+        name = os.fsdecode(taken.bytes())
+        stored[name] = taken.bytes()
+    return None if status == UNENDED else status, text, stored
 
 
 def meant(words, files):

@@ -58,6 +58,17 @@ def _is_result(command, words, text):
     return text == b""
 
 
+CONTROL = re.compile(rb"[\x00-\x09\x0b-\x1f\x7f]")
+
+
+def _is_quoted(text):
+    """Whether no control byte stands in a text with quoted names, and each line of what was found is one entry."""
+    lines = text.split(b"\n")
+    count = next((int(line[6:]) for line in lines[:3] if line.startswith(b"found ")), None)
+    begun = next((place for place, line in enumerate(lines) if line.startswith(b"found ")), 0)
+    return not CONTROL.search(text) and (count is None or len(lines) == begun + count + 2)
+
+
 def wrong_with(words, status, text):
     """What is wrong with an answer by itself, or None."""
     command = words[0]
@@ -65,6 +76,8 @@ def wrong_with(words, status, text):
         return "no end"
     if status not in STATUSES[command]:
         return "status %d" % status
+    if status == 0 and "--quote" in words and not _is_quoted(text):
+        return "a name that isn't quoted"
     if status == 0:
         return None if _is_result(command, words, text) else "a text that isn't one of its command"
     if status in LINES:
