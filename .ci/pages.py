@@ -20,7 +20,7 @@ DECLARED = (
     rf"\b(?:fn|struct|enum|trait|const|static|ensures)\s+({NAME})",
     rf"^\s+([A-Z]\w*)(?:,|\(| \{{)",
     rf"^\s*(?:abbrev |unfoldable )?pub ({NAME}) :",
-    rf"^(?:abbrev |unfoldable )?(?:pub )?(?:data|record) ({NAME})",
+    rf"^\s*(?:abbrev |unfoldable )?(?:pub )?(?:data|record) ({NAME})",
 )
 # What std declares.
 OF_STD = {"usize", "None", "Ok", "Err", "Some"}
