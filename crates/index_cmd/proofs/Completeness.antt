@@ -10,7 +10,7 @@ use Rattle.index_model.specs.Cache.{Cache, GdbBytes, NameBytes, DoesNotFit, cach
 use Rattle.index_model.specs.Faults.{Built, first_fault, built_of, IsAccepted}
 use Rattle.index_model.specs.GdbIndexRead.{GdbIndex, gdb_index}
 use Rattle.index_model.specs.NameIndexRead.{NameIndex, name_index}
-use Rattle.index_model.specs.Queries.{Query}
+use Rattle.query_text.specs.Questions.{Question}
 use Rattle.index_model.proofs.Meanings.{same_ok}
 use Rattle.index_model.specs.Sections.{Section}
 use Rattle.outside.specs.Files.{Files, Stored}
@@ -29,6 +29,7 @@ use Rattle.command_base.specs.Replies.{IsMeant, line_of}
 use Rattle.add_command.specs.Adds.{ForNamedProgram, ForProgram, IsAddMeant, OfAdded}
 use Rattle.index_commands.specs.Indexes.{IsIndexMeant}
 use Rattle.command_base.specs.GdbLooks.{IsLookMeant}
+use Rattle.index_commands.specs.declared.names.NamesLook.{NamesLook}
 use Rattle.index_commands.specs.NamesLooks.{IsNamesMeant}
 use Rattle.command_base.specs.Statuses.{status_code}
 use Rattle.index_commands.specs.Stores.{Keeps}
@@ -84,7 +85,7 @@ fits most held bytes holds small c = let same = same_bytes held c.0 bytes c.1 ho
 module _ (files : Files) (reads stores writes : Type 0) (old new : Option (List ℕ)) (file bytes : List ℕ) (holds : files file ≡ Some bytes) (small : length bytes ≤ MAX_FILE_BYTES) (no_read : reads → ⊥) (no_write : writes → ⊥) where
   -- ---- ask
 
-  module _ (q : Query) where
+  module _ (q : Question) where
     abbrev asked : Option Request
     asked = Some (OfFile file q)
 
@@ -123,7 +124,7 @@ module _ (files : Files) (reads stores writes : Type 0) (old new : Option (List 
 
   -- ---- look
 
-  module _ (q : Query) where
+  module _ (q : Question) where
     abbrev looked : Option Request
     looked = Some (OfGdb file q)
 
@@ -254,9 +255,9 @@ module _ (files : Files) (reads stores writes : Type 0) (old new : Option (List 
 
 -- ---- look, in an index and its strings
 
-module _ (files : Files) (reads stores writes : Type 0) (old new : Option (List ℕ)) (index strings bytes held : List ℕ) (has_index : files index ≡ Some bytes) (small_index : length bytes ≤ MAX_FILE_BYTES) (has_strings : files strings ≡ Some held) (small_strings : length held ≤ MAX_FILE_BYTES) (no_read : reads → ⊥) (no_write : writes → ⊥) (base : ℕ) (name : List ℕ) where
+module _ (files : Files) (reads stores writes : Type 0) (old new : Option (List ℕ)) (index strings bytes held : List ℕ) (has_index : files index ≡ Some bytes) (small_index : length bytes ≤ MAX_FILE_BYTES) (has_strings : files strings ≡ Some held) (small_strings : length held ≤ MAX_FILE_BYTES) (no_read : reads → ⊥) (no_write : writes → ⊥) (look : NamesLook) (name : List ℕ) where
   abbrev names : Option Request
-  names = Some (OfNames base index strings name)
+  names = Some (OfNames look index strings name)
 
   no_read_of_both : reads ⊎ reads → ⊥
   no_read_of_both (inl h) = no_read h
@@ -284,14 +285,14 @@ module _ (files : Files) (reads stores writes : Type 0) (old new : Option (List 
   only_memory_names InputTooLong text is c = absurd (cc is)
   only_memory_names Stopped text is c = absurd (cc is)
 
-  not_both : (read : NameIndex) (f : Fault) → name_index bytes held base ≡ Ok read → name_index bytes held base ≡ Err f → ⊥
+  not_both : (read : NameIndex) (f : Fault) → name_index bytes held look.base ≡ Ok read → name_index bytes held look.base ≡ Err f → ⊥
   not_both read f a b = let e : Ok read ≡ Err f = sym a ∙ b in cc e
 
   -- what these files hold, whatever bytes they are known by
-  own_bytes : (a b : List ℕ) → files index ≡ Some a → files strings ≡ Some b → name_index bytes held base ≡ name_index a b base
-  own_bytes a b x y = ap (λ (l : List ℕ). name_index l held base) (same_bytes (files index) bytes a has_index x) ∙ ap (λ (l : List ℕ). name_index a l base) (same_bytes (files strings) held b has_strings y)
+  own_bytes : (a b : List ℕ) → files index ≡ Some a → files strings ≡ Some b → name_index bytes held look.base ≡ name_index a b look.base
+  own_bytes a b x y = ap (λ (l : List ℕ). name_index l held look.base) (same_bytes (files index) bytes a has_index x) ∙ ap (λ (l : List ℕ). name_index a l look.base) (same_bytes (files strings) held b has_strings y)
 
-  names_meant : (status : Status) → Plain names (Some files) reads stores writes old new status → IsNamesMeant bytes held base (status_code status)
+  names_meant : (status : Status) → Plain names (Some files) reads stores writes old new status → IsNamesMeant bytes held look (status_code status)
   names_meant status (answers w) = record {
     answered = λ read is. inl refl;
     refused = λ f is. absurd (not_both w.1.3.3.index f (own_bytes w.1.0 w.1.3.0 w.1.1 w.1.3.1 ∙ w.1.3.3.accepted) is);
@@ -461,8 +462,8 @@ complete (Some (OfAdd kind file out)) None shelf heard reads stores writes old n
 complete (Some (OfAdd kind file out)) (Some files) shelf heard reads stores writes old new status o left = λ bytes holds small no_read no_write no_store. add_meant files reads stores writes old new file bytes holds small no_read no_write kind out no_store shelf status (plain (Some (OfAdd kind file out)) (Some files) reads stores writes old new heard (λ _ _ h. h) status o) left
 complete (Some (OfGdb index q)) None shelf heard reads stores writes old new status o left = tt
 complete (Some (OfGdb index q)) (Some files) shelf heard reads stores writes old new status o left = λ bytes holds small no_read no_write. look_meant files reads stores writes old new index bytes holds small no_read no_write q status (plain (Some (OfGdb index q)) (Some files) reads stores writes old new heard (λ _ _ h. h) status o)
-complete (Some (OfNames base index strings name)) None shelf heard reads stores writes old new status o left = tt
-complete (Some (OfNames base index strings name)) (Some files) shelf heard reads stores writes old new status o left = λ bytes has_index small_index no_read no_write held has_strings small_strings again_no_read again_no_write. names_meant files reads stores writes old new index strings bytes held has_index small_index has_strings small_strings no_read no_write base name status (plain (Some (OfNames base index strings name)) (Some files) reads stores writes old new heard (λ _ _ h. h) status o)
+complete (Some (OfNames look index strings name)) None shelf heard reads stores writes old new status o left = tt
+complete (Some (OfNames look index strings name)) (Some files) shelf heard reads stores writes old new status o left = λ bytes has_index small_index no_read no_write held has_strings small_strings again_no_read again_no_write. names_meant files reads stores writes old new index strings bytes held has_index small_index has_strings small_strings no_read no_write look name status (plain (Some (OfNames look index strings name)) (Some files) reads stores writes old new heard (λ _ _ h. h) status o)
 complete (Some (OfAranges file)) None shelf heard reads stores writes old new status o left = tt
 complete (Some (OfAranges file)) (Some files) shelf heard reads stores writes old new status o left = λ bytes holds small no_read no_write.
     let line = session_line (Some (OfAranges file)) files heard reads stores writes old new file bytes holds no_read (λ h. h) (fits MAX_FILE_BYTES (files file) bytes holds small) (λ h. h) (λ h. h) (λ h. h) (λ e. cc e) no_write in
@@ -473,12 +474,12 @@ complete (Some (OfFiles file name)) (Some files) shelf heard reads stores writes
     table_meant files reads stores writes old new file bytes holds no_write (found_by name) (Some (OfFiles file name)) line 15 (λ text h. (h.0, h.1, (h.3.built, h.3.accepted, (h.3.holds.0, h.3.holds.1)))) (λ text h. (h.0, h.1, h.3)) (by_lines files file name) (λ text h. h) status (plain (Some (OfFiles file name)) (Some files) reads stores writes old new heard (λ _ _ h. h) status o)
 complete (Some (OfCached file store q)) None shelf heard reads stores writes old new status o left = tt
 complete (Some (OfCached file store q)) (Some files) shelf heard reads stores writes old new status o left = λ bytes holds small no_read no_write. cached_meant files reads stores writes old new file bytes store q holds (fits MAX_FILE_BYTES (files file) bytes holds small) no_read no_write status (plain (Some (OfCached file store q)) (Some files) reads stores writes old new heard (λ _ _ h. h) status o)
-complete (Some (OfServe wait file)) None shelf heard reads stores writes old new status o left = tt
-complete (Some (OfServe wait file)) (Some files) shelf heard reads stores writes old new status o left = λ bytes holds small no_read no_write no_input.
-    session_meant (Some (OfServe wait file)) files heard reads stores writes old new file bytes holds no_read (λ h. h) (fits MAX_FILE_BYTES (files file) bytes holds small) (λ h. h) (λ h. h) (λ h. h) (λ e. cc e) no_write
+complete (Some (OfServe how file)) None shelf heard reads stores writes old new status o left = tt
+complete (Some (OfServe how file)) (Some files) shelf heard reads stores writes old new status o left = λ bytes holds small no_read no_write no_input.
+    session_meant (Some (OfServe how file)) files heard reads stores writes old new file bytes holds no_read (λ h. h) (fits MAX_FILE_BYTES (files file) bytes holds small) (λ h. h) (λ h. h) (λ h. h) (λ e. cc e) no_write
     (λ text h. (h.0, h.1, h.3.0)) (λ text h. (h.0, h.1, h.3.0)) (λ text h. h.3) (λ kind text h. h.3) (λ text h. no_input h.3.0) status o
-complete (Some (OfRace readers file script)) None shelf heard reads stores writes old new status o left = tt
-complete (Some (OfRace readers file script)) (Some files) shelf heard reads stores writes old new status o left = λ bytes holds small no_read no_write held has_script small_script again_no_read again_no_write.
-    session_meant (Some (OfRace readers file script)) files heard reads stores writes old new file bytes holds (⊎_elim no_read no_read) (λ h. h) (⊎_elim (fits MAX_FILE_BYTES (files file) bytes holds small) (fits MAX_SCRIPT_BYTES (files script) held has_script small_script)) (λ h. h) (λ h. h) (λ h. h) (λ e. cc e) no_write
+complete (Some (OfRace how file script)) None shelf heard reads stores writes old new status o left = tt
+complete (Some (OfRace how file script)) (Some files) shelf heard reads stores writes old new status o left = λ bytes holds small no_read no_write held has_script small_script again_no_read again_no_write.
+    session_meant (Some (OfRace how file script)) files heard reads stores writes old new file bytes holds (⊎_elim no_read no_read) (λ h. h) (⊎_elim (fits MAX_FILE_BYTES (files file) bytes holds small) (fits MAX_SCRIPT_BYTES (files script) held has_script small_script)) (λ h. h) (λ h. h) (λ h. h) (λ e. cc e) no_write
     (λ text h. (h.0, h.1, h.3.3.0)) (λ text h. (h.0, h.1, h.3.3.0)) (λ text h. h.3.3) (λ kind text h. h.3.3) (λ text h. h.3.3) status o
 complete (Some (OfDrill seed units)) told shelf heard reads stores writes old new status o left = λ no_write. drill_meant seed units told heard reads stores writes old new no_write status o

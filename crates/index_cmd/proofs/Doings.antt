@@ -4,7 +4,7 @@ use Rattle.std.proofs.Common.{inl, inr, ℕ, List, Option, Some, subst}
 use Rattle.ix_base.specs.declared.limits.TheConstants.{MAX_FILE_BYTES}
 use Rattle.index_model.specs.declared.job.CacheKind.{CacheKind}
 use Rattle.index_model.specs.Cache.{cache_in}
-use Rattle.index_model.specs.Queries.{Query}
+use Rattle.query_text.specs.Questions.{Question}
 use Rattle.outside.specs.Counts.{Rose}
 use Rattle.outside.specs.Files.{Files, SameFiles, Stored, StoredOrPrefix}
 use Rattle.outside.proofs.CountLaws.{then-rose}
@@ -23,6 +23,9 @@ use Rattle.session_commands.specs.Races.{SaysRace}
 use Rattle.session_commands.specs.SessionResults.{SaysServe}
 use Rattle.command_base.specs.GdbLooks.{SaysGdb}
 use Rattle.index_commands.specs.Indexes.{CausesOfIndex, LeavesIndex, SaysIndex}
+use Rattle.index_cmd.specs.declared.task.Racing.{Racing}
+use Rattle.index_cmd.specs.declared.task.Serving.{Serving}
+use Rattle.index_commands.specs.declared.names.NamesLook.{NamesLook}
 use Rattle.index_commands.specs.NamesLooks.{SaysNames}
 use Rattle.add_command.specs.Adds.{CausesOfAdd, LeavesAdd, SaysAdd}
 use Rattle.command_base.specs.Tables.{CausesOfTable}
@@ -103,7 +106,7 @@ module _ (told shelf : Option Files) (file bytes : List ℕ) (heard : Heard) (ol
 
   -- ---- `ask`
 
-  module _ (q : Query) where
+  module _ (q : Question) where
     says_asked : (status : Status) (text : List ℕ) → SaysFile bytes q status text → Says (Some (OfFile file q)) told heard status text
     says_asked Answered text h = (bytes, was.holds, was.small, h)
     says_asked Refused text h = (bytes, was.holds, was.small, h)
@@ -215,7 +218,7 @@ module _ (told shelf : Option Files) (file bytes : List ℕ) (heard : Heard) (ol
 
   -- ---- `cached`
 
-  module _ (store : List ℕ) (q : Query) where
+  module _ (store : List ℕ) (q : Question) where
     says_cached : (status : Status) (text : List ℕ) → SaysCached shelf bytes store q status text → Says (Some (OfCached file store q)) told heard status text
     says_cached Answered text h = (bytes, was.holds, was.small, (h.0, cached_from told shelf was.same h.0 bytes store q ⊤ ⊤ ⊤ ⊤ (λ k. k) (λ s. s) text h.1))
     says_cached Refused text h = (bytes, was.holds, was.small, h)
@@ -275,8 +278,8 @@ module _ (told shelf : Option Files) (file bytes : List ℕ) (heard : Heard) (ol
 
   -- ---- `look names`
 
-  module _ (base : ℕ) (strings name : List ℕ) where
-    says_names : (status : Status) (text : List ℕ) → SaysBeside shelf strings MAX_FILE_BYTES (λ held. SaysNames bytes held base name) status text → Says (Some (OfNames base file strings name)) told heard status text
+  module _ (look : NamesLook) (strings name : List ℕ) where
+    says_names : (status : Status) (text : List ℕ) → SaysBeside shelf strings MAX_FILE_BYTES (λ held. SaysNames bytes held look name) status text → Says (Some (OfNames look file strings name)) told heard status text
     says_names Answered text h = (bytes, was.holds, was.small, (h.0, same_whole strings h.0 told shelf was.same h.1, h.2, h.3))
     says_names Refused text h = absurd h.3
     says_names Usage text h = absurd h.3
@@ -294,40 +297,40 @@ module _ (told shelf : Option Files) (file bytes : List ℕ) (heard : Heard) (ol
     says_names InputTooLong text h = absurd h.3
     says_names Stopped text h = absurd h.3
 
-    pub looked_names : (after : Option Files) → SameFiles shelf after → (status : Status) → Wrote (SaysBeside shelf strings MAX_FILE_BYTES (λ held. SaysNames bytes held base name)) status old new → CausesBeside shelf strings MAX_FILE_BYTES later_reads writes status → Does (Some (OfNames base file strings name)) told after heard reads stores writes old new status
-    looked_names after kept status w c = does (OfNames base file strings name) tt after kept status
-        (wrote_weaker (SaysBeside shelf strings MAX_FILE_BYTES (λ held. SaysNames bytes held base name)) (Says (Some (OfNames base file strings name)) told heard) says_names status old new w)
-        (causes_beside (OfNames base file strings name) strings MAX_FILE_BYTES (λ P p. inr p) status c)
+    pub looked_names : (after : Option Files) → SameFiles shelf after → (status : Status) → Wrote (SaysBeside shelf strings MAX_FILE_BYTES (λ held. SaysNames bytes held look name)) status old new → CausesBeside shelf strings MAX_FILE_BYTES later_reads writes status → Does (Some (OfNames look file strings name)) told after heard reads stores writes old new status
+    looked_names after kept status w c = does (OfNames look file strings name) tt after kept status
+        (wrote_weaker (SaysBeside shelf strings MAX_FILE_BYTES (λ held. SaysNames bytes held look name)) (Says (Some (OfNames look file strings name)) told heard) says_names status old new w)
+        (causes_beside (OfNames look file strings name) strings MAX_FILE_BYTES (λ P p. inr p) status c)
 
   -- ---- `serve`
 
-  causes_served : (wait : ℕ) (status : Status) → CausesOfSession writes status → Causes (Some (OfServe wait file)) told reads stores writes status
-  causes_served wait Answered c = tt
-  causes_served wait Refused c = tt
-  causes_served wait Usage c = absurd c
-  causes_served wait ReadFault c = absurd c
-  causes_served wait StoreFault c = absurd c
-  causes_served wait WriteFault c = c
-  causes_served wait NoMemory c = absurd c
-  causes_served wait IndexRefused c = absurd c
-  causes_served wait (TableRefused table) c = absurd c
-  causes_served wait IndexTooLarge c = absurd c
-  causes_served wait FileTooBig c = absurd c
-  causes_served wait AlreadyIndexed c = absurd c
-  causes_served wait TooManySections c = absurd c
-  causes_served wait InputFault c = tt
-  causes_served wait InputTooLong c = tt
-  causes_served wait Stopped c = tt
+  causes_served : (how : Serving) (status : Status) → CausesOfSession writes status → Causes (Some (OfServe how file)) told reads stores writes status
+  causes_served how Answered c = tt
+  causes_served how Refused c = tt
+  causes_served how Usage c = absurd c
+  causes_served how ReadFault c = absurd c
+  causes_served how StoreFault c = absurd c
+  causes_served how WriteFault c = c
+  causes_served how NoMemory c = absurd c
+  causes_served how IndexRefused c = absurd c
+  causes_served how (TableRefused table) c = absurd c
+  causes_served how IndexTooLarge c = absurd c
+  causes_served how FileTooBig c = absurd c
+  causes_served how AlreadyIndexed c = absurd c
+  causes_served how TooManySections c = absurd c
+  causes_served how InputFault c = tt
+  causes_served how InputTooLong c = tt
+  causes_served how Stopped c = tt
 
-  pub served : (wait : ℕ) (status : Status) → Wrote (SaysServe bytes wait heard) status old new → CausesOfSession writes status → Does (Some (OfServe wait file)) told shelf heard reads stores writes old new status
-  served wait status w c = does (OfServe wait file) tt shelf (same_files-refl shelf) status (wrote_weaker (SaysServe bytes wait heard) (Says (Some (OfServe wait file)) told heard) (λ s text says. (bytes, was.holds, was.small, says)) status old new w) (causes_served wait status c)
+  pub served : (how : Serving) (status : Status) → Wrote (SaysServe how.spelling bytes how.wait heard) status old new → CausesOfSession writes status → Does (Some (OfServe how file)) told shelf heard reads stores writes old new status
+  served how status w c = does (OfServe how file) tt shelf (same_files-refl shelf) status (wrote_weaker (SaysServe how.spelling bytes how.wait heard) (Says (Some (OfServe how file)) told heard) (λ s text says. (bytes, was.holds, was.small, says)) status old new w) (causes_served how status c)
 
   -- ---- `race`
 
-  pub raced : (readers : ℕ) (script : List ℕ) (after : Option Files) → SameFiles shelf after → (status : Status) → Wrote (SaysBeside shelf script MAX_SCRIPT_BYTES (SaysRace bytes readers)) status old new → CausesBeside shelf script MAX_SCRIPT_BYTES later_reads writes status → Does (Some (OfRace readers file script)) told after heard reads stores writes old new status
-  raced readers script after kept status w c = does (OfRace readers file script) tt after kept status
-      (wrote_weaker (SaysBeside shelf script MAX_SCRIPT_BYTES (SaysRace bytes readers)) (Says (Some (OfRace readers file script)) told heard) (λ s text says. (bytes, was.holds, was.small, (says.0, same_whole script says.0 told shelf was.same says.1, says.2, says.3))) status old new w)
-      (causes_beside (OfRace readers file script) script MAX_SCRIPT_BYTES (λ P p. inr p) status c)
+  pub raced : (how : Racing) (script : List ℕ) (after : Option Files) → SameFiles shelf after → (status : Status) → Wrote (SaysBeside shelf script MAX_SCRIPT_BYTES (SaysRace how.spelling bytes how.readers)) status old new → CausesBeside shelf script MAX_SCRIPT_BYTES later_reads writes status → Does (Some (OfRace how file script)) told after heard reads stores writes old new status
+  raced how script after kept status w c = does (OfRace how file script) tt after kept status
+      (wrote_weaker (SaysBeside shelf script MAX_SCRIPT_BYTES (SaysRace how.spelling bytes how.readers)) (Says (Some (OfRace how file script)) told heard) (λ s text says. (bytes, was.holds, was.small, (says.0, same_whole script says.0 told shelf was.same says.1, says.2, says.3))) status old new w)
+      (causes_beside (OfRace how file script) script MAX_SCRIPT_BYTES (λ P p. inr p) status c)
 
   -- ---- `index`
 

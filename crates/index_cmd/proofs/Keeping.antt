@@ -2,7 +2,7 @@
 use Rattle.std.proofs.Common.{inl, inr, ℕ, List, Option}
 use Rattle.ix_base.specs.declared.fault.Fault.{Fault}
 use Rattle.ix_base.specs.declared.limits.TheConstants.{MAX_FILE_BYTES}
-use Rattle.index_model.specs.Queries.{Query}
+use Rattle.query_text.specs.Questions.{Question}
 use Rattle.outside.specs.Files.{Files, SameFiles}
 use Rattle.outside.proofs.FileLaws.{same_files-trans}
 use Rattle.reach_model.specs.BuildIds.{cache_name}
@@ -39,7 +39,7 @@ module _ (told shelf : Option Files) (same : SameFiles told shelf) where
     not_kept_from bytes S T s (nowhere none h) = nowhere none (same_files-trans told shelf after same h)
     not_kept_from bytes S T s (failed id own c part) = failed id own (s c) (part_from (cache_name store id) (kept_bytes id bytes) told shelf after same part)
 
-    pub cached_from : (q : Query) (K S L T : Type 0) → (K → L) → (S → T) → (text : List ℕ) → IsCached shelf after file store q K S text → IsCached told after file store q L T text
+    pub cached_from : (q : Question) (K S L T : Type 0) → (K → L) → (S → T) → (text : List ℕ) → IsCached shelf after file store q K S text → IsCached told after file store q L T text
     cached_from q K S L T k s text (hit h) = hit (record {
       id = h.id;
       own = h.own;

@@ -7,7 +7,7 @@ use Rattle.index_model.specs.declared.job.CacheKind.TheVariants.{Gdb9}
 use Rattle.index_model.specs.Cache.{GdbBytes, DoesNotFit, cache_in}
 use Rattle.index_model.specs.Faults.{Built, built_of, first_fault}
 use Rattle.index_model.specs.Meaning.{◌>>=◌}
-use Rattle.index_model.specs.Queries.{Query}
+use Rattle.query_text.specs.Questions.{Question}
 use Rattle.index_model.proofs.Meanings.{same_ok}
 use Rattle.outside.specs.Files.{Files}
 use Rattle.reach_model.specs.BuildIds.{build_id_of}
@@ -29,7 +29,7 @@ of_missed told file store K why (without_id none) = (None, none)
 of_missed told file store K why (unread id own k) = (Some id, own)
 of_missed told file store K why (stale id f own is) = (Some id, own)
 
-of_cached : (told after : Option Files) (file store : List ℕ) (q : Query) (K S : Type 0) (text : List ℕ) → IsCached told after file store q K S text → (x : Option (List ℕ)) × (id_of file ≡ Ok x)
+of_cached : (told after : Option Files) (file store : List ℕ) (q : Question) (K S : Type 0) (text : List ℕ) → IsCached told after file store q K S text → (x : Option (List ℕ)) × (id_of file ≡ Ok x)
 of_cached told after file store q K S text (hit h) = (Some h.id, h.own)
 of_cached told after file store q K S text (stored h) = (Some h.id, h.own)
 of_cached told after file store q K S text (unsaved h) = of_missed told file store K h.why h.missed
@@ -53,7 +53,7 @@ not_large file bytes index large =
 no_fault : (file : List ℕ) (b : Built) (f : Fault) → built_of file ≡ Ok b → first_fault file ≡ Some f → ⊥
 no_fault file b f is first = none_some f (sym (accepted_built file b is) ∙ first)
 
-module _ (files : Files) (reads stores writes : Type 0) (old new : Option (List ℕ)) (file bytes store : List ℕ) (q : Query) (holds : files file ≡ Some bytes) (fits : (all : List ℕ) × (files file ≡ Some all) × (MAX_FILE_BYTES < length all) → ⊥) (no_read : reads → ⊥) (no_write : writes → ⊥) where
+module _ (files : Files) (reads stores writes : Type 0) (old new : Option (List ℕ)) (file bytes store : List ℕ) (q : Question) (holds : files file ≡ Some bytes) (fits : (all : List ℕ) × (files file ≡ Some all) × (MAX_FILE_BYTES < length all) → ⊥) (no_read : reads → ⊥) (no_write : writes → ⊥) where
   abbrev asked : Option Request
   asked = Some (OfCached file store q)
 

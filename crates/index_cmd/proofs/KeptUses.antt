@@ -4,7 +4,7 @@ use Rattle.std.specs.Prelude.{⊤}
 use Rattle.ix_base.specs.declared.limits.TheConstants.{MAX_FILE_BYTES}
 use Rattle.outside.specs.Files.{Files, SameFiles}
 use Rattle.outside.specs.Written.{Appends}
-use Rattle.index_model.specs.Queries.{Query}
+use Rattle.query_text.specs.Questions.{Question}
 use Rattle.command_base.specs.FilesRead.{Holds}
 use Rattle.command_base.specs.Replies.{line_of}
 use Rattle.command_base.specs.Stops.{stop_status}
@@ -47,9 +47,9 @@ module _ (told shelf : Option Files) (kept_reads stores : Type 0) (old new : Opt
   free (Some TheVersion) status o = tt
   free (Some (OfFile file q)) status o = tt
   free (Some (OfGdb index q)) status o = tt
-  free (Some (OfNames base index strings name)) status o = tt
-  free (Some (OfServe wait file)) status o = tt
-  free (Some (OfRace readers file script)) status o = tt
+  free (Some (OfNames look index strings name)) status o = tt
+  free (Some (OfServe how file)) status o = tt
+  free (Some (OfRace how file script)) status o = tt
   free (Some (OfDrill seed units)) status o = tt
   free (Some (OfAranges file)) status o = tt
   free (Some (OfFiles file name)) status o = tt
@@ -85,9 +85,9 @@ module _ (told shelf : Option Files) (kept_reads stores : Type 0) (old new : Opt
   other_action file (actions.Index kind out) o status = tt
   other_action file (actions.Add kind out) o status = tt
   other_action file (actions.LookGdb q) o status = tt
-  other_action file (actions.LookNames base strings name) o status = tt
-  other_action file (actions.Serve wait) o status = tt
-  other_action file (actions.Race readers script) o status = tt
+  other_action file (actions.LookNames look strings name) o status = tt
+  other_action file (actions.Serve how) o status = tt
+  other_action file (actions.Race how script) o status = tt
   other_action file actions.Aranges o status = tt
   other_action file (actions.Files name) o status = tt
   other_action file (actions.Cached store q) o status = absurd o
@@ -100,7 +100,7 @@ module _ (told shelf : Option Files) (kept_reads stores : Type 0) (old new : Opt
 
 -- ---- the command
 
-module _ (told shelf after : Option Files) (same : SameFiles told shelf) (file bytes store : List ℕ) (q : Query) (holds : Holds told file bytes) (small : length bytes ≤ MAX_FILE_BYTES) (kept_reads stores : Type 0) (old new : Option (List ℕ)) where
+module _ (told shelf after : Option Files) (same : SameFiles told shelf) (file bytes store : List ℕ) (q : Question) (holds : Holds told file bytes) (small : length bytes ≤ MAX_FILE_BYTES) (kept_reads stores : Type 0) (old new : Option (List ℕ)) where
   pub uses : (status : Status) → (status ≡ Answered → (text : List ℕ) × IsCached shelf after bytes store q kept_reads stores text × Appends old new text) → LooksFirst shelf bytes store kept_reads status → UsesKept (Some (OfCached file store q)) told after kept_reads stores old new status
   uses Answered tied first = let t = tied refl in (t.0, (bytes, holds, small, cached_from told shelf same after bytes store q kept_reads stores kept_reads stores (λ k. k) (λ s. s) t.0 t.1), t.2)
   uses Refused tied first = (bytes, holds, small, looks_from told shelf same bytes store kept_reads first)
@@ -129,9 +129,9 @@ module _ (told shelf : Option Files) (kept_reads stores : Type 0) (old mid new :
   of_line (Some TheVersion) status text is u = tt
   of_line (Some (OfFile file q)) status text is u = tt
   of_line (Some (OfGdb index q)) status text is u = tt
-  of_line (Some (OfNames base index strings name)) status text is u = tt
-  of_line (Some (OfServe wait file)) status text is u = tt
-  of_line (Some (OfRace readers file script)) status text is u = tt
+  of_line (Some (OfNames look index strings name)) status text is u = tt
+  of_line (Some (OfServe how file)) status text is u = tt
+  of_line (Some (OfRace how file script)) status text is u = tt
   of_line (Some (OfDrill seed units)) status text is u = tt
   of_line (Some (OfAranges file)) status text is u = tt
   of_line (Some (OfFiles file name)) status text is u = tt

@@ -164,8 +164,8 @@ module _ (request : Option Request) (told : Option Files) (heard : Heard) (reads
 -- ---- requests that are neither sessions nor a generated program
 
 abbrev pub IsPlain : Option Request → Type 0
-IsPlain (Some (OfServe wait file)) = ⊥
-IsPlain (Some (OfRace readers file script)) = ⊥
+IsPlain (Some (OfServe how file)) = ⊥
+IsPlain (Some (OfRace how file script)) = ⊥
 IsPlain (Some (OfDrill seed units)) = ⊥
 IsPlain other = ⊤
 
@@ -178,12 +178,12 @@ says_plain (Some (OfFile file q)) p told heard status text h = h
 says_plain (Some (OfIndex kind file out)) p told heard status text h = h
 says_plain (Some (OfAdd kind file out)) p told heard status text h = h
 says_plain (Some (OfGdb index q)) p told heard status text h = h
-says_plain (Some (OfNames base index strings name)) p told heard status text h = h
+says_plain (Some (OfNames look index strings name)) p told heard status text h = h
 says_plain (Some (OfAranges file)) p told heard status text h = h
 says_plain (Some (OfFiles file name)) p told heard status text h = h
 says_plain (Some (OfCached file store q)) p told heard status text h = h
-says_plain (Some (OfServe wait file)) p told heard status text h = absurd p
-says_plain (Some (OfRace readers file script)) p told heard status text h = absurd p
+says_plain (Some (OfServe how file)) p told heard status text h = absurd p
+says_plain (Some (OfRace how file script)) p told heard status text h = absurd p
 says_plain (Some (OfDrill seed units)) p told heard status text h = absurd p
 
 -- what such a request comes to
@@ -224,11 +224,11 @@ asks (Some (OfFile file q)) P h = h
 asks (Some (OfIndex kind file out)) P h = h
 asks (Some (OfAdd kind file out)) P h = h
 asks (Some (OfGdb index q)) P h = h
-asks (Some (OfNames base index strings name)) P (inl h) = h
-asks (Some (OfNames base index strings name)) P (inr h) = h
-asks (Some (OfServe wait file)) P h = h
-asks (Some (OfRace readers file script)) P (inl h) = h
-asks (Some (OfRace readers file script)) P (inr h) = h
+asks (Some (OfNames look index strings name)) P (inl h) = h
+asks (Some (OfNames look index strings name)) P (inr h) = h
+asks (Some (OfServe how file)) P h = h
+asks (Some (OfRace how file script)) P (inl h) = h
+asks (Some (OfRace how file script)) P (inr h) = h
 asks (Some (OfAranges file)) P h = h
 asks (Some (OfFiles file name)) P h = h
 asks (Some (OfCached file store q)) P h = h
@@ -242,9 +242,9 @@ asks_index (Some (OfIndex kind file out)) P h = h
 asks_index (Some (OfAdd kind file out)) P h = h
 asks_index (Some (OfFile file q)) P h = absurd h
 asks_index (Some (OfGdb index q)) P h = absurd h
-asks_index (Some (OfNames base index strings name)) P h = absurd h
-asks_index (Some (OfServe wait file)) P h = absurd h
-asks_index (Some (OfRace readers file script)) P h = absurd h
+asks_index (Some (OfNames look index strings name)) P h = absurd h
+asks_index (Some (OfServe how file)) P h = absurd h
+asks_index (Some (OfRace how file script)) P h = absurd h
 asks_index (Some (OfDrill seed units)) P h = absurd h
 asks_index (Some (OfAranges file)) P h = absurd h
 asks_index (Some (OfFiles file name)) P h = absurd h

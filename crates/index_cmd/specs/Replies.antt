@@ -35,9 +35,9 @@ IsAnswer (Some (OfFile file q)) told text = OfFileBytes told file (λ bytes. IsA
 IsAnswer (Some (OfIndex kind file out)) told text = text ≡ []
 IsAnswer (Some (OfAdd kind file out)) told text = text ≡ []
 IsAnswer (Some (OfGdb index q)) told text = OfFileBytes told index (λ bytes. IsGdbAnswerOf bytes q text)
-IsAnswer (Some (OfNames base index strings name)) told text = OfFileBytes told index (λ bytes. OfFileBytes told strings (λ held. IsNamesAnswerOf bytes held base name text))
-IsAnswer (Some (OfServe wait file)) told text = ⊥
-IsAnswer (Some (OfRace readers file script)) told text = ⊥
+IsAnswer (Some (OfNames look index strings name)) told text = OfFileBytes told index (λ bytes. OfFileBytes told strings (λ held. IsNamesAnswerOf bytes held look name text))
+IsAnswer (Some (OfServe how file)) told text = ⊥
+IsAnswer (Some (OfRace how file script)) told text = ⊥
 IsAnswer (Some (OfDrill seed units)) told text = ⊥
 IsAnswer (Some (OfAranges file)) told text = OfFileBytes told file (λ bytes. IsComparisonOf bytes text)
 IsAnswer (Some (OfFiles file name)) told text = OfFileBytes told file (λ bytes. IsListingOf bytes name text)
@@ -50,7 +50,7 @@ IsRefusal request told text = AsksProgram request (λ file. OfFileBytes told fil
 -- the text is that of the first fault of the index that was asked
 abbrev pub IsIndexRefusal : Option Request → Option Files → List ℕ → Type 0
 IsIndexRefusal (Some (OfGdb index q)) told text = OfFileBytes told index (λ bytes. IsGdbRefusalOf bytes text)
-IsIndexRefusal (Some (OfNames base index strings name)) told text = OfFileBytes told index (λ bytes. OfFileBytes told strings (λ held. IsNamesRefusalOf bytes held base text))
+IsIndexRefusal (Some (OfNames look index strings name)) told text = OfFileBytes told index (λ bytes. OfFileBytes told strings (λ held. IsNamesRefusalOf bytes held look text))
 IsIndexRefusal other told text = ⊥
 
 -- the text is that of the first fault of the table that was asked
@@ -128,10 +128,10 @@ IsComplete (Some (OfFile file q)) told reads stores writes status = OfWholeFile 
 IsComplete (Some (OfIndex kind file out)) told reads stores writes status = OfWholeFile MAX_FILE_BYTES told file reads writes (λ bytes. (stores → ⊥) → IsIndexMeant bytes kind status)
 IsComplete (Some (OfAdd kind file out)) told reads stores writes status = OfWholeFile MAX_FILE_BYTES told file reads writes (λ bytes. (stores → ⊥) → IsAddMeant bytes kind status)
 IsComplete (Some (OfGdb index q)) told reads stores writes status = OfWholeFile MAX_FILE_BYTES told index reads writes (λ bytes. IsLookMeant bytes status)
-IsComplete (Some (OfNames base index strings name)) told reads stores writes status = OfWholeFile MAX_FILE_BYTES told index reads writes (λ bytes. OfWholeFile MAX_FILE_BYTES told strings reads writes (λ held. IsNamesMeant bytes held base status))
+IsComplete (Some (OfNames look index strings name)) told reads stores writes status = OfWholeFile MAX_FILE_BYTES told index reads writes (λ bytes. OfWholeFile MAX_FILE_BYTES told strings reads writes (λ held. IsNamesMeant bytes held look status))
 IsComplete (Some (OfAranges file)) told reads stores writes status = OfWholeFile MAX_FILE_BYTES told file reads writes (λ bytes. IsTableMeant bytes sets_of 14 status)
 IsComplete (Some (OfFiles file name)) told reads stores writes status = OfWholeFile MAX_FILE_BYTES told file reads writes (λ bytes. IsTableMeant bytes (found_by name) 15 status)
 IsComplete (Some (OfCached file store q)) told reads stores writes status = OfWholeFile MAX_FILE_BYTES told file reads writes (λ bytes. IsCachedMeant bytes status)
-IsComplete (Some (OfServe wait file)) told reads stores writes status = ⊤
-IsComplete (Some (OfRace readers file script)) told reads stores writes status = ⊤
+IsComplete (Some (OfServe how file)) told reads stores writes status = ⊤
+IsComplete (Some (OfRace how file script)) told reads stores writes status = ⊤
 IsComplete (Some (OfDrill seed units)) told reads stores writes status = ⊤

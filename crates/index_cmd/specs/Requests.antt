@@ -2,6 +2,11 @@
 use Rattle.std.specs.Prelude.{◌⊎◌, ℕ, List, Option, Some, None, option_map, option_and_then, ⊤}
 use Rattle.index_model.specs.declared.job.CacheKind.{CacheKind}
 use Rattle.index_model.specs.Queries.{Query, AskName, query_of}
+use Rattle.name_quotes.specs.declared.quote.Spelling.{Spelling}
+use Rattle.query_text.specs.Questions.{Question}
+use Rattle.index_commands.specs.declared.names.NamesLook.{NamesLook}
+use Rattle.index_cmd.specs.declared.task.Racing.{Racing}
+use Rattle.index_cmd.specs.declared.task.Serving.{Serving}
 use Rattle.ix_base.specs.declared.limits.TheConstants.{MAX_FILE_BYTES}
 use Rattle.session_commands.specs.declared.script.TheConstants.{MAX_SCRIPT_BYTES}
 use Rattle.command_base.specs.GdbLooks.{offer_gdb}
@@ -11,7 +16,7 @@ use Rattle.command_words.specs.KeptWords.{Kept}
 use Rattle.command_words.specs.TableWords.{Compared, Sought}
 use Rattle.command_words.specs.Words.{Asked, Indexed, Looked, NamesLooked, Wanted, Help, Version, Ask, Index, Add, LookGdb, LookNames, Serve, Race, Drill, Aranges, Files, Cached, command_of, query_text}
 
--- The program's own texts; the answer of a file, by its name, to a query; the index of a kind of a file, to be stored under a
+-- Each with how names are written, where some are: the program's own texts; the answer of a file, by its name, to a query; the index of a kind of a file, to be stored under a
 -- name, or the file with that index as a section, to be stored so; the answer of a `.gdb_index`, by its name, to a query; or the
 -- entries of a name in a `.debug_names`, by the base of its strings, its own name and that of the strings. Or a session over a
 -- file from a stage on; sessions of so many readers over a file and a script; or the sizes of the program that a seed makes of so
@@ -19,20 +24,24 @@ use Rattle.command_words.specs.Words.{Asked, Indexed, Looked, NamesLooked, Wante
 -- its line tables name. Or the answer of a file's `.gdb_index` that is kept in a store, or else built.
 pub data Request : Type 0 where
   TheHelp TheVersion : Request
-  OfFile : List ℕ → Query → Request
+  OfFile : List ℕ → Question → Request
   OfIndex OfAdd : CacheKind → List ℕ → List ℕ → Request
-  OfGdb : List ℕ → Query → Request
-  OfNames : ℕ → List ℕ → List ℕ → List ℕ → Request
-  OfServe : ℕ → List ℕ → Request
-  OfRace : ℕ → List ℕ → List ℕ → Request
+  OfGdb : List ℕ → Question → Request
+  OfNames : NamesLook → List ℕ → List ℕ → List ℕ → Request
+  OfServe : Serving → List ℕ → Request
+  OfRace : Racing → List ℕ → List ℕ → Request
   OfDrill : ℕ → ℕ → Request
   OfAranges : List ℕ → Request
   OfFiles : List ℕ → List ℕ → Request
-  OfCached : List ℕ → List ℕ → Query → Request
+  OfCached : List ℕ → List ℕ → Question → Request
+
+-- a query, and how the names in its reply are written
+abbrev pub question : Spelling → Query → Question
+question spelling q = record { query = q; spelling = spelling }
 
 -- a query of a file
 abbrev pub asked : Asked → Option Request
-asked a = option_map (OfFile a.file) (query_of (query_text a.query))
+asked a = option_map (λ q. OfFile a.file (question a.spelling q)) (query_of (query_text a.query))
 
 -- the index of a file
 abbrev pub indexed : Indexed → Option Request
@@ -48,7 +57,7 @@ offered_gdb line = option_and_then offer_gdb (query_of line)
 
 -- a query of a `.gdb_index`, if it answers it
 abbrev pub looked : Looked → Option Request
-looked l = option_map (OfGdb l.index) (offered_gdb (query_text l.query))
+looked l = option_map (λ q. OfGdb l.index (question l.spelling q)) (offered_gdb (query_text l.query))
 
 -- a `.debug_names` answers names alone
 abbrev pub offer_name : Query → Option (List ℕ)
@@ -61,15 +70,15 @@ offered_name line = option_and_then offer_name (query_of line)
 
 -- a query of a `.debug_names`, if it answers it
 abbrev pub looked_names : NamesLooked → Option Request
-looked_names l = option_map (OfNames l.base l.index l.strings) (offered_name (query_text l.query))
+looked_names l = option_map (OfNames (record { base = l.base; spelling = l.spelling }) l.index l.strings) (offered_name (query_text l.query))
 
 -- a session over a file
 abbrev pub served : Served → Option Request
-served s = Some (OfServe s.wait s.file)
+served s = Some (OfServe (record { wait = s.wait; spelling = s.spelling }) s.file)
 
 -- sessions over a file and a script
 abbrev pub raced : Raced → Option Request
-raced r = Some (OfRace r.readers r.file r.script)
+raced r = Some (OfRace (record { readers = r.readers; spelling = r.spelling }) r.file r.script)
 
 -- the sizes of a generated program
 abbrev pub drilled : Drilled → Option Request
@@ -85,7 +94,7 @@ sought s = Some (OfFiles s.file s.name)
 
 -- a query of the index of a file that is kept in a store, if a `.gdb_index` answers it
 abbrev pub kept : Kept → Option Request
-kept k = option_map (OfCached k.file k.store) (offered_gdb (query_text k.query))
+kept k = option_map (λ q. OfCached k.file k.store (question k.spelling q)) (offered_gdb (query_text k.query))
 
 -- a command whose query is answered
 abbrev pub requested : Wanted → Option Request
@@ -113,9 +122,9 @@ AsksFile (Some (OfFile file q)) P = P file MAX_FILE_BYTES
 AsksFile (Some (OfIndex kind file out)) P = P file MAX_FILE_BYTES
 AsksFile (Some (OfAdd kind file out)) P = P file MAX_FILE_BYTES
 AsksFile (Some (OfGdb index q)) P = P index MAX_FILE_BYTES
-AsksFile (Some (OfNames base index strings name)) P = P index MAX_FILE_BYTES ⊎ P strings MAX_FILE_BYTES
-AsksFile (Some (OfServe wait file)) P = P file MAX_FILE_BYTES
-AsksFile (Some (OfRace readers file script)) P = P file MAX_FILE_BYTES ⊎ P script MAX_SCRIPT_BYTES
+AsksFile (Some (OfNames look index strings name)) P = P index MAX_FILE_BYTES ⊎ P strings MAX_FILE_BYTES
+AsksFile (Some (OfServe how file)) P = P file MAX_FILE_BYTES
+AsksFile (Some (OfRace how file script)) P = P file MAX_FILE_BYTES ⊎ P script MAX_SCRIPT_BYTES
 AsksFile (Some (OfAranges file)) P = P file MAX_FILE_BYTES
 AsksFile (Some (OfFiles file name)) P = P file MAX_FILE_BYTES
 AsksFile (Some (OfCached file store q)) P = P file MAX_FILE_BYTES
@@ -149,5 +158,5 @@ StoresNothing other = ⊤
 
 -- the input isn't read
 abbrev pub ReadsNoInput : Option Request → Type 0
-ReadsNoInput (Some (OfServe wait file)) = ⊥
+ReadsNoInput (Some (OfServe how file)) = ⊥
 ReadsNoInput other = ⊤

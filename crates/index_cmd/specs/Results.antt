@@ -20,8 +20,8 @@ use Rattle.index_cmd.specs.Requests.{Request, OfServe, OfRace, OfDrill}
 
 -- what was asked
 abbrev pub Says : Option Request → Option Files → Heard → Status → List ℕ → Type 0
-Says (Some (OfServe wait file)) told heard status text = OfFileBytes told file (λ bytes. SaysServe bytes wait heard status text)
-Says (Some (OfRace readers file script)) told heard status text = OfFileBytes told file (λ bytes. OfBytesUpTo MAX_SCRIPT_BYTES told script (λ held. SaysRace bytes readers held status text))
+Says (Some (OfServe how file)) told heard status text = OfFileBytes told file (λ bytes. SaysServe how.spelling bytes how.wait heard status text)
+Says (Some (OfRace how file script)) told heard status text = OfFileBytes told file (λ bytes. OfBytesUpTo MAX_SCRIPT_BYTES told script (λ held. SaysRace how.spelling bytes how.readers held status text))
 Says (Some (OfDrill seed units)) told heard status text = SaysDrill seed units status text
 Says request told heard status text = SaysRequest request told status text
 
@@ -43,7 +43,7 @@ WritesPrefix request told heard old new = (text : List ℕ) × IsText request to
 
 -- Where nothing failed, the status is that of what was asked, or want of memory.
 abbrev pub Completes : Option Request → Option Files → Heard → Type 0 → Type 0 → Type 0 → ℕ → Type 0
-Completes (Some (OfServe wait file)) told heard reads stores writes status = OfWholeFile MAX_FILE_BYTES told file reads writes (λ bytes. (Rose heard.faults_old heard.faults_new → ⊥) → IsServeMeant bytes status)
-Completes (Some (OfRace readers file script)) told heard reads stores writes status = OfWholeFile MAX_FILE_BYTES told file reads writes (λ bytes. OfWholeFile MAX_SCRIPT_BYTES told script reads writes (λ held. IsServeMeant bytes status))
+Completes (Some (OfServe how file)) told heard reads stores writes status = OfWholeFile MAX_FILE_BYTES told file reads writes (λ bytes. (Rose heard.faults_old heard.faults_new → ⊥) → IsServeMeant bytes status)
+Completes (Some (OfRace how file script)) told heard reads stores writes status = OfWholeFile MAX_FILE_BYTES told file reads writes (λ bytes. OfWholeFile MAX_SCRIPT_BYTES told script reads writes (λ held. IsServeMeant bytes status))
 Completes (Some (OfDrill seed units)) told heard reads stores writes status = (writes → ⊥) → IsDrillMeant (generated_file seed units) status
 Completes request told heard reads stores writes status = IsComplete request told reads stores writes status

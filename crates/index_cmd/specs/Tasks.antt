@@ -1,6 +1,6 @@
 -- What a command asks for, once its query is read, as it stands in the code.
 use Rattle.std.specs.Prelude.{◌≡◌, ◌<◌, ◌≤◌, ℕ, List, [], Some, ⊤}
-use Rattle.index_model.specs.Seen.{query_seen}
+use Rattle.query_text.specs.Questions.{question_seen}
 use Rattle.command_words.specs.SeenWords.{IsReaders}
 use Rattle.command_words.specs.Words.{Wanted, Ask, Cached, LookGdb, LookNames}
 use Rattle.command_base.specs.GdbLooks.{offer_gdb}
@@ -20,16 +20,16 @@ query_words other = []
 
 -- what is asked of the bytes of the file with this name
 abbrev pub request_on : List ℕ → Action → Request
-request_on file (actions.Ask q) = OfFile file (query_seen q)
+request_on file (actions.Ask q) = OfFile file (question_seen q)
 request_on file (actions.Index kind out) = OfIndex kind file out.now
 request_on file (actions.Add kind out) = OfAdd kind file out.now
-request_on file (actions.LookGdb q) = OfGdb file (query_seen q)
-request_on file (actions.LookNames base strings name) = OfNames base file strings.now name.now
-request_on file (actions.Serve wait) = OfServe wait file
-request_on file (actions.Race readers script) = OfRace readers file script.now
+request_on file (actions.LookGdb q) = OfGdb file (question_seen q)
+request_on file (actions.LookNames look strings name) = OfNames look file strings.now name.now
+request_on file (actions.Serve how) = OfServe how file
+request_on file (actions.Race how script) = OfRace how file script.now
 request_on file actions.Aranges = OfAranges file
 request_on file (actions.Files name) = OfFiles file name.now
-request_on file (actions.Cached store q) = OfCached file store.now (query_seen q)
+request_on file (actions.Cached store q) = OfCached file store.now (question_seen q)
 
 -- what is asked
 abbrev pub request_seen : Task → Request
@@ -40,10 +40,10 @@ request_seen (tasks.Drill seed units) = OfDrill seed units
 
 -- the numbers are in the bounds of the grammar, and the query is one that the index answers
 abbrev pub IsActionInBounds : Action → Type 0
-IsActionInBounds (actions.LookGdb q) = offer_gdb (query_seen q) ≡ Some (query_seen q)
-IsActionInBounds (actions.Cached store q) = offer_gdb (query_seen q) ≡ Some (query_seen q)
-IsActionInBounds (actions.Serve wait) = wait ≤ 3
-IsActionInBounds (actions.Race readers script) = IsReaders readers
+IsActionInBounds (actions.LookGdb q) = offer_gdb (question_seen q).query ≡ Some (question_seen q).query
+IsActionInBounds (actions.Cached store q) = offer_gdb (question_seen q).query ≡ Some (question_seen q).query
+IsActionInBounds (actions.Serve how) = how.wait ≤ 3
+IsActionInBounds (actions.Race how script) = IsReaders how.readers
 IsActionInBounds other = ⊤
 
 abbrev pub IsInBounds : Task → Type 0

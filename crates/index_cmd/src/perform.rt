@@ -18,14 +18,14 @@ ghost use Rattle.index_cmd.specs.Tasks.{request_on, request_seen, IsActionInBoun
 
 use crate::about::{HELP, VERSION};
 use crate::say::say;
-use crate::task::{Action, OnFile, Task};
+use crate::task::{Action, OnFile, Racing, Task};
 use add_command::add_file;
 use aranges_command::aranges_file;
 use cached_command::cached_file;
 use command_base::{Status, look_gdb, read_file};
 use drill_command::run_drill;
 use files_command::list_files;
-use index_commands::{ask_file, index_file, look_names};
+use index_commands::{NamesLook, ask_file, index_file, look_names};
 use index_pool::Crew;
 use ix_base::MAX_FILE_BYTES;
 use outside::{Gate, Shelf, Sink, Source};
@@ -102,20 +102,20 @@ fn act<R: Threads + Wait + Sync, F: Shelf, S: Source + Send, K: Sink + Send, G: 
     ensures counts { K.write_faults out.old ≤ K.write_faults out.new }
 {
     match action {
-        Action::Ask(query) => ask_file(crew, bytes, query, out),
+        Action::Ask(question) => ask_file(crew, bytes, question, out),
         Action::Index { kind, out: name } => index_file(crew, bytes, *kind, name, shelf, out),
         Action::Add { kind, out: name } => add_file(crew, bytes, *kind, name, shelf, out),
-        Action::LookGdb(query) => look_gdb(bytes, query, out),
+        Action::LookGdb(question) => look_gdb(bytes, question, out),
         Action::LookNames {
-            base,
+            look,
             strings,
             name,
-        } => read_strings(crew.alloc, bytes, *base, strings, name, shelf, out),
-        Action::Serve { wait } => serve_file(crew, bytes, *wait, input, out),
-        Action::Race { readers, script } => read_script(crew, bytes, *readers, script, shelf, out),
+        } => read_strings(crew.alloc, bytes, *look, strings, name, shelf, out),
+        Action::Serve(how) => serve_file(crew, bytes, how.wait, how.spelling, input, out),
+        Action::Race { how, script } => read_script(crew, bytes, *how, script, shelf, out),
         Action::Aranges => aranges_file(crew, bytes, out),
         Action::Files(name) => list_files(crew, bytes, name, out),
-        Action::Cached { store, query } => cached_file(crew, bytes, store, query, shelf, out),
+        Action::Cached { store, question } => cached_file(crew, bytes, store, question, shelf, out),
     }
 }
 
@@ -123,21 +123,21 @@ fn act<R: Threads + Wait + Sync, F: Shelf, S: Source + Send, K: Sink + Send, G: 
 fn read_strings<F: Shelf, K: Sink>(
     alloc: Global,
     bytes: &[u8],
-    base: u32,
+    look: NamesLook,
     strings: &str,
     name: &[u8],
     shelf: &mut F,
     out: &mut K,
 ) -> Status
     requires { length bytes.now ≤ MAX_FILE_BYTES }
-    ensures wrote { Wrote (SaysBeside (F.files shelf.old) strings.now MAX_FILE_BYTES (λ held. SaysNames bytes.now held base name.now)) result (K.written out.old) (K.written out.new) }
+    ensures wrote { Wrote (SaysBeside (F.files shelf.old) strings.now MAX_FILE_BYTES (λ held. SaysNames bytes.now held look name.now)) result (K.written out.old) (K.written out.new) }
     ensures causes { CausesBeside (F.files shelf.old) strings.now MAX_FILE_BYTES (Rose (F.read_faults shelf.old) (F.read_faults shelf.new)) (Rose (K.write_faults out.old) (K.write_faults out.new)) result }
     ensures kept { SameFiles (F.files shelf.old) (F.files shelf.new) }
     ensures reads { F.read_faults shelf.old ≤ F.read_faults shelf.new }
     ensures counts { K.write_faults out.old ≤ K.write_faults out.new }
 {
     match read_file(alloc, shelf, strings, MAX_FILE_BYTES as usize) {
-        Ok(held) => look_names(alloc, bytes, &held, base, name, out),
+        Ok(held) => look_names(alloc, bytes, &held, look, name, out),
         Err(stop) => stop.status(),
     }
 }
@@ -146,7 +146,7 @@ fn read_strings<F: Shelf, K: Sink>(
 fn read_script<R: Threads + Wait + Sync, F: Shelf, K: Sink, G: Gate + Sync>(
     crew: &Crew<'_, R, G>,
     bytes: &[u8],
-    readers: u32,
+    how: Racing,
     script: &str,
     shelf: &mut F,
     out: &mut K,
@@ -154,16 +154,16 @@ fn read_script<R: Threads + Wait + Sync, F: Shelf, K: Sink, G: Gate + Sync>(
     requires small { length bytes.now ≤ MAX_FILE_BYTES }
     requires one_worker { 0 < crew.now.workers }
     requires few_workers { crew.now.workers ≤ 64 }
-    requires one_reader { 0 < readers }
-    requires few_readers { readers ≤ 16 }
-    ensures wrote { Wrote (SaysBeside (F.files shelf.old) script.now MAX_SCRIPT_BYTES (SaysRace bytes.now readers)) result (K.written out.old) (K.written out.new) }
+    requires one_reader { 0 < how.readers }
+    requires few_readers { how.readers ≤ 16 }
+    ensures wrote { Wrote (SaysBeside (F.files shelf.old) script.now MAX_SCRIPT_BYTES (SaysRace how.spelling bytes.now how.readers)) result (K.written out.old) (K.written out.new) }
     ensures causes { CausesBeside (F.files shelf.old) script.now MAX_SCRIPT_BYTES (Rose (F.read_faults shelf.old) (F.read_faults shelf.new)) (Rose (K.write_faults out.old) (K.write_faults out.new)) result }
     ensures kept { SameFiles (F.files shelf.old) (F.files shelf.new) }
     ensures reads { F.read_faults shelf.old ≤ F.read_faults shelf.new }
     ensures counts { K.write_faults out.old ≤ K.write_faults out.new }
 {
     match read_file(crew.alloc, shelf, script, MAX_SCRIPT_BYTES as usize) {
-        Ok(held) => race_file(crew, bytes, &held, readers, out),
+        Ok(held) => race_file(crew, bytes, &held, how.readers, how.spelling, out),
         Err(stop) => stop.status(),
     }
 }

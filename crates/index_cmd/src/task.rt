@@ -9,8 +9,10 @@ ghost use Rattle.index_cmd.specs.Tasks.{query_words, request_on, request_seen, I
 
 use crate::line::{offered_gdb, offered_name};
 use command_words::{Ask, Cached, Command, LookGdb, LookNames};
-use index_model::{CacheKind, Query};
-use query_text::parse;
+use index_commands::NamesLook;
+use index_model::CacheKind;
+use name_quotes::Spelling;
+use query_text::{Question, parse};
 
 /// What is asked for, but for the number of workers.
 #[derive(Clone, Copy)]
@@ -30,10 +32,27 @@ pub(crate) struct OnFile<'w> {
     pub action: Action<'w>,
 }
 
+/// How a session is held.
+#[derive(Clone, Copy)]
+pub(crate) struct Serving {
+    /// It begins after a mark of at least this stage, 0 to 3.
+    pub wait: u8,
+    /// How names are written.
+    pub spelling: Spelling,
+}
+
+/// How sessions over a script are held.
+#[derive(Clone, Copy)]
+pub(crate) struct Racing {
+    pub readers: u32,
+    /// How names are written.
+    pub spelling: Spelling,
+}
+
 /// What is done with the bytes of a file, a program's or an index's.
 #[derive(Clone, Copy)]
 pub(crate) enum Action<'w> {
-    Ask(Query<'w>),
+    Ask(Question<'w>),
     Index {
         kind: CacheKind,
         /// The name under which the index is stored.
@@ -44,17 +63,15 @@ pub(crate) enum Action<'w> {
         /// The name under which the program with its index is stored.
         out: &'w str,
     },
-    LookGdb(Query<'w>),
+    LookGdb(Question<'w>),
     LookNames {
-        base: u32,
+        look: NamesLook,
         strings: &'w str,
         name: &'w [u8],
     },
-    Serve {
-        wait: u8,
-    },
+    Serve(Serving),
     Race {
-        readers: u32,
+        how: Racing,
         script: &'w str,
     },
     Aranges,
@@ -63,7 +80,7 @@ pub(crate) enum Action<'w> {
     Cached {
         /// What stands before the names of kept indexes.
         store: &'w str,
-        query: Query<'w>,
+        question: Question<'w>,
     },
 }
 
@@ -129,10 +146,17 @@ pub(crate) fn task_for<'w>(command: &Command<'w>, line: &'w [u8]) -> Option<Task
         }
         Command::LookGdb(words) => looked(words, line),
         Command::LookNames(words) => looked_names(words, line),
-        Command::Serve(words) => on_file(words.file, Action::Serve { wait: words.wait }),
+        Command::Serve(words) => {
+            let (wait, spelling) = (words.wait, words.spelling);
+            on_file(words.file, Action::Serve(Serving { wait, spelling }))
+        }
         Command::Race(words) => {
-            let (readers, script) = (words.readers, words.script);
-            on_file(words.file, Action::Race { readers, script })
+            let how = Racing {
+                readers: words.readers,
+                spelling: words.spelling,
+            };
+            let script = words.script;
+            on_file(words.file, Action::Race { how, script })
         }
         Command::Aranges(words) => on_file(words.file, Action::Aranges),
         Command::Files(words) => on_file(words.file, Action::Files(words.name)),
@@ -160,7 +184,8 @@ fn asked<'w>(words: &Ask<'w>, line: &'w [u8]) -> Option<Task<'w>>
     ensures bounds { ForSome result IsInBounds }
 {
     let query = parse(line)?;
-    on_file(words.file, Action::Ask(query))
+    let spelling = words.spelling;
+    on_file(words.file, Action::Ask(Question { query, spelling }))
 }
 
 // A query of a `.gdb_index`.
@@ -170,7 +195,8 @@ fn looked<'w>(words: &LookGdb<'w>, line: &'w [u8]) -> Option<Task<'w>>
     ensures bounds { ForSome result IsInBounds }
 {
     let query = offered_gdb(line)?;
-    on_file(words.index, Action::LookGdb(query))
+    let spelling = words.spelling;
+    on_file(words.index, Action::LookGdb(Question { query, spelling }))
 }
 
 // A query of an index that may be kept.
@@ -180,8 +206,9 @@ fn cached<'w>(words: &Cached<'w>, line: &'w [u8]) -> Option<Task<'w>>
     ensures bounds { ForSome result IsInBounds }
 {
     let query = offered_gdb(line)?;
-    let store = words.store;
-    on_file(words.file, Action::Cached { store, query })
+    let (store, spelling) = (words.store, words.spelling);
+    let question = Question { query, spelling };
+    on_file(words.file, Action::Cached { store, question })
 }
 
 // A query of a `.debug_names`.
@@ -194,7 +221,10 @@ fn looked_names<'w>(words: &LookNames<'w>, line: &'w [u8]) -> Option<Task<'w>>
     Some(Task::OnFile(OnFile {
         file: words.index,
         action: Action::LookNames {
-            base: words.base,
+            look: NamesLook {
+                base: words.base,
+                spelling: words.spelling,
+            },
             strings: words.strings,
             name,
         },

@@ -6,6 +6,7 @@ ghost use Rattle.query_text.specs.Places.{PlacesFit};
 use gdbindex_read::GdbIndex;
 use index_model::{Answer, CacheSize, Entry, Hits, Kind, MainName, Query, Reply, Text};
 use ix_base::Fault;
+use name_quotes::Spelling;
 use outside::MemSink;
 use query_text::{parse, write_elements, write_index_fault, write_reply};
 use std::alloc::{AllocError, Global};
@@ -48,7 +49,7 @@ fn is_written(alloc: Global, reply: &Reply<'_>, text: &[u8]) -> bool
     requires { PlacesFit (reply_seen reply.now) }
 {
     let mut out = MemSink::new(alloc);
-    let written = write_reply(&mut out, reply).is_ok();
+    let written = write_reply(&mut out, Spelling::Plain, reply).is_ok();
     written && out.bytes() == text
 }
 
@@ -68,6 +69,33 @@ fn replies_without_entries(rt: HostRuntime) {
         is_written(alloc, &Reply::Refused(FAULT), b"refused 19 c\n"),
     ];
     assert_eq!(rt; written, [true; 5]);
+}
+
+// A name that forges a reply, in each spelling.
+fn is_forged(alloc: Global, spelling: Spelling, text: &[u8]) -> bool {
+    let reply = Reply::Answer(Answer::Main(Some(MainName {
+        language: 0x1d,
+        name: b"a\nfound 9\x1b\x7f\\\xc3",
+    })));
+    let mut out = MemSink::new(alloc);
+    let written = write_reply(&mut out, spelling, &reply).is_ok();
+    written && out.bytes() == text
+}
+
+#[test]
+fn names_that_forge_lines(rt: HostRuntime) {
+    let alloc = rt.alloc();
+    let plain = is_forged(
+        alloc,
+        Spelling::Plain,
+        b"main 1d a\nfound 9\x1b\x7f\\\xc3\n",
+    );
+    let quoted = is_forged(
+        alloc,
+        Spelling::Quoted,
+        b"main 1d a\\x0afound 9\\x1b\\x7f\\x5c\xc3\n",
+    );
+    assert_eq!(rt; [plain, quoted], [true; 2]);
 }
 
 fn entry(offset: u64, kind: Kind, local: bool, name: &'static [u8]) -> Entry<'static> {
@@ -96,7 +124,8 @@ fn are_written(alloc: Global, text: &[u8]) -> Result<bool, AllocError> {
         entries: &entries,
         places: &[0, 1],
     };
-    let written = write_reply(&mut out, &Reply::Answer(Answer::Entries(hits))).is_ok();
+    let reply = Reply::Answer(Answer::Entries(hits));
+    let written = write_reply(&mut out, Spelling::Plain, &reply).is_ok();
     Ok(written && out.bytes() == text)
 }
 
@@ -115,7 +144,8 @@ fn calls(alloc: Global) -> (bool, u64) {
         places: &[0; 200],
     };
     let mut out = MemSink::new(alloc);
-    let written = write_reply(&mut out, &Reply::Answer(Answer::Entries(hits))).is_ok();
+    let reply = Reply::Answer(Answer::Entries(hits));
+    let written = write_reply(&mut out, Spelling::Plain, &reply).is_ok();
     (written, out.calls())
 }
 
@@ -128,7 +158,7 @@ fn two_hundred_entries_take_two_writes(rt: HostRuntime) {
 // Whether the elements of a name and a fault of the index are written as this text.
 fn are_told(alloc: Global, gdb: &GdbIndex<'_>, name: &[u8], fault: Fault, text: &[u8]) -> bool {
     let mut out = MemSink::new(alloc);
-    let elements = write_elements(&mut out, name, &gdb.find(name)).is_ok();
+    let elements = write_elements(&mut out, Spelling::Plain, name, &gdb.find(name)).is_ok();
     let refused = write_index_fault(&mut out, fault).is_ok();
     elements && refused && out.bytes() == text
 }

@@ -6,6 +6,7 @@ ghost use Rattle.stage_lock.specs.Seen.{IsPassOf};
 use index_board::{Board, Pass, Reader};
 use index_model::{CacheKind, Job, Moment};
 use index_pool::build;
+use name_quotes::Spelling;
 use outside::{Failed, Gate, MemSource, NoGate, Sink};
 use query_text::{LineBuf, session};
 use std::alloc::Global;
@@ -67,7 +68,7 @@ fn seen<R: Wait>(
         written: &written,
         told: Cell::new([None; 2]),
     };
-    let ended = session(rt, 7, reader, input, &mut out, line, &gate).is_ok();
+    let ended = session(rt, 7, Spelling::Plain, reader, input, &mut out, line, &gate).is_ok();
     ended.then_some((gate.told.get(), written.get()))
 }
 

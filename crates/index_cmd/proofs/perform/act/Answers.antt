@@ -96,7 +96,7 @@ returns-in-Serve-clause-did g c told file old_reads old_stores was =
     let old = g.K.Sink.written c.args.out.now in
     let new = g.K.Sink.written call.new.out in
     subst (λ (a : Action). Does (Some (request_on file a)) told shelf input reads stores writes old new call.result) (sym c.in-Serve.is)
-    (served told shelf file c.args.bytes.now input old_reads _ _ old_stores _ _ writes was old new _ call.result call.ensures.wrote call.ensures.causes)
+    (served told shelf file c.args.bytes.now input old_reads _ _ old_stores _ _ writes was old new c.in-Serve.how call.result call.ensures.wrote call.ensures.causes)
 
 pub returns-in-Serve-clause-input : goal.returns-in-Serve-clause-input
 returns-in-Serve-clause-input g c file none = absurd (subst (λ (a : Action). ReadsNoInput (Some (request_on file a))) c.in-Serve.is none)
@@ -125,7 +125,7 @@ returns-in-Race-clause-did g c told file old_reads old_stores was =
     let old = g.K.Sink.written c.args.out.now in
     let new = g.K.Sink.written call.new.out in
     subst (λ (a : Action). Does (Some (request_on file a)) told (g.F.Shelf.files call.new.shelf) input reads stores writes old new call.result) (sym c.in-Race.is)
-    (raced told shelf file c.args.bytes.now input old_reads _ _ old_stores _ _ writes was old new _ _ (g.F.Shelf.files call.new.shelf) call.ensures.kept call.result call.ensures.wrote call.ensures.causes)
+    (raced told shelf file c.args.bytes.now input old_reads _ _ old_stores _ _ writes was old new c.in-Race.how _ (g.F.Shelf.files call.new.shelf) call.ensures.kept call.result call.ensures.wrote call.ensures.causes)
 
 pub returns-in-Aranges-clause-did : goal.returns-in-Aranges-clause-did
 returns-in-Aranges-clause-did g c told file old_reads old_stores was =

@@ -15,14 +15,14 @@ returns-in-Ok-clause-wrote g c =
     let file = c.args.script.now in
     let held = c.deref.result.now in
     let holds = subst (Holds told file) (sym c.deref.ensures.value) c.in-Ok.ensures.whole in
-    wrote_beside told file held MAX_SCRIPT_BYTES (SaysRace c.args.bytes.now c.args.readers) holds (omega (arith, c.in-Ok.ensures.bounded, ap length c.deref.ensures.value)) c.race_file.result (g.K.Sink.written c.args.out.now) (g.K.Sink.written c.race_file.new.out) c.race_file.ensures.wrote
+    wrote_beside told file held MAX_SCRIPT_BYTES (SaysRace c.args.how.spelling c.args.bytes.now c.args.how.readers) holds (omega (arith, c.in-Ok.ensures.bounded, ap length c.deref.ensures.value)) c.race_file.result (g.K.Sink.written c.args.out.now) (g.K.Sink.written c.race_file.new.out) c.race_file.ensures.wrote
 
 pub returns-in-Ok-clause-causes : goal.returns-in-Ok-clause-causes
 returns-in-Ok-clause-causes g c = causes_raced (g.F.Shelf.files c.args.shelf.now) c.args.script.now MAX_SCRIPT_BYTES _ _ c.race_file.result c.race_file.ensures.causes
 
 pub returns-in-Err-clause-wrote : goal.returns-in-Err-clause-wrote
 returns-in-Err-clause-wrote g c =
-    let says = SaysBeside (g.F.Shelf.files c.args.shelf.now) c.args.script.now MAX_SCRIPT_BYTES (SaysRace c.args.bytes.now c.args.readers) in
+    let says = SaysBeside (g.F.Shelf.files c.args.shelf.now) c.args.script.now MAX_SCRIPT_BYTES (SaysRace c.args.how.spelling c.args.bytes.now c.args.how.readers) in
     let out = g.K.Sink.written c.args.out.now in
     subst (λ (s : Status). Wrote says s out out) (sym c.status.ensures) (wrote_stopped says out c.in-Err.stop)
 

@@ -15,14 +15,14 @@ returns-in-Ok-clause-wrote g c =
     let file = c.args.strings.now in
     let held = c.deref.result.now in
     let holds = subst (Holds told file) (sym c.deref.ensures.value) c.in-Ok.ensures.whole in
-    wrote_beside told file held MAX_FILE_BYTES (λ (held : List ℕ). SaysNames c.args.bytes.now held c.args.base c.args.name.now) holds (omega (arith, c.in-Ok.ensures.bounded, ap length c.deref.ensures.value)) c.look_names.result (g.K.Sink.written c.args.out.now) (g.K.Sink.written c.look_names.new.out) c.look_names.ensures.wrote
+    wrote_beside told file held MAX_FILE_BYTES (λ (held : List ℕ). SaysNames c.args.bytes.now held c.args.look c.args.name.now) holds (omega (arith, c.in-Ok.ensures.bounded, ap length c.deref.ensures.value)) c.look_names.result (g.K.Sink.written c.args.out.now) (g.K.Sink.written c.look_names.new.out) c.look_names.ensures.wrote
 
 pub returns-in-Ok-clause-causes : goal.returns-in-Ok-clause-causes
 returns-in-Ok-clause-causes g c = causes_looked (g.F.Shelf.files c.args.shelf.now) c.args.strings.now MAX_FILE_BYTES _ _ c.look_names.result c.look_names.ensures.causes
 
 pub returns-in-Err-clause-wrote : goal.returns-in-Err-clause-wrote
 returns-in-Err-clause-wrote g c =
-    let says = SaysBeside (g.F.Shelf.files c.args.shelf.now) c.args.strings.now MAX_FILE_BYTES (λ (held : List ℕ). SaysNames c.args.bytes.now held c.args.base c.args.name.now) in
+    let says = SaysBeside (g.F.Shelf.files c.args.shelf.now) c.args.strings.now MAX_FILE_BYTES (λ (held : List ℕ). SaysNames c.args.bytes.now held c.args.look c.args.name.now) in
     let out = g.K.Sink.written c.args.out.now in
     subst (λ (s : Status). Wrote says s out out) (sym c.status.ensures) (wrote_stopped says out c.in-Err.stop)
 
