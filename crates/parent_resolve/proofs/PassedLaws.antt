@@ -1,5 +1,5 @@
 -- The members that a path passed, and the scopes around what is in them.
-use Rattle.std.proofs.Common.{◌≡◌, ℕ, ◌+◌, ◌<◌, ◌≤◌, min, List, [], ◌∷◌, ◌++◌, length, length-append, Option, Some, None, option_map, Ok, Err, Result, refl, sym, ap, subst, ◌∙◌, arith, inl, inr}
+use Rattle.std.proofs.Common.{◌≡◌, ℕ, ◌+◌, ◌<◌, ◌≤◌, min, List, [], ◌∷◌, ◌++◌, length-append, Option, Some, None, option_map, Ok, Err, Result, refl, sym, subst, ◌∙◌, arith, inl, inr}
 use Rattle.std.specs.Prelude.{IsOkAnd}
 use Rattle.std.proofs.lemmas.Bool.Decides.{leb_tells}
 use Rattle.ix_base.specs.declared.fault.Fault.{Fault}
@@ -12,7 +12,7 @@ use Rattle.shard_build.specs.Entries.{EntriesOf}
 use Rattle.parent_resolve.specs.declared.members.Step.{Step}
 use Rattle.parent_resolve.specs.declared.scope.PathMember.{PathMember}
 use Rattle.parent_resolve.specs.declared.scope.Scope.{Scope}
-use Rattle.parent_resolve.specs.Paths.{AreBefore, EndIn, ForMember, IsBefore, IsBehind, IsScopeAround, first_offset}
+use Rattle.parent_resolve.specs.Paths.{AreBefore, EndIn, ForMember, IsBefore, IsScopeAround, first_offset}
 use Rattle.parent_resolve.specs.Scopes.{IsScope, IsStep, greatest, part_length, passed_at}
 use Rattle.parent_resolve.proofs.Outwards.{at_start, ends_here, ok_and, ok_here, parent_found, reaches, rest_fits}
 

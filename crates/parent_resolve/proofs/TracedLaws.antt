@@ -1,16 +1,15 @@
 -- What counts of an entry, by its own node or by its last entry.
-use Rattle.std.proofs.Common.{◌≡◌, ℕ, Bool, true, false, ◌&&◌, ◌||◌, List, [], ◌∷◌, Option, Some, None, Result, Ok, refl, sym, ap, subst, ◌∙◌}
+use Rattle.std.proofs.Common.{◌≡◌, ℕ, Bool, true, false, ◌&&◌, ◌||◌, List, [], ◌∷◌, Option, Some, None, refl, sym, ap, subst, ◌∙◌}
 use denote.Ref.{Bor}
 use Rattle.std.specs.Prelude.{Contains, IsOkAnd, is_none, is_some}
 use Rattle.index_model.specs.declared.shard.Next.{Next}
 use Rattle.index_model.specs.declared.shard.Node.{Node}
-use Rattle.index_model.specs.Chains.{name_by_signature}
 use Rattle.index_model.specs.Program.{Program, Located}
 use Rattle.index_model.specs.ShardParts.{IsNodeOf}
 use Rattle.parent_resolve.specs.declared.chain.Chain.{Chain}
 use Rattle.parent_resolve.specs.declared.followed.Followed.{Followed}
 use Rattle.parent_resolve.specs.declared.traced.Traced.{Traced}
-use Rattle.parent_resolve.specs.Followed.{IsFollowed, Named, all_entries, followed_of}
+use Rattle.parent_resolve.specs.Followed.{IsFollowed, Named, all_entries}
 use Rattle.parent_resolve.specs.Traced.{IsTraced, IsTracedAlone}
 use Rattle.parent_resolve.proofs.ChainLaws.{alone, alone_ends, next_none, says}
 use Rattle.parent_resolve.proofs.FollowLaws.{IsSpelled, is_followed, of_chain, of_signature, text, whole}

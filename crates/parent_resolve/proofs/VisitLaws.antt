@@ -1,6 +1,6 @@
 -- Whether an entry is visited, by the nodes of a shard.
 use Rattle.std.proofs.Common.{◌≡◌, ℕ, ◌<◌, ◌≤◌, Bool, true, false, cond, eqb, not, ◌||◌, List, ◌++◌, length, flat_map, get_or, Option, Some, None, option_map, Ok, refl, sym, ap, subst, ◌∙◌, arith, ⊎_elim}
-use Rattle.std.specs.Prelude.{Contains, find, is_none, is_some, IfSome, IsNone}
+use Rattle.std.specs.Prelude.{Contains, find, is_none, is_some}
 use Rattle.std.specs.List.Sorted.{IsNonDecreasingBy}
 use Rattle.std.proofs.lemmas.Bool.{eq-eqb, ne_eqb, cases_lt, true≢false, false≢true, and_parts, and_from}
 use Rattle.std.proofs.lemmas.List.{get_or_default}
@@ -25,7 +25,7 @@ use Rattle.index_model.proofs.ShardRoots.{Numbered, program_numbered, numbered_f
 use Rattle.index_model.proofs.UnitsApart.{AreApart, run_apart}
 use Rattle.index_model.proofs.VisitedLaws.{visited_by_parent}
 use Rattle.index_model.proofs.Located.{Before, at_home, located_before}
-use Rattle.parent_resolve.specs.Visits.{IsVisitedBy, takes_importers_class, IsNodeAt, HasNoneAt}
+use Rattle.parent_resolve.specs.Visits.{IsVisitedBy, takes_importers_class, HasNoneAt}
 use Rattle.parent_resolve.proofs.Entries.{order, home_of, entry_of, found_at, above, top, IsAbove}
 use Rattle.parent_resolve.proofs.NodeLaws.{node_parts, seen_parts, node_unit, node_parent, offset_in, of_node, to_node, nodes_below, nodes_rise}
 use Rattle.parent_resolve.proofs.OpenedTags.{opens_listed}

@@ -1,5 +1,5 @@
 -- What counts of an entry whose references were followed (DWARF 5, 2.13.2, 3.3.8 and 7.32).
-use Rattle.std.specs.Prelude.{◌≡◌, ℕ, List, Contains, Option, option_map, IsOkAnd}
+use Rattle.std.specs.Prelude.{◌≡◌, Contains, option_map, IsOkAnd}
 use Rattle.index_model.specs.declared.shard.Node.{Node}
 use Rattle.index_model.specs.Program.{Program, Located}
 use Rattle.index_model.specs.Parents.{parent_offset}

@@ -1,7 +1,6 @@
-use Rattle.std.proofs.Common.{◌≡◌, Ok, Result, ap, sym, subst, ◌∙◌}
+use Rattle.std.proofs.Common.{ap, ◌∙◌}
 use Rattle.std.proofs.lemmas.Result.{err_from_is_err_and}
 use Rattle.index_model.specs.Faults.{program_of}
-use Rattle.index_model.specs.Meaning.{at_place}
 use Rattle.shard_build.specs.Entries.{EntriesOf}
 use Rattle.parent_resolve.specs.Followed.{followed_of, IsFollowed}
 use Rattle.parent_resolve.specs.Traced.{IsTraced}

@@ -1,4 +1,4 @@
-use Rattle.std.proofs.Common.{◌≡◌, ℕ, List, [], ◌∷◌, length, length-append, Option, Some, None, Result, refl, sym, ap, subst, ◌∙◌, rules, arith}
+use Rattle.std.proofs.Common.{◌≡◌, List, [], ◌∷◌, length, length-append, Some, None, Result, refl, sym, ap, subst, ◌∙◌, rules, arith}
 use Rattle.index_model.specs.Gives.{GivesFor}
 use Rattle.ix_base.specs.declared.fault.Stop.{Stop}
 use Rattle.parent_resolve.specs.declared.scope.Scope.{Scope}
