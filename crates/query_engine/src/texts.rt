@@ -16,6 +16,9 @@ const FIRST_MASK: u32 = 1023;
 
 const LAST_MASK: u32 = 1073741823;
 
+// So many bytes of a text are hashed.
+const HASHED: usize = 256;
+
 // What a slot holds: the number of a text, and the hash of it.
 #[derive(Clone, Copy)]
 struct Slot {
@@ -143,10 +146,12 @@ impl<'r> Texts<'r> {
     }
 }
 
-// The low 32 bits of a hash.
+// The low 32 bits of a hash of the length and of the last bytes, so that entries which share one long text don't cost all its
+// bytes each.
 fn hash_of(text: &[u8]) -> u32 {
     let mut hasher = FoldHasher::default();
-    hasher.write(text);
+    hasher.write_u64(text.len() as u64);
+    hasher.write(&text[text.len().saturating_sub(HASHED)..]);
     (hasher.finish() & 0xFFFF_FFFF) as u32
 }
 
