@@ -76,7 +76,10 @@ fn ask_at<F: Shelf, K: Sink>(
 {
     match read_kept(alloc, shelf, place.name.as_str()) {
         Ok(bytes) => match open(&bytes, place.id) {
-            Ok(index) => Asked::Ended(ended(tell(b"hit\n", &index, question, out), Status::Answered)),
+            Ok(index) => Asked::Ended(ended(
+                tell(b"hit\n", &index, question, out),
+                Status::Answered,
+            )),
             Err(fault) => Asked::Missed(Some(fault)),
         },
         Err(ReadStop::Fault) => Asked::Missed(None),

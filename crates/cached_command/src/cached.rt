@@ -113,7 +113,15 @@ fn answer<'f, R: Threads + Wait + Sync, F: Shelf, K: Sink, G: Gate + Sync>(
             match ask(crew.alloc, place, question, shelf, out) {
                 Asked::Ended(status) => status,
                 Asked::Missed(stale) => {
-                    build(crew, board, pass, Miss { place, stale }, question, shelf, out)
+                    build(
+                        crew,
+                        board,
+                        pass,
+                        Miss { place, stale },
+                        question,
+                        shelf,
+                        out,
+                    )
                 }
             }
         }

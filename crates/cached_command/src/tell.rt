@@ -86,7 +86,11 @@ pub(crate) fn tell<K: Sink>(
 }
 
 // Writes the answer of an index to a query that it answers.
-fn write_answer<K: Sink>(index: &GdbIndex<'_>, question: &Question<'_>, out: &mut K) -> Result<(), Failed>
+fn write_answer<K: Sink>(
+    index: &GdbIndex<'_>,
+    question: &Question<'_>,
+    out: &mut K,
+) -> Result<(), Failed>
     requires { offer_gdb (question_seen question.now).query ≡ Some (question_seen question.now).query }
     ensures ok { OnOk result (Tells index.now (question_seen question.now) (Appends (K.written out.old) (K.written out.new))) }
     ensures failed { OnErr result (Rose (K.write_faults out.old) (K.write_faults out.new)) }
@@ -103,11 +107,7 @@ fn write_answer<K: Sink>(index: &GdbIndex<'_>, question: &Question<'_>, out: &mu
 }
 
 // Writes an answer of one line.
-fn write_short<K: Sink>(
-    out: &mut K,
-    spelling: Spelling,
-    answer: Answer<'_>,
-) -> Result<(), Failed>
+fn write_short<K: Sink>(out: &mut K, spelling: Spelling, answer: Answer<'_>) -> Result<(), Failed>
     requires { PlacesFitAnswer (answer_seen answer) }
     ensures ok { OnOk result (Appends (K.written out.old) (K.written out.new) (text_of_answer (answer_in spelling (answer_seen answer.entry)))) }
     ensures failed { OnErr result (Rose (K.write_faults out.old) (K.write_faults out.new)) }

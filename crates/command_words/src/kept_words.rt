@@ -30,11 +30,7 @@ pub(crate) fn parse_cached(words: &[String]) -> Option<Cached<'_>>
 }
 
 // A file's name, that of a store, and a query.
-fn store_and_query(
-    workers: u32,
-    spelling: Spelling,
-    words: &[String],
-) -> Option<Cached<'_>>
+fn store_and_query(workers: u32, spelling: Spelling, words: &[String]) -> Option<Cached<'_>>
     requires { IsWorkers workers }
     ensures value { option_map seen_cached result ≡ store_and_query workers spelling (words_of words.now) }
     ensures workers { ForSome result (λ c. IsWorkers c.workers) }

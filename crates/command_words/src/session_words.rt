@@ -42,12 +42,7 @@ pub(crate) fn parse_serve(words: &[String]) -> Option<Serve<'_>>
 }
 
 // One file's name and nothing behind it.
-fn serve_file(
-    workers: u32,
-    wait: u8,
-    spelling: Spelling,
-    words: &[String],
-) -> Option<Serve<'_>>
+fn serve_file(workers: u32, wait: u8, spelling: Spelling, words: &[String]) -> Option<Serve<'_>>
     requires workers { IsWorkers workers }
     requires wait { wait ≤ 3 }
     ensures value { option_map seen_serve result ≡ serve_file workers wait spelling (words_of words.now) }
@@ -76,12 +71,7 @@ pub(crate) fn parse_race(words: &[String]) -> Option<Race<'_>>
 }
 
 // The names of a file and of a script, and nothing behind them.
-fn race_files(
-    workers: u32,
-    readers: u32,
-    spelling: Spelling,
-    words: &[String],
-) -> Option<Race<'_>>
+fn race_files(workers: u32, readers: u32, spelling: Spelling, words: &[String]) -> Option<Race<'_>>
     requires workers { IsWorkers workers }
     requires readers { IsReaders readers }
     ensures value { option_map seen_race result ≡ race_files workers readers spelling (words_of words.now) }

@@ -281,11 +281,7 @@ fn parse_look_names(words: &[String]) -> Option<LookNames<'_>>
 }
 
 // The names of an index and of its strings, and a query.
-fn look_names_files(
-    base: u32,
-    spelling: Spelling,
-    words: &[String],
-) -> Option<LookNames<'_>>
+fn look_names_files(base: u32, spelling: Spelling, words: &[String]) -> Option<LookNames<'_>>
     ensures { option_map seen_names result ≡ names_and_query base spelling (words_of words.now) }
 {
     let files = split_two_files(words)?;

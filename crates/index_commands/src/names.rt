@@ -38,7 +38,10 @@ pub fn look_names<K: Sink>(
     ensures counts { K.write_faults out.old ≤ K.write_faults out.new }
 {
     match NameIndex::open(alloc, bytes, strings, u64::from(look.base)) {
-        Ok(index) => ended(write_hits(out, look.spelling, name, &index), Status::Answered),
+        Ok(index) => ended(
+            write_hits(out, look.spelling, name, &index),
+            Status::Answered,
+        ),
         Err(fault) => ended(write_index_fault(out, fault), Status::IndexRefused),
     }
 }

@@ -82,7 +82,16 @@ fn serve_board<'f, R: Threads + Wait + Sync, S: Source + Send, K: Sink + Send, G
 {
     let reader = board.reader(pass);
     let mut listener = Listener { reader, line };
-    let (listened, ended) = listen_beside(crew, board, pass, &mut listener, wait, spelling, input, out);
+    let (listened, ended) = listen_beside(
+        crew,
+        board,
+        pass,
+        &mut listener,
+        wait,
+        spelling,
+        input,
+        out,
+    );
     board.join(pass, listener.end());
     status_behind(listened, ended)
 }
