@@ -1,8 +1,9 @@
 //! The strings of two programs, as readelf shows them.
 
-use file_image::{Sections, text};
+use file_image::{Sections, test_text, text};
 use index_model::Value;
 use ix_base::Stop;
+use ix_base::code::BAD_STRING;
 use test_files::programs::{STRINGS_BY_INDEX, STRINGS_BY_OFFSET};
 
 const ROWS: [(Value<'static>, Option<&'static [u8]>); 4] = [
@@ -15,6 +16,7 @@ const ROWS: [(Value<'static>, Option<&'static [u8]>); 4] = [
 // Whether a value is this string, in a unit whose part of the table of offsets begins at a base.
 fn is(sections: &Sections<'_>, base: Option<u64>, value: &Value<'_>, want: Option<&[u8]>) -> bool {
     text(sections, base, false, value) == Ok(want)
+        && test_text(sections, base, false, value) == Ok(())
 }
 
 // The number of the first row that isn't so.
@@ -31,6 +33,10 @@ fn first_other(sections: &Sections<'_>) -> Option<usize> {
 fn strings_by_offset(rt: HostRuntime) -> Result<(), Stop> {
     let sections = Sections::open(rt.alloc(), &STRINGS_BY_OFFSET)?;
     assert_eq!(rt; first_other(&sections), None);
+    assert_eq!(rt;
+        test_text(&sections, None, false, &Value::Str(4096)),
+        Err(BAD_STRING)
+    );
     Ok(())
 }
 
