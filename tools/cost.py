@@ -1,0 +1,167 @@
+#!/usr/bin/env python3
+"""python3 tools/cost.py PROGRAM [--match WORD] [--times N] [--seconds T]
+
+Makes files that cost more than their length (tools/costly), each at three sizes that double, and measures PROGRAM over them: processor
+seconds and greatest memory with one worker. From size to size both may double and grow by a logarithm; where they grow faster the row
+fails, unless its kind is told below as one that does, with the reason. --times multiplies the sizes. The last line is
+'cost: N passed, M failed'."""
+import argparse
+import math
+import os
+import resource
+import signal
+import subprocess
+import sys
+import tempfile
+
+from costly import indexes, programs
+
+SIZES = 3
+# Twice and a logarithm, with room for what a machine with other work adds.
+MOST_GROWTH = 2.7
+# What takes less than this isn't compared: processor seconds, and bytes of memory.
+LEAST_SECONDS, LEAST_BYTES = 0.3, 48 << 20
+
+ASK = ["ask", "--workers", "1", "FILE", "main"]
+GDB8 = ["index", "--as", "gdb8", "--workers", "1", "FILE", "OUT"]
+NAMES = ["index", "--as", "names", "--workers", "1", "FILE", "OUT"]
+LOOK_GDB = ["look", "gdb", "FILE", "name", "y"]
+LOOK_NAMES = ["look", "names", "FILE", "STRINGS", "name", "zz"]
+# Why a row may grow with the square.
+AGAIN = "what isn't kept is read again for each reference"
+TABLES = "a table of abbreviations is read for each unit that has another than the one before"
+WIDE = "each attribute of each entry is looked at"
+TEXTS = "names that are parts of one text are compared and hashed one by one"
+LONG = "the answer itself is that long"
+PATHS = "a path of slots is followed from its begin for each name"
+LISTS = "a list of ranges is read for each that has it"
+IMPORTS = "the importers of a partial unit are looked for one by one"
+
+# Kind, first size, words, and why it may grow with the square.
+ROWS = [
+    (programs.references_to_the_last, 4000, ASK, AGAIN),
+    (programs.signatures_of_the_last, 4000, ASK, AGAIN),
+    (programs.a_wide_root, 4000, ASK, AGAIN),
+    (programs.tables_by_turns, 8000, ASK, AGAIN),
+    (programs.chains_along_scopes, 25, ASK, AGAIN),
+    (programs.deep_scopes, 500, ASK, None),
+    (programs.two_tables, 8000, ASK, TABLES),
+    (programs.many_tables, 8000, ASK, TABLES),
+    (programs.a_wide_abbreviation, 4000, ASK, WIDE),
+    (programs.one_string, 8000, ASK, TEXTS),
+    (programs.ends_of_a_string, 4000, ASK, TEXTS),
+    (programs.ends_of_a_string, 4000, NAMES, TEXTS),
+    (programs.ada_names, 1000, ASK, TEXTS),
+    (programs.one_hash, 10000, GDB8, PATHS),
+    (programs.one_hash, 10000, NAMES, None),
+    (programs.ranges_of_all_units, 500, ASK, LISTS),
+    (programs.ranges_of_all_functions, 500, ASK, LISTS),
+    (programs.imports, 20000, ASK, IMPORTS),
+    (programs.long_scopes, 1000, ASK, LONG),
+    (programs.longest_scopes, 10, ASK, None),
+    (programs.small_entries, 200000, ASK, None),
+    (programs.below_functions, 200000, ASK, None),
+    (programs.nested_ranges, 20000, ASK, None),
+    (programs.names_behind_near_copies, 4 << 20, ASK, None),
+    (programs.small_units, 50000, ASK, None),
+    (programs.one_name, 200000, GDB8, None),
+    (indexes.one_vector, 8000, LOOK_GDB, PATHS),
+    (indexes.slots_of_one_hash, 4000, LOOK_GDB, PATHS),
+    (indexes.slots_of_ends, 8000, LOOK_GDB, TEXTS),
+    (indexes.a_wide_abbreviation, 4000, LOOK_NAMES, WIDE),
+    (indexes.one_string, 10000, LOOK_NAMES, TEXTS),
+    (indexes.one_list, 2000, LOOK_NAMES, None),
+]
+
+
+class Run:
+    """Processor seconds, greatest memory in bytes, and the status; None where the time ran out."""
+
+    def __init__(self, usage, status):
+        self.seconds, self.memory = usage.ru_utime + usage.ru_stime, usage.ru_maxrss << 10
+        self.status = os.waitstatus_to_exitcode(status)
+        if self.status in (-signal.SIGXCPU, -signal.SIGKILL):
+            self.status = None
+
+    def __str__(self):
+        told = "no end" if self.status is None else "status %d" % self.status
+        return "%.2f s, %d MB, %s" % (self.seconds, self.memory >> 20, told)
+
+
+def measured(command, seconds):
+    """A run of a command with a limit of processor seconds."""
+    def limited():
+        resource.setrlimit(resource.RLIMIT_CPU, (seconds, seconds + 1))
+        resource.setrlimit(resource.RLIMIT_CORE, (0, 0))
+
+    nothing = subprocess.DEVNULL
+    with subprocess.Popen(command, stdin=nothing, stdout=nothing, stderr=nothing, preexec_fn=limited) as child:
+        _, status, usage = os.wait4(child.pid, 0)
+        child.returncode = 0
+    return Run(usage, status)
+
+
+def made(kind, size, folder):
+    """The names of the files of a kind by the words of the rows, and their bytes together."""
+    data = kind(size)
+    parts = dict(zip(("FILE", "STRINGS"), data if isinstance(data, tuple) else (data,)))
+    names = {word: os.path.join(folder, word) for word in ("FILE", "STRINGS", "OUT")}
+    for word, content in parts.items():
+        if content is not None:
+            with open(names[word], "wb") as file:
+                file.write(content)
+    return names, sum(len(content) for content in parts.values() if content is not None)
+
+
+def runs_of(row, program, options):
+    """(bytes, run) of each size of a row, up to one that doesn't end."""
+    kind, first, words, _ = row
+    for step in range(SIZES):
+        with tempfile.TemporaryDirectory() as folder:
+            names, size = made(kind, (first << step) * options.times, folder)
+            run = measured([program, *(names.get(word, word) for word in words)], options.seconds)
+        yield size, run
+        if run.status is None:
+            return
+
+
+def growth(runs):
+    """By how much the dearer of seconds and memory grew when the bytes doubled, at the last size; None where it is too little to tell."""
+    (before, first), (size, last) = runs[-2:]
+    found = []
+    for least, small, large in (LEAST_SECONDS, first.seconds, last.seconds), (LEAST_BYTES, first.memory, last.memory):
+        if large > least:
+            found.append(2 ** (math.log2(large / max(small, least / 4)) / math.log2(size / before)))
+    return max(found, default=None)
+
+
+def main():
+    parser = argparse.ArgumentParser()
+    parser.add_argument("program")
+    parser.add_argument("--match", default="")
+    parser.add_argument("--times", type=int, default=1)
+    parser.add_argument("--seconds", type=int, default=60)
+    options = parser.parse_args()
+    program = os.path.abspath(options.program)
+    passed = failed = 0
+    for row in ROWS:
+        kind, _, words, why = row
+        name = "%s.%s" % (kind.__module__.rpartition(".")[2], kind.__name__)
+        if options.match not in name:
+            continue
+        runs = list(runs_of(row, program, options))
+        ended = runs[-1][1].status is not None
+        grew = growth(runs) if ended and len(runs) > 1 else None
+        cheap = ended and (grew is None or grew <= MOST_GROWTH)
+        if cheap or why:
+            passed += 1
+        else:
+            failed += 1
+        told = "" if cheap else ": " + (why or "grows faster than its file")
+        print("%s, %s: %s%s" % (name, " ".join(words[:3]), "; ".join("%d bytes %s" % one for one in runs), told), flush=True)
+    print("cost: %d passed, %d failed" % (passed, failed))
+    return 1 if failed else 0
+
+
+if __name__ == "__main__":
+    sys.exit(main())
