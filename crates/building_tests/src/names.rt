@@ -99,6 +99,25 @@ fn coded_names(rt: HostRuntime) -> Result<(), Fail> {
     Ok(())
 }
 
+// A package and a subprogram as GNAT codes them, joined by these bytes.
+fn joined(alloc: Global, joint: &[u8]) -> Result<Vec<u8>, Fail> {
+    let mut name = Vec::new(alloc);
+    name.extend_from_slice(&[b'p'; 200])?;
+    name.extend_from_slice(joint)?;
+    name.extend_from_slice(&[b's'; 100])?;
+    Ok(name)
+}
+
+// A coded name has no greatest length.
+#[test]
+fn long_coded_names(rt: HostRuntime) -> Result<(), Fail> {
+    let coded = joined(rt.alloc(), b"__")?;
+    let decoded = ada(rt.alloc(), &coded)? == joined(rt.alloc(), b".")?;
+    let lengths = (ada_length(&coded), ada_tail(&coded));
+    assert_eq!(rt; (decoded, lengths), (true, (301, 100)));
+    Ok(())
+}
+
 const PATH: [Option<&'static [u8]>; 3] = [Some(b"inner"), Some(b"outer"), None];
 
 fn is_scoped(alloc: Global, name: &[u8]) -> Result<bool, Fail> {

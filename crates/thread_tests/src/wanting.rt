@@ -1,4 +1,5 @@
-//! index_board and index_pool: a job of each kind wants memory, while a reader asks before and after.
+//! index_board and index_pool: a job of each kind wants memory, while a reader asks before and after; and what a job made is
+//! published when the gate is told of its end.
 
 ghost use Rattle.std.specs.Prelude.{◌≡◌, false};
 ghost use Rattle.stage_lock.specs.Seen.{IsPassOf};
@@ -26,6 +27,8 @@ const SIGNAL: Job = Job::Scan(99);
 enum Part {
     /// Takes over a job that a worker has begun.
     TakesOver(Job),
+    /// Asks while a worker is held.
+    Asks,
     Builds,
 }
 
@@ -77,6 +80,7 @@ impl<'b, 'f> Player<'b, 'f> {
     fn play<R: Threads + Wait + Sync>(&mut self, rt: &R, gate: &TestGate) {
         match self.part {
             Part::TakesOver(job) => self.take_over(rt, job, gate),
+            Part::Asks => self.ask(rt, gate),
             Part::Builds => {
                 self.ended = Some(work(rt, self.alloc, self.board, &mut self.pass, gate));
             }
@@ -93,33 +97,48 @@ impl<'b, 'f> Player<'b, 'f> {
         self.after = seen(rt, &mut reader);
         gate.arrive(rt, SIGNAL, Moment::End);
     }
+
+    // What a reader sees.
+    fn ask<R: Wait>(&mut self, rt: &R, gate: &TestGate) {
+        let board = self.board;
+        let mut reader = board.reader(&mut self.pass);
+        gate.arrive(rt, SIGNAL, Moment::Begin);
+        self.before = seen(rt, &mut reader);
+        gate.arrive(rt, SIGNAL, Moment::End);
+    }
 }
 
-// A worker's job of this kind is held until it was taken over.
-fn holds_of(job: Job) -> [Hold; 2] {
-    let begun = GateEvent::Job(job, Moment::Begin);
+// A worker is held at this moment of a job until the other thread is done.
+fn holds_at(job: Job, moment: Moment) -> [Hold; 2] {
+    let held = GateEvent::Job(job, moment);
     [
         Hold {
             held: GateEvent::Job(SIGNAL, Moment::Begin),
-            until: begun,
+            until: held,
         },
         Hold {
-            held: begun,
+            held,
             until: GateEvent::Job(SIGNAL, Moment::End),
         },
     ]
 }
 
-/// What a reader saw before and after a job wanted memory, and how the build ended.
-type Stopped = (Option<Seen>, Option<Seen>, Option<Ended>);
+/// What a reader saw while a worker was held, what it saw once the job had wanted memory, and how the build ended.
+type Played = (Option<Seen>, Option<Seen>, Option<Ended>);
 
-// A build by one worker, whose job wants memory.
-fn stopped_at<R: Threads + Wait + Sync>(rt: &R, alloc: Global, job: Job) -> Result<Stopped, Fail> {
-    let gate = TestGate::new(alloc, &holds_of(job))?;
+// A build by one worker, which is held at this moment of a job, while the other thread does its part.
+fn played_at<R: Threads + Wait + Sync>(
+    rt: &R,
+    alloc: Global,
+    part: Part,
+    job: Job,
+    moment: Moment,
+) -> Result<Played, Fail> {
+    let gate = TestGate::new(alloc, &holds_at(job, moment))?;
     let (board, mut pass) = Board::open(alloc, &PLAIN, CacheKind::Gdb8, 1)?;
-    let stopped = played(rt, alloc, &board, &mut pass, job, &gate);
+    let played = played(rt, alloc, &board, &mut pass, part, &gate);
     board.close(pass);
-    Ok(stopped)
+    Ok(played)
 }
 
 fn played<'f, R: Threads + Wait + Sync>(
@@ -127,9 +146,9 @@ fn played<'f, R: Threads + Wait + Sync>(
     alloc: Global,
     board: &Board<'f>,
     pass: &mut Pass<'f>,
-    job: Job,
+    part: Part,
     gate: &TestGate,
-) -> Stopped
+) -> Played
     requires own { IsPassOf board.now pass.old }
     requires idle { pass.old.holding ≡ false }
     ensures own { IsPassOf board.now pass.new }
@@ -137,7 +156,7 @@ fn played<'f, R: Threads + Wait + Sync>(
 {
     let (own, other) = (board.split(pass), board.split(pass));
     let mut players = [
-        Player::new(Part::TakesOver(job), alloc, board, own),
+        Player::new(part, alloc, board, own),
         Player::new(Part::Builds, alloc, board, other),
     ];
     for_each_mut(
@@ -162,9 +181,28 @@ fn a_job_of_each_kind_wants_memory(rt: HostRuntime) -> Result<(), Fail> {
         (Job::Write, 2, table),
     ];
     for (job, stage, kept) in kinds {
-        let stopped = stopped_at(&rt, rt.alloc(), job)?;
+        let part = Part::TakesOver(job);
+        let stopped = played_at(&rt, rt.alloc(), part, job, Moment::Begin)?;
         let (before, after) = ((stage, false, kept), (5, true, kept));
         assert_eq!(rt; stopped, (Some(before), Some(after), Some(Ended::Stopped)));
+    }
+    Ok(())
+}
+
+#[test]
+fn what_a_job_made_is_published_at_its_end(rt: HostRuntime) -> Result<(), Fail> {
+    let (none, summary, table) = ([false; 3], [true, false, false], [true, true, false]);
+    let kinds = [
+        (Job::Scan(0), 0, none),
+        (Job::Link(0), 0, none),
+        (Job::Main, 1, summary),
+        (Job::Name(0), 1, summary),
+        (Job::Merge, 2, table),
+        (Job::Write, 3, [true; 3]),
+    ];
+    for (job, stage, kept) in kinds {
+        let told = played_at(&rt, rt.alloc(), Part::Asks, job, Moment::End)?;
+        assert_eq!(rt; told, (Some((stage, false, kept)), None, Some(Ended::Done)));
     }
     Ok(())
 }
