@@ -30,7 +30,6 @@ LOOK_NAMES = ["look", "names", "FILE", "STRINGS", "name", "zz"]
 # Why a row may grow with the square.
 AGAIN = "what isn't kept is read again for each reference"
 TABLES = "a table of abbreviations is read for each unit that has another than the one before"
-WIDE = "each attribute of each entry is looked at"
 TEXTS = "names that are parts of one text are compared and hashed one by one"
 LONG = "the answer itself is that long"
 PATHS = "a path of slots is followed from its begin for each name"
@@ -41,24 +40,24 @@ IMPORTS = "the importers of a partial unit are looked for one by one"
 ROWS = [
     (programs.references_to_the_last, 4000, ASK, AGAIN),
     (programs.signatures_of_the_last, 4000, ASK, AGAIN),
-    (programs.a_wide_root, 4000, ASK, AGAIN),
+    (programs.a_wide_root, 4000, ASK, None),
     (programs.tables_by_turns, 8000, ASK, AGAIN),
-    (programs.chains_along_scopes, 25, ASK, AGAIN),
-    (programs.deep_scopes, 500, ASK, None),
+    (programs.chains_along_scopes, 250, ASK, AGAIN),
+    (programs.deep_scopes, 2000, ASK, AGAIN),
     (programs.two_tables, 8000, ASK, TABLES),
     (programs.many_tables, 8000, ASK, TABLES),
-    (programs.a_wide_abbreviation, 4000, ASK, WIDE),
-    (programs.one_string, 8000, ASK, TEXTS),
-    (programs.ends_of_a_string, 4000, ASK, TEXTS),
+    (programs.a_wide_abbreviation, 16000, ASK, None),
+    (programs.one_string, 8000, GDB8, TEXTS),
+    (programs.ends_of_a_string, 4000, GDB8, TEXTS),
     (programs.ends_of_a_string, 4000, NAMES, TEXTS),
-    (programs.ada_names, 1000, ASK, TEXTS),
+    (programs.ada_names, 1000, GDB8, LONG),
     (programs.one_hash, 10000, GDB8, PATHS),
     (programs.one_hash, 10000, NAMES, None),
     (programs.ranges_of_all_units, 500, ASK, LISTS),
     (programs.ranges_of_all_functions, 500, ASK, LISTS),
     (programs.imports, 20000, ASK, IMPORTS),
-    (programs.long_scopes, 1000, ASK, LONG),
-    (programs.longest_scopes, 10, ASK, None),
+    (programs.long_scopes, 1000, GDB8, LONG),
+    (programs.longest_scopes, 10, GDB8, LONG),
     (programs.small_entries, 200000, ASK, None),
     (programs.below_functions, 200000, ASK, None),
     (programs.nested_ranges, 20000, ASK, None),
@@ -68,9 +67,9 @@ ROWS = [
     (indexes.one_vector, 8000, LOOK_GDB, PATHS),
     (indexes.slots_of_one_hash, 4000, LOOK_GDB, PATHS),
     (indexes.slots_of_ends, 8000, LOOK_GDB, TEXTS),
-    (indexes.a_wide_abbreviation, 4000, LOOK_NAMES, WIDE),
-    (indexes.one_string, 10000, LOOK_NAMES, TEXTS),
-    (indexes.one_list, 2000, LOOK_NAMES, None),
+    (indexes.a_wide_abbreviation, 16000, LOOK_NAMES, None),
+    (indexes.one_string, 80000, LOOK_NAMES, None),
+    (indexes.one_list, 16000, LOOK_NAMES, None),
 ]
 
 
@@ -126,12 +125,14 @@ def runs_of(row, program, options):
 
 
 def growth(runs):
-    """By how much the dearer of seconds and memory grew when the bytes doubled, at the last size; None where it is too little to tell."""
+    """By how much the dearer of seconds and memory grew with the last doubling of the bytes, or of the size where the bytes hardly grew;
+    None where it is too little to tell."""
     (before, first), (size, last) = runs[-2:]
+    doublings = math.log2(size / before) if size > 1.5 * before else 1
     found = []
     for least, small, large in (LEAST_SECONDS, first.seconds, last.seconds), (LEAST_BYTES, first.memory, last.memory):
         if large > least:
-            found.append(2 ** (math.log2(large / max(small, least / 4)) / math.log2(size / before)))
+            found.append(2 ** (math.log2(large / max(small, least / 4)) / doublings))
     return max(found, default=None)
 
 
