@@ -3,6 +3,7 @@ mod GroupLaws
 mod PositionLaws
 mod NumberLaws
 mod SlotLaws
+mod FrontLaws
 mod DistinctLaws
 mod UnitLaws
 mod PartLaws

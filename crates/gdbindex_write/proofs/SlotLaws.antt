@@ -5,12 +5,12 @@ use Rattle.std.specs.List.{list_any}
 use Rattle.std.proofs.lemmas.Bool.Decides.{nat_tests}
 use Rattle.std.proofs.lemmas.List.{take_more, take_all, length-take-le, length-set, length-replicate, get_or-replicate, get_or-set_same, get_or-set_other}
 use Rattle.std.proofs.lemmas.List.FromFn.{length-map-range_with_len, get_or-map-range_with_len, fill_by_all}
-use Rattle.std.proofs.lemmas.Nat.{mod_below}
+use Rattle.std.proofs.lemmas.Nat.{mod_below, mul-mod_first}
 use Rattle.std.proofs.Math.Nat.{mod-add-mod}
 use Rattle.std.proofs.lemmas.Bool.{or_parts, le-leb, lt-leb}
 use Rattle.index_model.specs.Layout.{below}
 use Rattle.index_model.specs.Hashes.{path, gdb_hash, odd, slot_on_path}
-use Rattle.index_model.specs.GdbSlots.{slot_count, slots_of, slots_behind, free_slot, AreOwn}
+use Rattle.index_model.specs.GdbSlots.{slot_count, slots_of, slots_behind, free_slot, AreOwn, ArePlaced}
 use Rattle.index_model.proofs.SlotLaws.{each_name_has_its_slot}
 use Rattle.gdbindex_write.specs.Slots.{is_free, numbers_at}
 use Rattle.gdbindex_write.proofs.PositionLaws.{is_some_position, position_push, position_keep, find_same, find_below}
@@ -35,18 +35,16 @@ regroup true true r = refl
 regroup true false r = refl
 regroup false t r = refl
 
-abbrev first_free : ℕ → (ℕ → Bool) → List ℕ → ℕ
-first_free slots taken name = unwrap_or (find (λ s. not (taken s)) (path slots name)) 0
-
-slot_behind : (slots : ℕ) (taken : List ℕ) (names : List (List ℕ)) (k : ℕ) → k < length names
-    → get_or (slots_behind slots taken names) k 0 ≡ first_free slots (λ s. list_any (eqb s) taken || list_any (eqb s) (take k (slots_behind slots taken names))) (get_or names k [])
-unfolding slots_behind
-slot_behind slots taken [] k lt = absurd (omega arith)
-slot_behind slots taken (n ∷ ns) zero lt = sym (λ i. first_free slots (λ s. or_false (list_any (eqb s) taken) i) n)
-slot_behind slots taken (n ∷ ns) (suc k) lt =
-    let slot : ℕ = first_free slots (λ s. list_any (eqb s) taken) n in
-    let rest : List ℕ = take k (slots_behind slots (slot ∷ taken) ns) in
-    slot_behind slots (slot ∷ taken) ns k (omega arith) ∙ (λ i. first_free slots (λ s. regroup (eqb s slot) (list_any (eqb s) taken) (list_any (eqb s) rest) i) (get_or ns k []))
+-- a placed name has the first slot on its path that isn't taken and that no name before it has
+placed_at : (slots : ℕ) (taken : List ℕ) (names : List (List ℕ)) (ss : List ℕ) (k : ℕ) → ArePlaced slots taken names ss → k < length names
+    → find (λ s. not (list_any (eqb s) taken || list_any (eqb s) (take k ss))) (path slots (get_or names k [])) ≡ Some (get_or ss k 0)
+placed_at slots taken [] ss k placed lt = absurd (omega arith)
+placed_at slots taken (n ∷ ns) [] k placed lt = absurd placed
+placed_at slots taken (n ∷ ns) (s ∷ ss) zero placed lt = (λ i. find (λ x. not (or_false (list_any (eqb x) taken) i)) (path slots n)) ∙ placed.0
+placed_at slots taken (n ∷ ns) (s ∷ ss) (suc k) placed lt =
+    let rest : List ℕ = take k ss in
+    (λ i. find (λ x. not (sym (regroup (eqb x s) (list_any (eqb x) taken) (list_any (eqb x) rest)) i)) (path slots (get_or ns k [])))
+    ∙ placed_at slots (s ∷ taken) ns ss k placed.1 (omega arith)
 
 -- ---- slots that no two names share
 
@@ -93,6 +91,26 @@ module _ (count : ℕ) (ss : List ℕ) where
               let other : j ≢ s = λ is. true≢false (sym (let same : eqb j s ≡ true = grind (arith, nat_tests) in same) ∙ e) in
               get_or-set_other (numbers_at count ss) s j (Some (length ss)) None other ∙ number_at j less ∙ sym (position_keep (eqb j) ss s e)
 
+-- ---- along a path
+
+pub path_first : (slots hash : ℕ) → hash % slots ≡ slot_on_path slots hash 0
+path_first slots hash =
+    let step = odd (hash * 17 % slots) in
+    let start : hash ≡ hash + 0 * step = omega arith in
+    ap (λ (n : ℕ). n % slots) start
+
+pub path_next : (slots hash i : ℕ) → (slot_on_path slots hash i + odd (hash * 17 % slots)) % slots ≡ slot_on_path slots hash (i + 1)
+path_next slots hash i = along (odd (hash * 17 % slots))
+  where
+    along : (step : ℕ) → ((hash + i * step) % slots + step) % slots ≡ (hash + (i + 1) * step) % slots
+    along step =
+        let next : (hash + i * step) + step ≡ hash + (i + 1) * step = omega arith in
+        mod-add-mod (hash + i * step) slots step ∙ ap (λ (n : ℕ). n % slots) next
+
+-- the path of a hash is that of the slot that it begins with
+same_path : (slots hash i : ℕ) → slot_on_path slots (hash % slots) i ≡ slot_on_path slots hash i
+same_path slots hash i = ap (λ (n : ℕ). (hash % slots + i * odd n) % slots) (mul-mod_first hash 17 slots) ∙ mod-add-mod hash slots (i * odd (hash * 17 % slots))
+
 -- ---- the loop over names
 
 module _ (names : List (List ℕ)) (small : length names < 2 ^ 60) where
@@ -101,13 +119,15 @@ module _ (names : List (List ℕ)) (small : length names < 2 ^ 60) where
 
   -- the slot that is found in the table so far is the name's own
   pub found_slot : (k hash : ℕ) → k < length names → 0 < count → hash ≡ gdb_hash (get_or names k [])
-      → unwrap_or (find (is_free (numbers_at count (take k (slots_of names)))) (map (slot_on_path count hash) (below count))) 0 ≡ get_or (slots_of names) k 0
+      → find (is_free (numbers_at count (take k (slots_of names)))) (map (slot_on_path count (hash % count)) (below count)) ≡ Some (get_or (slots_of names) k 0)
   unfolding slots_of path
   found_slot k hash lt some is =
       let ss = take k (slots_behind count [] names) in
-      let own = slot_behind count [] names k lt in
-      ap (λ (o : Option ℕ). unwrap_or o 0) (find_same (is_free (numbers_at count ss)) (λ s. not (list_any (eqb s) ss)) (slot_on_path count hash) (below count) (λ i. free_is count ss (slot_on_path count hash i) (mod_below _ count some))
-      ∙ ap (λ (h : ℕ). find (λ s. not (list_any (eqb s) ss)) (map (slot_on_path count h) (below count))) is) ∙ sym own
+      let free = λ (s : ℕ). not (list_any (eqb s) ss) in
+      find_same (is_free (numbers_at count ss)) free (slot_on_path count (hash % count)) (below count) (λ i. free_is count ss (slot_on_path count (hash % count) i) (mod_below _ count some))
+      ∙ (λ i. find free (map (λ j. same_path count hash j i) (below count)))
+      ∙ ap (λ (h : ℕ). find free (map (slot_on_path count h) (below count))) is
+      ∙ placed_at count [] names (slots_behind count [] names) k (each_name_has_its_slot names small).0 lt
 
   own_slot : (k : ℕ) → k < length names → Own count [] (slots_of names) k
   unfolding slots_of
@@ -138,22 +158,6 @@ count_is n k some lt before is =
     let not_none : eqb n 0 ≡ false = grind (arith, nat_tests) in
     rw (not_none, find_below (λ s. leb (4 * n) (3 * s)) (λ j. 2 ^ j) 64 k lt before is) refl
 
--- ---- along a path
-
-pub path_first : (slots hash : ℕ) → hash % slots ≡ slot_on_path slots hash 0
-path_first slots hash =
-    let step = odd (hash * 17 % slots) in
-    let start : hash ≡ hash + 0 * step = omega arith in
-    ap (λ (n : ℕ). n % slots) start
-
-pub path_next : (slots hash i : ℕ) → (slot_on_path slots hash i + odd (hash * 17 % slots)) % slots ≡ slot_on_path slots hash (i + 1)
-path_next slots hash i = along (odd (hash * 17 % slots))
-  where
-    along : (step : ℕ) → ((hash + i * step) % slots + step) % slots ≡ (hash + (i + 1) * step) % slots
-    along step =
-        let next : (hash + i * step) + step ≡ hash + (i + 1) * step = omega arith in
-        mod-add-mod (hash + i * step) slots step ∙ ap (λ (n : ℕ). n % slots) next
-
 -- ---- the empty table
 
 pub no_numbers : (count : ℕ) → replicate count None ≡ numbers_at count []
@@ -172,12 +176,13 @@ no_slots = refl
 
 -- ---- the slot that the table gives
 
-pub found_in : (names : List (List ℕ)) → length names < 2 ^ 60 → (k hash : ℕ) (slots : List (Option ℕ)) (r : ℕ) → k < length names → hash ≡ gdb_hash (get_or names k []) → slots ≡ numbers_at (slot_count (length names)) (take k (slots_of names))
-    → r ≡ unwrap_or (find (is_free slots) (map (slot_on_path (length slots) hash) (below (length slots)))) 0 → r ≡ get_or (slots_of names) k 0
-found_in names small k hash slots r lt is made found =
+pub found_in : (names : List (List ℕ)) → length names < 2 ^ 60 → (k hash begin : ℕ) (slots : List (Option ℕ)) → k < length names → hash ≡ gdb_hash (get_or names k []) → begin ≡ hash % slot_count (length names) → slots ≡ numbers_at (slot_count (length names)) (take k (slots_of names))
+    → find (is_free slots) (map (slot_on_path (length slots) begin) (below (length slots))) ≡ Some (get_or (slots_of names) k 0)
+found_in names small k hash begin slots lt is begins made =
     let count : ℕ = slot_count (length names) in
     let front : List ℕ = take k (slots_of names) in
     let some : 0 < count = omega (arith, slot_within names small k lt) in
-    found ∙ ap (λ (s : List (Option ℕ)). unwrap_or (find (is_free s) (map (slot_on_path (length s) hash) (below (length s)))) 0) made
-    ∙ ap (λ (n : ℕ). unwrap_or (find (is_free (numbers_at count front)) (map (slot_on_path n hash) (below n))) 0) (numbers_length count front)
+    ap (λ (s : List (Option ℕ)). find (is_free s) (map (slot_on_path (length s) begin) (below (length s)))) made
+    ∙ ap (λ (n : ℕ). find (is_free (numbers_at count front)) (map (slot_on_path n begin) (below n))) (numbers_length count front)
+    ∙ ap (λ (b : ℕ). find (is_free (numbers_at count front)) (map (slot_on_path count b) (below count))) begins
     ∙ found_slot names small k hash lt some is

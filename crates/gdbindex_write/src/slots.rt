@@ -1,10 +1,10 @@
 //! Which name stands in which slot of the symbol table (GDB manual, "Index Section Format").
 
-ghost use Rattle.std.specs.Prelude.{◌≡◌, ◌<◌, ◌^◌, length, map, find, replicate, unwrap_or, None, IfOk};
+ghost use Rattle.std.specs.Prelude.{◌≡◌, ◌<◌, ◌^◌, ℕ, length, map, find, replicate, slice_index, Some, None, IfOk};
 ghost use Rattle.index_model.specs.Layout.{below};
 ghost use Rattle.index_model.specs.Hashes.{gdb_hash, lower, odd, slot_on_path};
 ghost use Rattle.index_model.specs.GdbSlots.{slot_count, slots_of};
-ghost use Rattle.gdbindex_write.specs.Slots.{is_free, numbers_in_slots};
+ghost use Rattle.gdbindex_write.specs.Slots.{is_free, numbers_in_slots, IsFront};
 ghost use Rattle.gdbindex_write.specs.Symbols.{names_of};
 
 use crate::symbols::Symbol;
@@ -32,6 +32,8 @@ pub(crate) fn slot_count(names: u64) -> u64
 }
 
 /// The number of the name in each slot. Names go in their order, each into the first slot on its path that is still free.
+///
+/// Slots only fill, so a path is followed on from where its last name went: names that share one path pass its slots once.
 pub(crate) fn numbers_in_slots(
     alloc: Global,
     symbols: &[Symbol<'_>],
@@ -41,8 +43,12 @@ pub(crate) fn numbers_in_slots(
 {
     let count = slot_count(symbols.len() as u64) as usize;
     let mut slots = empty_slots(alloc, count)?;
+    // Where each path is followed on, by the slot that it begins with.
+    let mut fronts = path_begins(alloc, count)?;
     for (number, symbol) in symbols.iter().enumerate() {
-        let slot = free_slot(&slots, gdb_hash(symbol.name));
+        let begin = gdb_hash(symbol.name) as usize % count;
+        let slot = free_slot(&slots, begin, fronts[begin]);
+        fronts[begin] = slot;
         slots[slot] = Some(number as u32);
     }
     Ok(slots)
@@ -59,24 +65,36 @@ fn empty_slots(alloc: Global, count: usize) -> Result<Vec<Option<u32>>, NoMemory
     Ok(slots)
 }
 
-// The first free slot on the path of a hash, or 0 where none is free.
-fn free_slot(slots: &[Option<u32>], hash: u32) -> usize
-    requires some { 0 < length slots.now }
+// The begin of the path that begins with each of so many slots.
+fn path_begins(alloc: Global, count: usize) -> Result<Vec<usize>, NoMemory>
+    ensures size { IfOk result (λ v. length v.items ≡ count) }
+    ensures each { IfOk result (λ v. (begin : ℕ) → begin < count → slice_index v.items begin ≡ begin) }
+{
+    let mut fronts = Vec::with_capacity(alloc, count)?;
+    for begin in 0..count {
+        fronts.push(begin)?;
+    }
+    Ok(fronts)
+}
+
+// The first free slot on the path that begins with a slot, if one is free. No slot of the path before its front is.
+fn free_slot(slots: &[Option<u32>], begin: usize, front: usize) -> usize
+    requires begin { begin < length slots.now }
     requires few { length slots.now < 2 ^ 34 }
-    ensures { result ≡ unwrap_or (find (is_free slots.now) (map (slot_on_path (length slots.now) hash) (below (length slots.now)))) 0 }
+    requires front { IsFront slots.now begin front }
+    ensures { (slot : ℕ) → find (is_free slots.now) (map (slot_on_path (length slots.now) begin) (below (length slots.now))) ≡ Some slot → (result ≡ slot) × IsFront slots.now begin result }
 {
     let count = slots.len();
-    let hash = hash as usize;
     // The step is odd, so that the path has each slot.
-    let step = odd(hash * 17 % count);
-    let mut slot = hash % count;
+    let step = odd(begin * 17 % count);
+    let mut slot = front;
     for tried in 0..count {
         if slots[slot].is_none() {
             return slot;
         }
         slot = (slot + step) % count;
     }
-    0
+    front
 }
 
 // The number with its lowest bit set.
