@@ -2,7 +2,6 @@ mod NumberTables
 mod Fuel
 mod Readings
 mod ValueLaws
-mod TextLaws
 mod CountingLaws
 mod Opened
 mod BucketLaws

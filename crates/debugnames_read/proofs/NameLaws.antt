@@ -14,7 +14,7 @@ use Rattle.index_model.specs.NameTables.{Tables}
 use Rattle.index_model.specs.Strings.{offset_size}
 use Rattle.index_model.proofs.FirstFaults.{then_none, then_some}
 use Rattle.debugnames_read.specs.Names.{list_at, string_at, up_to}
-use Rattle.debugnames_read.specs.Texts.{text_in}
+use Rattle.string_ends.specs.Texts.{text_in}
 use Rattle.debugnames_read.proofs.Readings.{ok_is, is_ok_by}
 use Rattle.debugnames_read.proofs.Opened.{parts}
 

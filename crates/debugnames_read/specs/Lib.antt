@@ -9,6 +9,5 @@ pub mod Entries
 pub mod Known
 pub mod Checked
 pub mod Lists
-pub mod Texts
 pub mod Names
 pub mod Hits

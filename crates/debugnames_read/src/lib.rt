@@ -26,7 +26,6 @@ mod known;
 mod names;
 mod numbers;
 mod tables;
-mod texts;
 
 pub use entry::{NameHit, Sort};
 pub use hits::NameHits;

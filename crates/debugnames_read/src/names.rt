@@ -10,17 +10,17 @@ ghost use Rattle.debugnames_read.specs.Abbreviations.{abbreviations_in};
 ghost use Rattle.debugnames_read.specs.Known.{IsKnown};
 ghost use Rattle.debugnames_read.specs.Lists.{list_from, AreSound, IsIn};
 ghost use Rattle.debugnames_read.specs.Tables.{tables_seen};
-ghost use Rattle.debugnames_read.specs.Texts.{IsLastEnd};
+ghost use Rattle.string_ends.specs.Texts.{IsLastEnd};
 
 use crate::checked::Checked;
 use crate::hash::{is_beyond_ascii, name_hash};
 use crate::header::fault;
 use crate::known::Known;
 use crate::tables::Tables;
-use crate::texts::{is_text, last_end, text_at};
 use index_model::index_code::{NAMES_BUCKET, NAMES_ENTRY_POOL, NAMES_HASH, NAMES_STRING_OFFSET};
 use ix_base::{Cursor, Fault};
 use std::alloc::Global;
+use string_ends::{is_text, last_end, text_at};
 
 /// The tables of an index, and the strings of its names. The abbreviations have no fault.
 #[derive(Drop)]

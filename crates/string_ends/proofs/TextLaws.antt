@@ -1,5 +1,5 @@
 -- Where strings begin, and whether one is a name.
-use Rattle.std.proofs.Common.{◌≡◌, ℕ, ◌+◌, ◌-◌, ◌<◌, ◌≤◌, min, Bool, true, false, cond, eqb, ltb, leb, List, ◌++◌, length, take, drop, get_or, Option, Some, None, inl, inr, refl, ap, sym, ◌∙◌, arith, length-append}
+use Rattle.std.proofs.Common.{◌≡◌, ℕ, suc, ◌+◌, ◌-◌, ◌<◌, ◌≤◌, min, Bool, true, false, cond, eqb, ltb, leb, List, [], ◌∷◌, ◌++◌, length, take, drop, get_or, Option, Some, None, inl, inr, refl, ap, sym, ◌∙◌, arith, length-append}
 use Rattle.std.specs.Prelude.{is_some, slice_index, bytes_eq}
 use Rattle.std.specs.List.{position, position_or_len}
 use Rattle.std.proofs.lemmas.Bool.{cases_lt, lt-ltb, le-ltb, le-leb, leb-true, eqb-true, eq-eqb}
@@ -9,7 +9,7 @@ use Rattle.std.proofs.lemmas.List.Sums.{position_or_len_is, fails_before_first, 
 use Rattle.std.proofs.lemmas.Slice.Eq.{bytes_eq-Decides}
 use Rattle.ix_base.specs.Reading.{before_zero}
 use Rattle.index_model.proofs.Meanings.{bind_some}
-use Rattle.debugnames_read.specs.Texts.{text_in, IsLastEnd}
+use Rattle.string_ends.specs.Texts.{text_in, IsLastEnd}
 
 abbrev is_zero : ℕ → Bool
 is_zero b = eqb b 0
@@ -44,6 +44,25 @@ ends bs text e = elim (cases_lt (first bs) (length bs)) as (λ _. Ends bs text) 
   | inl lt ↦ let both : Some (take (first bs) bs) ≡ Some text = sym (ended bs lt) ∙ e in record { within = lt; is = cc }
   | inr le ↦ let both : None ≡ Some text = sym (unended bs le) ∙ e in absurd (cc)
 ]
+
+-- ---- the first byte
+
+here : (b : ℕ) (bs : List ℕ) → eqb b 0 ≡ true → first (b ∷ bs) ≡ 0
+here b bs e = rw e refl
+
+later : (b : ℕ) (bs : List ℕ) → eqb b 0 ≡ false → first (b ∷ bs) ≡ first bs + 1
+later b bs e = rw e (omega arith)
+
+pub zero_first : (b : ℕ) (bs : List ℕ) → eqb b 0 ≡ true → before_zero (b ∷ bs) ≡ Some []
+zero_first b bs e = ended (b ∷ bs) (omega (arith, here b bs e)) ∙ ap (λ (n : ℕ). Some (take n (b ∷ bs))) (here b bs e)
+
+pub byte_first : (b : ℕ) (bs text : List ℕ) → eqb b 0 ≡ false → before_zero bs ≡ Some text → before_zero (b ∷ bs) ≡ Some (b ∷ text)
+byte_first b bs text e is =
+    let s = ends bs text is in
+    ended (b ∷ bs) (omega (arith, later b bs e, s.within)) ∙ ap (λ (n : ℕ). Some (take n (b ∷ bs))) (later b bs e ∙ next) ∙ ap (λ (xs : List ℕ). Some (b ∷ xs)) s.is
+  where
+    next : first bs + 1 ≡ suc (first bs)
+    next = omega arith
 
 -- ---- the front of a string
 

@@ -2,12 +2,12 @@
 
 ghost use Rattle.std.specs.Prelude.{◌≡◌, Some, List, ℕ, bytes_eq, option_map};
 ghost use Rattle.ix_base.specs.Reading.{before_zero};
-ghost use Rattle.debugnames_read.specs.Texts.{text_in, IsLastEnd};
+ghost use Rattle.string_ends.specs.Texts.{text_in, IsLastEnd};
 
 use ix_base::Cursor;
 
 /// The string at an offset, None where the offset passes the strings or no zero follows.
-pub(crate) fn text_at(strings: &[u8], offset: u64) -> Option<&[u8]>
+pub fn text_at(strings: &[u8], offset: u64) -> Option<&[u8]>
     ensures { option_map (λ t. t.now) result ≡ text_in strings.now offset }
 {
     if offset > strings.len() as u64 {
@@ -17,7 +17,7 @@ pub(crate) fn text_at(strings: &[u8], offset: u64) -> Option<&[u8]>
 }
 
 /// Where the last string has its end, behind its zero. Strings begin before that, and nowhere else.
-pub(crate) fn last_end(strings: &[u8]) -> usize
+pub fn last_end(strings: &[u8]) -> usize
     ensures { IsLastEnd strings.now result }
 {
     let mut end = strings.len();
@@ -28,7 +28,7 @@ pub(crate) fn last_end(strings: &[u8]) -> usize
 }
 
 /// Whether the string at the front of these bytes is a name. No more of them is read than the name has, and its zero.
-pub(crate) fn is_text(rest: &[u8], name: &[u8]) -> bool
+pub fn is_text(rest: &[u8], name: &[u8]) -> bool
     ensures { (text : List ℕ) → before_zero rest.now ≡ Some text → result ≡ bytes_eq text name.now }
 {
     let most = rest.len().min(name.len() + 1);

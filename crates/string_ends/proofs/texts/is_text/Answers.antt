@@ -1,7 +1,7 @@
 use Rattle.std.proofs.Common.{List, ℕ, arith, ap, ◌∙◌, sym}
 use Rattle.std.specs.Prelude.{bytes_eq}
-use Rattle.debugnames_read.proofs.TextLaws.{front_is, front_isnt}
-use Rattle.debugnames_read.proofs.texts.is_text.Goals as goal
+use Rattle.string_ends.proofs.TextLaws.{front_is, front_isnt}
+use Rattle.string_ends.proofs.texts.is_text.Goals as goal
 
 pub returns-in-Some : goal.returns-in-Some
 returns-in-Some c = λ text e. c.eq.ensures ∙ ap (λ (s : List ℕ). bytes_eq s c.args.name.now) (front_is c.min-most.result c.args.rest.now text c.in-Some.text.now e (sym c.in-Some.ensures))

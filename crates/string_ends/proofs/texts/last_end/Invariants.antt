@@ -1,6 +1,6 @@
 use Rattle.std.proofs.Common.{◌≡◌, ◌<◌, ◌≤◌, ℕ, length}
 use Rattle.std.specs.Prelude.{slice_index}
-use Rattle.debugnames_read.proofs.texts.last_end.Given as goal
+use Rattle.string_ends.proofs.texts.last_end.Given as goal
 
 -- no zero stands behind
 abbrev pub invariant-loop-end : goal.invariant-loop-end

@@ -6,7 +6,7 @@ use Rattle.debugnames_read.specs.Names.{tables_of, string_at}
 use Rattle.debugnames_read.proofs.Counted.{bucket_total, string_place, string_total}
 use Rattle.debugnames_read.proofs.NameLaws.{string_fault, string_found, string_wrong, unhashed}
 use Rattle.debugnames_read.proofs.Opened.{as_entries, no_text}
-use Rattle.debugnames_read.proofs.TextLaws.{no_text_here, some_text_here}
+use Rattle.string_ends.proofs.TextLaws.{no_text_here, some_text_here}
 use Rattle.debugnames_read.proofs.names.Names.check_unhashed.Goals as goal
 
 pub place-requires : goal.place-requires

@@ -4,7 +4,7 @@ use Rattle.index_model.specs.Layout.{nth}
 use Rattle.debugnames_read.specs.Names.{tables_of}
 use Rattle.debugnames_read.proofs.Counted.{string_total}
 use Rattle.debugnames_read.proofs.NameLaws.{string_below, string_from}
-use Rattle.debugnames_read.proofs.TextLaws.{begins_is}
+use Rattle.string_ends.proofs.TextLaws.{begins_is}
 use Rattle.debugnames_read.proofs.names.Names.has_string.Goals as goal
 
 pub get-offset-requires : goal.get-offset-requires

@@ -3,10 +3,10 @@ use Rattle.std.proofs.lemmas.List.{take_rest}
 use Rattle.ix_base.specs.Reading.{before_zero}
 use Rattle.index_model.specs.Layout.{nth}
 use Rattle.debugnames_read.specs.Names.{tables_of}
-use Rattle.debugnames_read.specs.Texts.{text_in}
+use Rattle.string_ends.specs.Texts.{text_in}
 use Rattle.debugnames_read.proofs.Counted.{string_total}
 use Rattle.debugnames_read.proofs.NameLaws.{string_below, string_from}
-use Rattle.debugnames_read.proofs.TextLaws.{text_from, text_inside}
+use Rattle.string_ends.proofs.TextLaws.{text_from, text_inside}
 use Rattle.debugnames_read.proofs.names.Names.has_text.Goals as goal
 
 pub get-offset-requires : goal.get-offset-requires

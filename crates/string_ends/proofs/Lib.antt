@@ -1,0 +1,3 @@
+pub mod TextLaws
+mod HashLaws
+mod TailLaws
