@@ -2,6 +2,7 @@ mod Loops
 mod Offsets
 mod Opened
 mod Vectors
+mod RunLaws
 mod Powers
 mod SlotsRead
 mod Paths

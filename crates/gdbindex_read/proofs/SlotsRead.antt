@@ -12,7 +12,7 @@ use Rattle.index_model.specs.Layout.{field}
 use Rattle.index_model.specs.GdbAreas.{Areas, items, unit_count}
 use Rattle.index_model.specs.GdbIndexRead.{Slot as FullSlot, full_slot, slot_at, slot_or_none, unit_in, reached, is_table_size}
 use Rattle.gdbindex_read.specs.declared.slots.Slot.{Slot}
-use Rattle.gdbindex_read.specs.Pool.{string_in, vector_in}
+use Rattle.gdbindex_read.specs.Pool.{are_of_units, string_in, vector_in}
 use Rattle.gdbindex_read.specs.declared.symbols.SymbolTable.{SymbolTable}
 use Rattle.gdbindex_read.specs.Areas.{item}
 use Rattle.gdbindex_read.specs.Slots.{slot_in, full_seen, slot_seen, slot_of, slots_seen, slot_count, table_of, checked_size, checked_slots, is_found_from}
@@ -49,14 +49,19 @@ module _ (a : Areas) (slot : Input) where
     pub bad_name : string_in a.pool.rest s.name ≡ None → wrong_in (slot_at a slot) ≡ Some (fault GDB_BAD_NAME slot.at)
     bad_name e = ap wrong_in (full s is) ∙ rw e refl
 
-    pub bad_vector : (name : List ℕ) → string_in a.pool.rest s.name ≡ Some name → vector_in a.pool.rest s.vector ≡ None → wrong_in (slot_at a slot) ≡ Some (fault GDB_BAD_VECTOR slot.at)
-    bad_vector name e f = ap wrong_in (full s is) ∙ rw (e, f) refl
+    pub bad_vector : (name : List ℕ) → string_in a.pool.rest s.name ≡ Some name → are_of_units (unit_count a) (vector_in a.pool.rest s.vector) ≡ false → wrong_in (slot_at a slot) ≡ Some (fault GDB_BAD_VECTOR slot.at)
+    bad_vector name e f = ap wrong_in (full s is) ∙ rw e (by (vector_in a.pool.rest s.vector) f)
+      where
+        by : (v : Option (List ℕ)) → are_of_units (unit_count a) v ≡ false → wrong_in (meaning (Some name) v) ≡ Some (fault GDB_BAD_VECTOR slot.at)
+        by None f = refl
+        by (Some es) f = rw f refl
 
-    pub bad_unit : (name es : List ℕ) → string_in a.pool.rest s.name ≡ Some name → vector_in a.pool.rest s.vector ≡ Some es → all_of es ≡ false → wrong_in (slot_at a slot) ≡ Some (fault GDB_BAD_VECTOR slot.at)
-    bad_unit name es e f t = ap wrong_in (full s is) ∙ rw (e, f, t) refl
-
-    pub good : (name es : List ℕ) → string_in a.pool.rest s.name ≡ Some name → vector_in a.pool.rest s.vector ≡ Some es → all_of es ≡ true → wrong_in (slot_at a slot) ≡ None
-    good name es e f t = ap wrong_in (full s is) ∙ rw (e, f, t) refl
+    pub good : (name : List ℕ) → string_in a.pool.rest s.name ≡ Some name → are_of_units (unit_count a) (vector_in a.pool.rest s.vector) ≡ true → wrong_in (slot_at a slot) ≡ None
+    good name e f = ap wrong_in (full s is) ∙ rw e (by (vector_in a.pool.rest s.vector) f)
+      where
+        by : (v : Option (List ℕ)) → are_of_units (unit_count a) v ≡ true → wrong_in (meaning (Some name) v) ≡ None
+        by None f = absurd cc
+        by (Some es) f = rw f refl
 
   by_offsets : (name vector : Option (List ℕ)) (y : Option FullSlot) → meaning name vector ≡ Ok y → y ≡ Some (record { at = slot.at; name = unwrap_or name []; elements = unwrap_or vector [] })
   by_offsets None vector y e = absurd cc
@@ -147,12 +152,3 @@ all_reached t count e =
     fault_from_all (reached (slots_seen t)) (λ k. (k, slot_of t k)) count
     ∙ ap (λ (n : ℕ). wrong_in (each (reached (slots_seen t)) (map (λ k. (k, slot_of t k)) (range_with_len 0 n)))) e
     ∙ ap (λ (xs : List (ℕ × Option FullSlot)). wrong_in (each (reached (slots_seen t)) xs)) (sym (numbered (slot_of t) 0 (slot_count t)))
-
--- a text that is there
-pub none_text : {X : Type 0} (r : Option X) (f : X → List ℕ) (x : Option (List ℕ)) → is_some r ≡ false → option_map f r ≡ x → x ≡ None
-none_text None f x e is = sym is
-none_text (Some t) f x e is = absurd cc
-
-pub some_text : {X : Type 0} (r : Option X) (f : X → List ℕ) (x : Option (List ℕ)) → is_some r ≡ true → option_map f r ≡ x → (t : List ℕ) × (x ≡ Some t)
-some_text None f x e is = absurd cc
-some_text (Some t) f x e is = (f t, sym is)

@@ -127,12 +127,5 @@ element bs i lt = get_or-map-range_with_len (λ k. field 4 (4 * k) bs) 0 (length
 
 -- ---- the unit of an element
 
-pub unit_past : (n x units : ℕ) → n ≡ x → units ≤ bit_and n 16777215 → ltb (x % 2 ^ 24) units ≡ false
-unit_past n x units e le =
-    let low : bit_and n 16777215 ≡ n % 2 ^ 24 = and_mask n 24 in
-    le-ltb (x % 2 ^ 24) units (omega (arith, low, le, ap (λ (y : ℕ). y % 2 ^ 24) e))
-
-pub unit_within : (n x units : ℕ) → n ≡ x → bit_and n 16777215 < units → ltb (x % 2 ^ 24) units ≡ true
-unit_within n x units e lt =
-    let low : bit_and n 16777215 ≡ n % 2 ^ 24 = and_mask n 24 in
-    lt-ltb (x % 2 ^ 24) units (omega (arith, low, lt, ap (λ (y : ℕ). y % 2 ^ 24) e))
+pub unit_is : (n units : ℕ) → ltb (bit_and n 16777215) units ≡ ltb (n % 2 ^ 24) units
+unit_is n units = ap (λ (k : ℕ). ltb k units) (and_mask n 24)

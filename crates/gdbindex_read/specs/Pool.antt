@@ -1,6 +1,8 @@
 -- What stands in the constant pool.
-use Rattle.std.specs.Prelude.{ℕ, ◌+◌, ◌*◌, ◌/◌, ◌&&◌, nat_le, if◌then◌else◌, List, length, drop, map, Option, Some, None}
+use Rattle.std.specs.Prelude.{ℕ, ◌+◌, ◌*◌, ◌/◌, Bool, false, ◌&&◌, nat_le, nat_lt, if◌then◌else◌, List, length, drop, map, Option, Some, None}
+use Rattle.std.specs.List.{list_all}
 use Rattle.ix_base.specs.Reading.{before_zero}
+use Rattle.index_model.specs.GdbIndexRead.{unit_in}
 use Rattle.index_model.specs.Layout.{below, field}
 
 -- the string at an offset, if it has an end
@@ -17,3 +19,8 @@ vector_in pool offset =
 -- the numbers of 4 bytes that stand one after the other
 abbrev pub elements_seen : List ℕ → List ℕ
 elements_seen bytes = map (λ k. field 4 (4 * k) bytes) (below (length bytes / 4))
+
+-- there is a vector, and each of its elements has one of so many units
+abbrev pub are_of_units : ℕ → Option (List ℕ) → Bool
+are_of_units units None = false
+are_of_units units (Some elements) = list_all (λ e. nat_lt (unit_in e) units) elements

@@ -1,16 +1,18 @@
 -- The slots of the symbol table.
-use Rattle.std.specs.Prelude.{Bool, true, ℕ, ◌/◌, ◌%◌, ◌&&◌, ◌==◌, if◌then◌else◌, List, [], length, map, Option, Some, None, option_map, unwrap_or, Result}
+use Rattle.std.specs.Prelude.{◌≡◌, Bool, true, ℕ, ◌/◌, ◌%◌, ◌&&◌, ◌==◌, if◌then◌else◌, List, [], length, map, Option, Some, None, option_map, unwrap_or, Result}
 use Rattle.ix_base.specs.declared.fault.Fault.{Fault}
 use Rattle.ix_base.specs.Reading.{Input}
 use Rattle.index_model.specs.declared.index_code.TheConstants.{GDB_TABLE_SIZE}
 use Rattle.index_model.specs.Meaning.{◌>>◌, each, fault, holds_or}
 use Rattle.index_model.specs.Layout.{below, field}
-use Rattle.index_model.specs.GdbAreas.{Areas, items}
+use Rattle.index_model.specs.GdbAreas.{Areas, items, unit_count}
 use Rattle.index_model.specs.GdbIndexRead.{Slot as FullSlot, is_found, is_table_size, slot_at, slot_or_none}
+use Rattle.gdbindex_read.specs.declared.slots.Limits.{Limits}
 use Rattle.gdbindex_read.specs.declared.slots.Slot.{Slot}
 use Rattle.gdbindex_read.specs.declared.symbols.SymbolTable.{SymbolTable}
 use Rattle.gdbindex_read.specs.Areas.{area_seen, item}
 use Rattle.gdbindex_read.specs.Pool.{string_in, vector_in}
+use Rattle.string_ends.specs.Texts.{IsLastEnd}
 
 -- the offsets in the bytes of a slot, unless it is empty
 abbrev pub slot_in : List ℕ → Option Slot
@@ -31,6 +33,11 @@ full_seen pool at slot = record { at = at; name = name_in pool slot.name; elemen
 -- the slot in these bytes
 abbrev pub slot_seen : List ℕ → Input → Option FullSlot
 slot_seen pool slot = option_map (full_seen pool slot.at) (slot_in slot.rest)
+
+-- the limits are those of an index
+pub record AreLimits (a : Areas) (l : Limits) : Type 0 where
+  pub units : l.units ≡ unit_count a
+  pub end : IsLastEnd a.pool.rest l.end
 
 -- the symbol table
 abbrev pub table_of : SymbolTable → Input

@@ -17,10 +17,17 @@ pub struct Elements<'a> {
     bytes: &'a [u8],
 }
 
-const ELEMENT_LENGTH: usize = 4;
+pub(crate) const ELEMENT_LENGTH: usize = 4;
 
 /// The bits of an element that are the index number of its unit.
 const UNIT_BITS: u32 = 0x00ff_ffff;
+
+/// Whether an element has the index number of one of so many units.
+pub(crate) fn is_of(element: u32, units: usize) -> bool
+    ensures { result ≡ nat_lt (unit_in element) units }
+{
+    ((element & UNIT_BITS) as usize) < units
+}
 
 impl<'a> Model for Elements<'a> {
     ghost use Rattle.std.specs.Prelude.{List, ℕ};
@@ -82,7 +89,7 @@ impl<'a> Elements<'a> {
     {
         let count = self.len();
         for i in 0..count {
-            if (self.get(i) & UNIT_BITS) as usize >= units {
+            if !is_of(self.get(i), units) {
                 return false;
             }
         }

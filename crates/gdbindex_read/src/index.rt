@@ -13,6 +13,7 @@ use crate::shortcut::Shortcut;
 use crate::symbols::SymbolTable;
 use index_model::MainName;
 use ix_base::Fault;
+use std::alloc::Global;
 use std::marker::Model;
 
 /// A `.gdb_index` without a fault. It borrows the bytes, and contracts see what they mean.
@@ -38,27 +39,27 @@ impl<'a> Model for GdbIndex<'a> {
 impl<'a> GdbIndex<'a> {
     /// The index in these bytes, or its first fault, with its place in them.
     ///
-    /// Each name is read, hashed and looked up once, and each vector read once. On an index that a writer made this is near
-    /// linear in its length. At worst each slot costs as much as all of the constant pool, where the names are ends of one
-    /// text or the slots share one vector; and where all slots are full, as much as the whole table, each of whose names
-    /// is then compared.
-    pub fn open(bytes: &'a [u8]) -> Result<GdbIndex<'a>, Fault>
+    /// Whatever the bytes are, no part of the constant pool is read again for each slot that has it: strings that are ends of one
+    /// text are hashed in one pass, vectors that many slots share or that begin inside one another are read once, and slots whose
+    /// names share a path are found in one walk along it. So this costs n log n. It takes memory in proportion to the bytes; where
+    /// none is left the answer is the same, but such names, vectors and paths are gone over one by one.
+    pub fn open(alloc: Global, bytes: &'a [u8]) -> Result<GdbIndex<'a>, Fault>
         ensures { GivesAlways (λ i. i) result (gdb_index bytes.now) }
     {
         let areas = Areas::open(bytes)?;
         areas.check_units()?;
-        GdbIndex::of(&areas)
+        GdbIndex::of(alloc, &areas)
     }
 
     // The index in areas whose lists of units are whole.
-    fn of(areas: &Areas<'a>) -> Result<GdbIndex<'a>, Fault>
+    fn of(alloc: Global, areas: &Areas<'a>) -> Result<GdbIndex<'a>, Fault>
         requires made { (section : List ℕ) × AreAreasOf section areas.now }
         requires small { length areas.now.table.bytes.now < 2 ^ 32 }
         requires shortcut { HasShortcut areas.now }
         ensures { (section : List ℕ) → AreAreasOf section areas.now → GivesAlways (λ i. i) result (gdb_index section) }
     {
         let addresses = AddressArea::open(areas)?;
-        let symbols = SymbolTable::open(areas)?;
+        let symbols = SymbolTable::open(alloc, areas)?;
         let main = Shortcut::open(areas)?;
         symbols.check_paths()?;
         Ok(GdbIndex {

@@ -8,7 +8,8 @@
 //! have their lowest byte first.
 //!
 //! Anyone may have made the bytes. `GdbIndex::open` accepts exactly those without a fault, else it gives the first fault, its
-//! code (`index_model::index_code`, 40 to 47) and its place in the section. Nothing here takes memory.
+//! code (`index_model::index_code`, 40 to 47) and its place in the section. Memory is taken while `open` tests, for what it has seen
+//! of the constant pool and of paths; where there is none it does without, so no answer depends on it.
 #![tactic(auto)]
 
 mod addresses;
@@ -18,6 +19,7 @@ mod elements;
 mod header;
 mod index;
 mod path;
+mod runs;
 mod shortcut;
 mod slots;
 mod symbols;

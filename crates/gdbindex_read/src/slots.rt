@@ -1,19 +1,22 @@
 //! The slots of the symbol table, and what each has in the constant pool.
 
 ghost use Rattle.std.specs.Prelude.{◌≡◌, ◌≤◌, ◌<◌, ◌^◌, length, option_map};
-ghost use Rattle.index_model.specs.GdbAreas.{items, unit_count};
+ghost use Rattle.index_model.specs.GdbAreas.{items};
 ghost use Rattle.index_model.specs.GdbIndexRead.{is_table_size, slot_at};
 ghost use Rattle.index_model.specs.Meaning.{each, wrong_in};
 ghost use Rattle.gdbindex_read.specs.Areas.{area_seen, areas_seen};
 ghost use Rattle.gdbindex_read.specs.Pool.{string_in};
-ghost use Rattle.gdbindex_read.specs.Slots.{checked_size, slot_in};
+ghost use Rattle.gdbindex_read.specs.Runs.{AreKnown};
+ghost use Rattle.gdbindex_read.specs.Slots.{checked_size, slot_in, AreLimits};
 
 use crate::area::{Area, fault, u32_at};
 use crate::areas::Areas;
-use crate::elements::Elements;
+use crate::runs::Vectors;
 use byteorder::{ByteOrder, LittleEndian};
 use index_model::index_code::{GDB_BAD_NAME, GDB_BAD_VECTOR, GDB_TABLE_SIZE};
-use ix_base::{Cursor, Fault};
+use ix_base::Fault;
+use std::alloc::Global;
+use string_ends::{last_end, text_at};
 
 /// A slot that isn't empty: the offsets of its name and of its vector in the constant pool.
 #[derive(Clone, Copy)]
@@ -44,11 +47,7 @@ impl Slot {
 pub(crate) fn string_at<'a>(pool: &'a [u8], offset: u32) -> Option<&'a [u8]>
     ensures { option_map (λ t. t.now) result ≡ string_in pool.now offset }
 {
-    let offset = offset as usize;
-    if offset > pool.len() {
-        return None;
-    }
-    Cursor::new(pool, offset).zstr()
+    text_at(pool, u64::from(offset))
 }
 
 /// Whether the table ends with a slot, and the slots are none or a power of two.
@@ -71,36 +70,59 @@ fn is_table_size(slots: usize) -> bool
     slots == 0 || slots.is_power_of_two()
 }
 
-/// The first fault of a name or a vector, slot by slot.
-pub(crate) fn check_slots(areas: &Areas<'_>) -> Result<(), Fault>
+/// How many units there are, and where the last string of the pool ends. Strings begin before that, and nowhere else.
+#[derive(Clone, Copy)]
+pub(crate) struct Limits {
+    units: usize,
+    end: usize,
+}
+
+impl Limits {
+    // Those of an index.
+    fn of(areas: &Areas<'_>) -> Limits
+        ensures { AreLimits (areas_seen areas.now) result }
+    {
+        Limits {
+            units: areas.unit_count(),
+            end: last_end(areas.pool.bytes),
+        }
+    }
+}
+
+/// The first fault of a name or a vector, slot by slot. No string is read, and no element more often than `Vectors` says.
+pub(crate) fn check_slots(alloc: Global, areas: &Areas<'_>) -> Result<(), Fault>
     ensures { wrong_in result ≡ wrong_in (each (slot_at (areas_seen areas.now)) (items 8 (areas_seen areas.now).table)) }
 {
-    let units = areas.unit_count();
+    let limits = Limits::of(areas);
+    let mut vectors = Vectors::none(alloc, areas.pool.bytes.len());
     let count = areas.table.count(SLOT_LENGTH);
     for number in 0..count {
         let slot = areas.table.item(SLOT_LENGTH, number);
-        check_slot(areas, units, slot)?;
+        check_slot(areas, limits, &mut vectors, slot)?;
     }
     Ok(())
 }
 
 // A slot's name has an end, and its vector lies in the pool and has numbers of units alone.
-fn check_slot(areas: &Areas<'_>, units: usize, slot: Area<'_>) -> Result<(), Fault>
+fn check_slot(
+    areas: &Areas<'_>,
+    limits: Limits,
+    vectors: &mut Vectors,
+    slot: Area<'_>,
+) -> Result<(), Fault>
     requires long { 8 ≤ length slot.bytes.now }
-    requires units { units ≡ unit_count (areas_seen areas.now) }
-    ensures { wrong_in result ≡ wrong_in (slot_at (areas_seen areas.now) (area_seen slot.entry)) }
+    requires limits { AreLimits (areas_seen areas.now) limits }
+    requires known { AreKnown (areas_seen areas.now).pool.rest limits.units vectors.old }
+    ensures value { wrong_in result ≡ wrong_in (slot_at (areas_seen areas.now) (area_seen slot.entry)) }
+    ensures known { AreKnown (areas_seen areas.now).pool.rest limits.units vectors.new }
 {
     let Some(found) = Slot::read(slot.bytes) else {
         return Ok(());
     };
-    let pool = areas.pool.bytes;
-    if string_at(pool, found.name).is_none() {
+    if found.name as usize >= limits.end {
         return Err(fault(GDB_BAD_NAME, slot.at));
     }
-    let Some(elements) = Elements::read(pool, found.vector) else {
-        return Err(fault(GDB_BAD_VECTOR, slot.at));
-    };
-    if !elements.are_of(units) {
+    if !vectors.has(areas.pool.bytes, limits.units, found.vector) {
         return Err(fault(GDB_BAD_VECTOR, slot.at));
     }
     Ok(())

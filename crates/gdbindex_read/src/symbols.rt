@@ -16,6 +16,7 @@ use crate::path::Path;
 use crate::slots::{SLOT_LENGTH, Slot, check_size, check_slots, string_at};
 use index_model::index_code::GDB_LOST_SLOT;
 use ix_base::Fault;
+use std::alloc::Global;
 
 /// The symbol table of an index, and the constant pool that its slots lead to.
 #[derive(Clone, Copy)]
@@ -27,13 +28,13 @@ pub(crate) struct SymbolTable<'a> {
 impl<'a> SymbolTable<'a> {
     /// The symbol table of an index, or its first fault: the slots are neither none nor a power of two, or a slot's name or
     /// vector has no end in the constant pool, or an element is of no unit. `check_paths` tests the rest.
-    pub fn open(areas: &Areas<'a>) -> Result<SymbolTable<'a>, Fault>
+    pub fn open(alloc: Global, areas: &Areas<'a>) -> Result<SymbolTable<'a>, Fault>
         requires { length areas.now.table.bytes.now < 2 ^ 32 }
         ensures value { GivesAlways slots_seen result (checked_slots (areas_seen areas.now)) }
         ensures size { IfOk result (λ s. is_table_size (slot_count s) ≡ true) }
     {
         check_size(&areas.table)?;
-        check_slots(areas)?;
+        check_slots(alloc, areas)?;
         Ok(SymbolTable {
             table: areas.table,
             pool: areas.pool.bytes,
