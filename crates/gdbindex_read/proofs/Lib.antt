@@ -6,5 +6,6 @@ mod RunLaws
 mod Powers
 mod SlotsRead
 mod Paths
+mod WalkLaws
 mod Shortcuts
 mod Entries

@@ -1,6 +1,6 @@
 -- The slots that are read are those of the definition.
 use Rattle.std.proofs.Common.{◌≡◌, ℕ, zero, suc, ◌<◌, ◌+◌, ◌/◌, ◌%◌, Bool, true, false, ◌&&◌, cond, eqb, List, [], ◌∷◌, length, map, Option, Some, None, Result, Ok, Err, refl, arith, ap, sym, ◌∙◌}
-use Rattle.std.specs.Prelude.{option_map, unwrap_or, slice_get, nat_lt, is_some}
+use Rattle.std.specs.Prelude.{option_map, unwrap_or, slice_get, nat_lt}
 use Rattle.std.specs.List.{range_with_len, enumerate_from, list_all}
 use Rattle.std.proofs.lemmas.Option.{unwrap_or-slice_get}
 use Rattle.std.proofs.lemmas.List.FromFn.{get_or-map-range_with_len, length-map-range_with_len}

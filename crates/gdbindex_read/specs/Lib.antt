@@ -4,5 +4,6 @@ pub mod Addresses
 pub mod Pool
 pub mod Runs
 pub mod Slots
+pub mod Homes
 pub mod Shortcut
 pub mod Index

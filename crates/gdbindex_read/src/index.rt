@@ -61,7 +61,7 @@ impl<'a> GdbIndex<'a> {
         let addresses = AddressArea::open(areas)?;
         let symbols = SymbolTable::open(alloc, areas)?;
         let main = Shortcut::open(areas)?;
-        symbols.check_paths()?;
+        symbols.check_paths(alloc)?;
         Ok(GdbIndex {
             addresses,
             symbols,

@@ -17,12 +17,14 @@ mod area;
 mod areas;
 mod elements;
 mod header;
+mod homes;
 mod index;
 mod path;
 mod runs;
 mod shortcut;
 mod slots;
 mod symbols;
+mod walks;
 
 pub use elements::Elements;
 pub use index::GdbIndex;

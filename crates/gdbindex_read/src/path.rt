@@ -33,7 +33,18 @@ impl Path {
         ensures step { result.step ≡ odd (gdb_hash name.now * 17 % slots) }
         ensures slots { result.slots ≡ slots }
     {
-        let hash = hash(name) as usize;
+        Path::of_hash(hash(name) as usize, slots)
+    }
+
+    /// The front of the path of a hash. The slot that the path begins with has the same path.
+    pub fn of_hash(hash: usize, slots: usize) -> Path
+        requires some { 0 < slots }
+        requires few { slots < 2 ^ 62 }
+        requires hash { hash < 2 ^ 32 }
+        ensures place { result.place ≡ slot_on_path slots hash 0 }
+        ensures step { result.step ≡ odd (hash * 17 % slots) }
+        ensures slots { result.slots ≡ slots }
+    {
         Path {
             place: hash % slots,
             step: hash * 17 % slots | 1,

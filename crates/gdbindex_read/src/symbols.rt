@@ -7,6 +7,7 @@ ghost use Rattle.index_model.specs.GdbPath.{elements_at, path_end};
 ghost use Rattle.index_model.specs.Gives.{GivesAlways};
 ghost use Rattle.index_model.specs.Meaning.{each, wrong_in};
 ghost use Rattle.gdbindex_read.specs.Areas.{areas_seen, item};
+ghost use Rattle.gdbindex_read.specs.Homes.{AreFound};
 ghost use Rattle.gdbindex_read.specs.Slots.{checked_slots, elements_in, is_reached, name_in, slot_count, slot_in, slots_seen, table_of};
 
 use crate::area::{Area, fault};
@@ -14,6 +15,7 @@ use crate::areas::Areas;
 use crate::elements::Elements;
 use crate::path::Path;
 use crate::slots::{SLOT_LENGTH, Slot, check_size, check_slots, string_at};
+use crate::walks::Found;
 use index_model::index_code::GDB_LOST_SLOT;
 use ix_base::Fault;
 use std::alloc::Global;
@@ -22,7 +24,7 @@ use std::alloc::Global;
 #[derive(Clone, Copy)]
 pub(crate) struct SymbolTable<'a> {
     table: Area<'a>,
-    pool: &'a [u8],
+    pub pool: &'a [u8],
 }
 
 impl<'a> SymbolTable<'a> {
@@ -32,6 +34,7 @@ impl<'a> SymbolTable<'a> {
         requires { length areas.now.table.bytes.now < 2 ^ 32 }
         ensures value { GivesAlways slots_seen result (checked_slots (areas_seen areas.now)) }
         ensures size { IfOk result (λ s. is_table_size (slot_count s) ≡ true) }
+        ensures few { IfOk result (λ s. slot_count s < 2 ^ 32) }
     {
         check_size(&areas.table)?;
         check_slots(alloc, areas)?;
@@ -43,13 +46,15 @@ impl<'a> SymbolTable<'a> {
 
     /// Each slot that isn't empty is found by its name, or else the fault of the first that isn't: an empty slot or one with
     /// the same name stands before it on the path.
-    pub fn check_paths(&self) -> Result<(), Fault>
-        requires { is_table_size (slot_count self.now) ≡ true }
+    pub fn check_paths(&self, alloc: Global) -> Result<(), Fault>
+        requires size { is_table_size (slot_count self.now) ≡ true }
+        requires few { slot_count self.now < 2 ^ 32 }
         ensures { wrong_in result ≡ wrong_in (each (reached (slots_seen self.now)) (enumerate_from 0 (slots_seen self.now))) }
     {
+        let found = Found::of(alloc, self);
         let count = self.len();
         for place in 0..count {
-            if !self.is_reached(place) {
+            if !self.is_found(&found, place) {
                 return Err(fault(GDB_LOST_SLOT, self.table.at + SLOT_LENGTH * place));
             }
         }
@@ -69,15 +74,15 @@ impl<'a> SymbolTable<'a> {
         }
     }
 
-    // How many slots there are.
-    fn len(&self) -> usize
+    /// How many slots there are.
+    pub fn len(&self) -> usize
         ensures { result ≡ slot_count self.now }
     {
         self.table.count(SLOT_LENGTH)
     }
 
-    // The slot at a place, unless it is empty.
-    fn slot(&self, place: usize) -> Option<Slot>
+    /// The slot at a place, unless it is empty.
+    pub fn slot(&self, place: usize) -> Option<Slot>
         requires { place < slot_count self.now }
         ensures { result ≡ slot_in (item 8 (table_of self.now) place).rest }
     {
@@ -129,6 +134,16 @@ impl<'a> SymbolTable<'a> {
             path.advance();
         }
         None
+    }
+
+    // Whether the path of its name leads to the slot at a place, if it isn't empty. That needn't be asked of those that were found.
+    fn is_found(&self, found: &Found, place: usize) -> bool
+        requires size { is_table_size (slot_count self.now) ≡ true }
+        requires place { place < slot_count self.now }
+        requires found { AreFound (slots_seen self.now) found.now.places.items }
+        ensures { result ≡ is_reached (slots_seen self.now) place }
+    {
+        found.has(place) || self.is_reached(place)
     }
 
     // Whether the path of its name leads to the slot at a place, if it isn't empty.

@@ -1,4 +1,4 @@
-use Rattle.std.proofs.Common.{◌≡◌, ℕ, Option, Some, ap, sym, ◌∙◌, arith}
+use Rattle.std.proofs.Common.{ℕ, Some, ap, sym, ◌∙◌}
 use Rattle.ix_base.specs.declared.fault.Fault.{Fault}
 use Rattle.gdbindex_read.specs.Areas.{area_seen, areas_seen}
 use Rattle.gdbindex_read.specs.Pool.{are_of_units, vector_in}
