@@ -75,7 +75,7 @@ fn ask_at<F: Shelf, K: Sink>(
     ensures counts { K.write_faults out.old ≤ K.write_faults out.new }
 {
     match read_kept(alloc, shelf, place.name.as_str()) {
-        Ok(bytes) => match open(&bytes, place.id) {
+        Ok(bytes) => match open(alloc, &bytes, place.id) {
             Ok(index) => Asked::Ended(ended(
                 tell(b"hit\n", &index, question, out),
                 Status::Answered,

@@ -224,7 +224,7 @@ fn save_and_answer<F: Shelf, K: Sink>(
     ensures kept_reads { F.kept_faults shelf.new ≡ F.kept_faults shelf.old }
     ensures counts { K.write_faults out.old ≤ K.write_faults out.new }
 {
-    let index = match GdbIndex::open(bytes) {
+    let index = match GdbIndex::open(alloc, bytes) {
         Ok(index) => index,
         Err(_) => unreachable!(),
     };

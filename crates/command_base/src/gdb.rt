@@ -17,15 +17,21 @@ use index_model::{Answer, Query, Reply};
 use name_quotes::Spelling;
 use outside::Sink;
 use query_text::{Question, write_elements, write_index_fault};
+use std::alloc::Global;
 
 /// Writes the answer of the index in these bytes to the query, or its first fault. The query is one that it answers.
-pub fn look_gdb<K: Sink>(bytes: &[u8], question: &Question<'_>, out: &mut K) -> Status
+pub fn look_gdb<K: Sink>(
+    alloc: Global,
+    bytes: &[u8],
+    question: &Question<'_>,
+    out: &mut K,
+) -> Status
     requires { offer_gdb (question_seen question.now).query ≡ Some (question_seen question.now).query }
     ensures wrote { Wrote (SaysGdb bytes.now (question_seen question.now)) result (K.written out.old) (K.written out.new) }
     ensures causes { CausesOfResult (Rose (K.write_faults out.old) (K.write_faults out.new)) result }
     ensures counts { K.write_faults out.old ≤ K.write_faults out.new }
 {
-    match GdbIndex::open(bytes) {
+    match GdbIndex::open(alloc, bytes) {
         Ok(index) => answer_by_gdb(&index, question, out),
         Err(fault) => ended(write_index_fault(out, fault), Status::IndexRefused),
     }

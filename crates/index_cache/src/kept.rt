@@ -19,16 +19,16 @@ const SIZE_LENGTH: usize = 4;
 
 /// The index that is kept for the program with this build-id, or the first fault of the bytes: they don't begin as a kept index or
 /// the build-id is cut, it is another, or the index has a fault. The places of an index's faults are those in the index. It takes
-/// as long as `GdbIndex::open`, and no memory.
+/// as long as `GdbIndex::open`, and as much memory.
 #[tactic(auto, unfolding(reach_model::specs::KeptIndexes::kept_index))]
-pub fn open<'a>(bytes: &'a [u8], id: &[u8]) -> Result<GdbIndex<'a>, Fault>
+pub fn open<'a>(alloc: Global, bytes: &'a [u8], id: &[u8]) -> Result<GdbIndex<'a>, Fault>
     ensures { GivesAlways (λ i. i) result (kept_index bytes.now id.now) }
 {
     let mut cursor = Cursor::new(bytes, 0);
     if kept_id(&mut cursor)? != id {
         return Err(fault(KEPT_BUILD_ID));
     }
-    GdbIndex::open(cursor.rest())
+    GdbIndex::open(alloc, cursor.rest())
 }
 
 // The build-id that a kept index says.

@@ -105,7 +105,7 @@ fn act<R: Threads + Wait + Sync, F: Shelf, S: Source + Send, K: Sink + Send, G: 
         Action::Ask(question) => ask_file(crew, bytes, question, out),
         Action::Index { kind, out: name } => index_file(crew, bytes, *kind, name, shelf, out),
         Action::Add { kind, out: name } => add_file(crew, bytes, *kind, name, shelf, out),
-        Action::LookGdb(question) => look_gdb(bytes, question, out),
+        Action::LookGdb(question) => look_gdb(crew.alloc, bytes, question, out),
         Action::LookNames {
             look,
             strings,

@@ -34,8 +34,8 @@ fn an_index_is_kept_under_its_name(rt: HostRuntime) -> Result<(), Fail> {
 
 #[test]
 fn what_was_kept_opens_with_its_build_id(rt: HostRuntime) -> Result<(), Fail> {
-    let index = open(&KEPT, &ID).map_err(|_| "refused")?;
-    let other = open(&KEPT, b"\xac\x01").err();
+    let index = open(rt.alloc(), &KEPT, &ID).map_err(|_| "refused")?;
+    let other = open(rt.alloc(), &KEPT, b"\xac\x01").err();
     assert_eq!(rt;
         (index.find(b"main").len(), index.find(b"mai").len()),
         (1, 0)

@@ -22,8 +22,8 @@ fn looked_up(index: &GdbIndex<'_>) -> (Option<u32>, usize, [Option<u32>; 2]) {
 
 #[test]
 fn a_gdb_index_of_each_version(rt: HostRuntime) -> Result<(), Fail> {
-    let eight = GdbIndex::open(&GDB8).map_err(|_| "refused")?;
-    let nine = GdbIndex::open(&GDB9).map_err(|_| "refused")?;
+    let eight = GdbIndex::open(rt.alloc(), &GDB8).map_err(|_| "refused")?;
+    let nine = GdbIndex::open(rt.alloc(), &GDB9).map_err(|_| "refused")?;
     // a function of unit 0
     let wanted = (Some(0x3000_0000), 0, [Some(0), None]);
     assert_eq!(rt; [looked_up(&eight), looked_up(&nine)], [wanted, wanted]);

@@ -165,7 +165,7 @@ fn are_told(alloc: Global, gdb: &GdbIndex<'_>, name: &[u8], fault: Fault, text: 
 
 #[test]
 fn look_ups_in_a_gdb_index(rt: HostRuntime) -> Result<(), Fail> {
-    let gdb = GdbIndex::open(&GDB8).map_err(|_| "refused")?;
+    let gdb = GdbIndex::open(rt.alloc(), &GDB8).map_err(|_| "refused")?;
     let fault = Fault { code: 40, at: 0xc };
     let text = b"found 1\n0 function global main\nindex refused 40 c\n";
     assert!(rt; are_told(rt.alloc(), &gdb, b"main", fault, text));
