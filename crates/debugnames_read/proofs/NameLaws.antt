@@ -1,11 +1,12 @@
 -- A name: its string, its hash and its entries.
-use Rattle.std.proofs.Common.{◌≡◌, ℕ, ◌+◌, ◌-◌, ◌<◌, ◌≤◌, Bool, true, false, ◌&&◌, cond, eqb, leb, List, length, drop, Option, Some, None, Result, Ok, Err, refl, ap, sym, subst, ◌∙◌}
+use Rattle.std.proofs.Common.{◌≡◌, ℕ, ◌+◌, ◌-◌, ◌<◌, ◌≤◌, Bool, true, false, ◌&&◌, cond, eqb, leb, List, length, drop, Option, Some, None, Result, Ok, Err, inl, inr, refl, ap, sym, subst, ◌∙◌}
 use Rattle.std.specs.Prelude.{IsOk, is_ok}
-use Rattle.std.proofs.lemmas.Bool.{eq-eqb, ne_eqb, le-leb, lt-leb}
+use Rattle.std.proofs.lemmas.Bool.{cases_lt, eq-eqb, ne_eqb, le-leb, lt-leb}
 use Rattle.common_laws.proofs.Ranges.{up_to_more, up_to_none, up_to_all}
 use Rattle.ix_base.specs.declared.fault.Fault.{Fault}
 use Rattle.ix_base.specs.Reading.{Input, before_zero, past, ◌>>=◌ as ◌>>=?◌}
 use Rattle.index_model.specs.declared.index_code.TheConstants.{NAMES_BUCKET, NAMES_HASH, NAMES_STRING_OFFSET, NAMES_ENTRY_POOL}
+use Rattle.index_model.specs.Hashes.{name_hash}
 use Rattle.index_model.specs.Layout.{below, nth}
 use Rattle.index_model.specs.Meaning.{◌>>◌, each, fault, holds_or, some_or, value_of, wrong_in}
 use Rattle.index_model.specs.NameAbbreviations.{Abbreviation}
@@ -13,7 +14,11 @@ use Rattle.index_model.specs.NameIndexRead.{NameHit, entries_at, entries_of_name
 use Rattle.index_model.specs.NameTables.{Tables}
 use Rattle.index_model.specs.Strings.{offset_size}
 use Rattle.index_model.proofs.FirstFaults.{then_none, then_some}
-use Rattle.debugnames_read.specs.Names.{list_at, string_at, up_to}
+use Rattle.debugnames_read.specs.declared.names.Names.{Names}
+use Rattle.debugnames_read.specs.Names.{list_at, string_at, tables_of, up_to}
+use Rattle.string_ends.specs.declared.formula.Formula.TheVariants.{NameIndex}
+use Rattle.string_ends.specs.declared.hashed.Hashed.{Hashed}
+use Rattle.string_ends.specs.Tails.{IsHashed, has_beyond_ascii}
 use Rattle.string_ends.specs.Texts.{text_in}
 use Rattle.debugnames_read.proofs.Readings.{ok_is, is_ok_by}
 use Rattle.debugnames_read.proofs.Opened.{parts}
@@ -214,3 +219,13 @@ module _ {B : Type 0} (f : ℕ → Result B Fault) where
 
   pub fault_from_none : (i n : ℕ) → n ≤ i → fault_from i n ≡ None
   fault_from_none i n le = ap at_numbers (up_to_none i n le)
+
+-- what is known of the place where the string of a name begins is known of the string
+pub hashed_text : (n : Names) (k : ℕ) (h : Hashed) (text : List ℕ) → string_at (tables_of n) n.strings.now n.base k ≡ Some text → IsHashed NameIndex n.strings.now (nth (tables_of n).strings.numbers k - n.base) h → (h.hash ≡ name_hash text) × (h.is_beyond_ascii ≡ has_beyond_ascii text)
+hashed_text n k h text there known = elim (cases_lt (nth (tables_of n).strings.numbers k) n.base) as (λ _. (h.hash ≡ name_hash text) × (h.is_beyond_ascii ≡ has_beyond_ascii text)) [
+  | inl lt ↦ let none : None ≡ Some text = sym (string_below (tables_of n) n.strings.now n.base k lt) ∙ there in absurd cc
+  | inr le ↦
+      let own : Some known.text ≡ Some text = sym known.there ∙ sym (string_from (tables_of n) n.strings.now n.base k le) ∙ there in
+      let same : known.text ≡ text = cc in
+      (known.hash ∙ ap name_hash same, known.beyond ∙ ap has_beyond_ascii same)
+]

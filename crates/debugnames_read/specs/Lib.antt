@@ -11,3 +11,4 @@ pub mod Checked
 pub mod Lists
 pub mod Names
 pub mod Hits
+pub mod Hashed

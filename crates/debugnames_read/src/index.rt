@@ -41,11 +41,10 @@ impl<'a> NameIndex<'a> {
     ///
     /// Each abbreviation and each entry of the pool is read once, however many names share a list or begin their own inside
     /// one. An entry finds its abbreviation in a tree of codes, with a list of the attributes that have bytes or count, so it
-    /// costs no more than its bytes. Each name is read and hashed once and compared with its bucket in constant time; where
-    /// there are no buckets no name is read. On an index that a writer made this is near linear in its length. What another can
-    /// cost is its names times its strings, where the names are ends of one text and are hashed. Where no memory is left for the
-    /// codes or for a mark at each byte of the pool the answer is the same, but an entry costs all abbreviations before its
-    /// own, and a list its reading for each name that shares it.
+    /// costs no more than its bytes. The names are hashed in one pass over their strings, however many are ends of one text, and
+    /// each is compared with its bucket in constant time; where there are no buckets no name is read. So this costs n log n.
+    /// Where no memory is left for the codes, for a mark at each byte of the pool or for the hashes the answer is the same, but an
+    /// entry costs all abbreviations before its own, a list its reading for each name that shares it, and a name its string.
     pub fn open(
         alloc: Global,
         names: &'a [u8],

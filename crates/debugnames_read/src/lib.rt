@@ -19,6 +19,7 @@ mod counting;
 mod entry;
 mod form;
 mod hash;
+mod hashes;
 mod header;
 mod hits;
 mod index;

@@ -1,6 +1,6 @@
 //! The name table: the string, the hash and the entries of each name (DWARF 5, sections 6.1.1.4.3 to 6.1.1.4.6).
 
-ghost use Rattle.std.specs.Prelude.{◌≡◌, IsOk, OnOk, [], ◌<◌, ◌-◌, List, ℕ, Some, bytes_eq, is_some, option_map};
+ghost use Rattle.std.specs.Prelude.{◌≡◌, IsOk, OnOk, [], ◌<◌, ◌-◌, ◌==◌, List, ℕ, Some, bytes_eq, is_some, option_map};
 ghost use Rattle.index_model.specs.Gives.{GivesAlways};
 ghost use Rattle.index_model.specs.Layout.{below, nth};
 ghost use Rattle.index_model.specs.Meaning.{each, wrong_in};
@@ -14,13 +14,14 @@ ghost use Rattle.string_ends.specs.Texts.{IsLastEnd};
 
 use crate::checked::Checked;
 use crate::hash::{is_beyond_ascii, name_hash};
+use crate::hashes::hash_at;
 use crate::header::fault;
 use crate::known::Known;
 use crate::tables::Tables;
 use index_model::index_code::{NAMES_BUCKET, NAMES_ENTRY_POOL, NAMES_HASH, NAMES_STRING_OFFSET};
 use ix_base::{Cursor, Fault};
 use std::alloc::Global;
-use string_ends::{is_text, last_end, text_at};
+use string_ends::{Hashed, is_text, last_end, text_at};
 
 /// The tables of an index, and the strings of its names. The abbreviations have no fault.
 #[derive(Drop)]
@@ -36,6 +37,7 @@ pub(crate) struct Names<'a> {
 }
 
 impl<'a> Names<'a> {
+    ghost use Rattle.debugnames_read.specs.Hashed.{IsHashOfName};
     ghost use Rattle.debugnames_read.specs.Names.{string_at, tables_of, IsRight};
 
     /// How many names there are.
@@ -51,37 +53,27 @@ impl<'a> Names<'a> {
     {
         let count = self.len();
         let end = last_end(self.strings);
+        let hashes = self.hashes(alloc);
         let mut checked = Checked::none(alloc, self.tables.pool.rest().len());
         for number in 0..count {
-            self.check_name(number, end, &mut checked)?;
+            let known = hash_at(&hashes, number);
+            self.check_name(number, end, known, &mut checked)?;
         }
         Ok(())
     }
 
-    // The first fault of a name.
-    fn check_name(&self, number: usize, end: usize, checked: &mut Checked) -> Result<(), Fault>
+    // The first fault of a name. Its string isn't read where its hash is known or names have none.
+    fn check_name(
+        &self,
+        number: usize,
+        end: usize,
+        known: Option<Hashed>,
+        checked: &mut Checked,
+    ) -> Result<(), Fault>
         requires within { number < (tables_of self.now).counts.names }
         requires end { IsLastEnd self.now.strings.now end }
         requires before { 0 < number → IsRight self.now (number - 1) }
-        requires checked { AreSound (tables_of self.now) checked.old }
-        ensures value { wrong_in result ≡ wrong_in (name_at (tables_of self.now) (abbreviations_in (tables_of self.now).abbreviations) self.now.strings.now self.now.base number) }
-        ensures checked { OnOk result (AreSound (tables_of self.now) checked.new) }
-    {
-        if self.tables.counts.buckets == 0 {
-            return self.check_unhashed(number, end, checked);
-        }
-        let Some(name) = self.string(number) else {
-            return Err(fault(NAMES_STRING_OFFSET, self.tables.strings.place(number)));
-        };
-        self.check_hash(number, name)?;
-        self.check_entries(number, checked)
-    }
-
-    // The first fault of a name where names have no hashes. Its string isn't read, since nothing is asked but that it ends.
-    fn check_unhashed(&self, number: usize, end: usize, checked: &mut Checked) -> Result<(), Fault>
-        requires within { number < (tables_of self.now).counts.names }
-        requires end { IsLastEnd self.now.strings.now end }
-        requires none { (tables_of self.now).counts.buckets ≡ 0 }
+        requires known { IsHashOfName self.now number known }
         requires checked { AreSound (tables_of self.now) checked.old }
         ensures value { wrong_in result ≡ wrong_in (name_at (tables_of self.now) (abbreviations_in (tables_of self.now).abbreviations) self.now.strings.now self.now.base number) }
         ensures checked { OnOk result (AreSound (tables_of self.now) checked.new) }
@@ -89,6 +81,7 @@ impl<'a> Names<'a> {
         if !self.has_string(number, end) {
             return Err(fault(NAMES_STRING_OFFSET, self.tables.strings.place(number)));
         }
+        self.check_hash(number, known)?;
         self.check_entries(number, checked)
     }
 
@@ -134,16 +127,17 @@ impl<'a> Names<'a> {
     }
 
     // Where there are buckets, whether a name has its hash and stands in its bucket.
-    fn check_hash(&self, number: usize, name: &[u8]) -> Result<(), Fault>
+    fn check_hash(&self, number: usize, known: Option<Hashed>) -> Result<(), Fault>
         requires within { number < (tables_of self.now).counts.names }
         requires before { 0 < number → IsRight self.now (number - 1) }
-        ensures { GivesAlways (λ _. record {}) result (is_hashed (tables_of self.now) number name.now) }
+        requires known { IsHashOfName self.now number known }
+        ensures { (name : List ℕ) → string_at (tables_of self.now) self.now.strings.now self.now.base number ≡ Some name → GivesAlways (λ _. record {}) result (is_hashed (tables_of self.now) number name) }
     {
         let tables = &self.tables;
         if tables.counts.buckets == 0 {
             return Ok(());
         }
-        if !tables.has_hash(number, name) {
+        if !self.has_hash(number, known) {
             return Err(fault(NAMES_HASH, tables.hashes.place(number)));
         }
         if !tables.is_in_bucket(number) {
@@ -193,13 +187,22 @@ impl<'a> Names<'a> {
 impl<'a> Tables<'a> {
     ghost use Rattle.debugnames_read.specs.Names.{list_at};
 
-    // Whether a name has its hash. One with a byte from 80 on may have any.
-    fn has_hash(&self, number: usize, name: &[u8]) -> bool
+    /// Whether a name has this hash.
+    pub fn has_number(&self, number: usize, hash: u32) -> bool
+        requires some { 0 < (tables_seen self.now).counts.buckets }
+        requires within { number < (tables_seen self.now).counts.names }
+        ensures { result ≡ (nth (tables_seen self.now).hashes.numbers number == hash) }
+    {
+        self.hashes.get(number) == u64::from(hash)
+    }
+
+    /// Whether a name has its hash. One with a byte from 80 on may have any.
+    pub fn has_hash(&self, number: usize, name: &[u8]) -> bool
         requires some { 0 < (tables_seen self.now).counts.buckets }
         requires within { number < (tables_seen self.now).counts.names }
         ensures { result ≡ has_hash name.now (nth (tables_seen self.now).hashes.numbers number) }
     {
-        is_beyond_ascii(name) || self.hashes.get(number) == u64::from(name_hash(name))
+        is_beyond_ascii(name) || self.has_number(number, name_hash(name))
     }
 
     /// Where the entries of a name begin, None where that is past the end of the pool.

@@ -8,18 +8,18 @@ use Rattle.debugnames_read.proofs.NameLaws.{bucket_right, bucket_wrong, hash_wro
 use Rattle.debugnames_read.proofs.names.Names.check_hash.Goals as goal
 
 pub returns-then-tables-eq0 : goal.returns-then-tables-eq0
-returns-then-tables-eq0 c = unhashed (tables_of c.args.self.now) c.args.number c.args.name.now (bucket_total c.args.self.now.tables ∙ c.if-tables-eq0.true)
+returns-then-tables-eq0 c name there = unhashed (tables_of c.args.self.now) c.args.number name (bucket_total c.args.self.now.tables ∙ c.if-tables-eq0.true)
 
 pub place-requires : goal.place-requires
 place-requires c = omega (arith, hash_total c.args.self.now.tables (omega (arith, c.if-tables-eq0.false)), c.requires.within)
 
 pub returns-then-not-has_hash : goal.returns-then-not-has_hash
-returns-then-not-has_hash c =
+returns-then-not-has_hash c name there =
     let t = tables_of c.args.self.now in
     let k = c.args.number in
-    let is : c.fault.result ≡ hash_wrong t k c.args.name.now = c.fault.ensures ∙ ap (fault NAMES_HASH) (c.place.ensures ∙ hash_place c.args.self.now.tables k) in
+    let is : c.fault.result ≡ hash_wrong t k name = c.fault.ensures ∙ ap (fault NAMES_HASH) (c.place.ensures ∙ hash_place c.args.self.now.tables k) in
     let some : length t.buckets.numbers ≡ 0 → ⊥ = λ e. c.if-tables-eq0.false (sym (bucket_total c.args.self.now.tables) ∙ e) in
-    rw is (other_hash t k c.args.name.now some (sym c.has_hash.ensures ∙ c.if-not-has_hash.true))
+    rw is (other_hash t k name some (sym (c.has_hash.ensures name there) ∙ c.if-not-has_hash.true))
 
 pub is_in_bucket-requires-clause-before : goal.is_in_bucket-requires-clause-before
 is_in_bucket-requires-clause-before c = λ lt.
@@ -31,15 +31,15 @@ pub place-requires-then-not-is_in_bucket : goal.place-requires-then-not-is_in_bu
 place-requires-then-not-is_in_bucket c = omega (arith, hash_total c.args.self.now.tables (omega (arith, c.if-tables-eq0.false)), c.requires.within)
 
 pub returns-then-not-is_in_bucket : goal.returns-then-not-is_in_bucket
-returns-then-not-is_in_bucket c =
+returns-then-not-is_in_bucket c name there =
     let t = tables_of c.args.self.now in
     let k = c.args.number in
-    let is : c.fault-then-not-is_in_bucket.result ≡ bucket_wrong t k c.args.name.now = c.fault-then-not-is_in_bucket.ensures ∙ ap (fault NAMES_BUCKET) (c.place-then-not-is_in_bucket.ensures ∙ hash_place c.args.self.now.tables k) in
+    let is : c.fault-then-not-is_in_bucket.result ≡ bucket_wrong t k name = c.fault-then-not-is_in_bucket.ensures ∙ ap (fault NAMES_BUCKET) (c.place-then-not-is_in_bucket.ensures ∙ hash_place c.args.self.now.tables k) in
     let some : length t.buckets.numbers ≡ 0 → ⊥ = λ e. c.if-tables-eq0.false (sym (bucket_total c.args.self.now.tables) ∙ e) in
-    rw is (other_bucket t k c.args.name.now some (sym c.has_hash.ensures ∙ c.if-not-has_hash.false) (sym c.is_in_bucket.ensures ∙ c.if-not-is_in_bucket.true))
+    rw is (other_bucket t k name some (sym (c.has_hash.ensures name there) ∙ c.if-not-has_hash.false) (sym c.is_in_bucket.ensures ∙ c.if-not-is_in_bucket.true))
 
 pub returns : goal.returns
-returns c =
+returns c name there =
     let t = tables_of c.args.self.now in
     let some : length t.buckets.numbers ≡ 0 → ⊥ = λ e. c.if-tables-eq0.false (sym (bucket_total c.args.self.now.tables) ∙ e) in
-    right_hash t c.args.number c.args.name.now some (sym c.has_hash.ensures ∙ c.if-not-has_hash.false) (sym c.is_in_bucket.ensures ∙ c.if-not-is_in_bucket.false)
+    right_hash t c.args.number name some (sym (c.has_hash.ensures name there) ∙ c.if-not-has_hash.false) (sym c.is_in_bucket.ensures ∙ c.if-not-is_in_bucket.false)
