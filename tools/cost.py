@@ -32,7 +32,6 @@ AGAIN = "what isn't kept is read again for each reference"
 TABLES = "a table of abbreviations is read for each unit that has another than the one before"
 TEXTS = "names that are parts of one text are compared and hashed one by one"
 LONG = "the answer itself is that long"
-PATHS = "a path of slots is followed from its begin for each name"
 LISTS = "a list of ranges is read for each that has it"
 IMPORTS = "the importers of a partial unit are looked for one by one"
 
@@ -51,7 +50,7 @@ ROWS = [
     (programs.ends_of_a_string, 4000, GDB8, TEXTS),
     (programs.ends_of_a_string, 4000, NAMES, TEXTS),
     (programs.ada_names, 1000, GDB8, LONG),
-    (programs.one_hash, 10000, GDB8, PATHS),
+    (programs.one_hash, 10000, GDB8, None),
     (programs.one_hash, 10000, NAMES, None),
     (programs.ranges_of_all_units, 500, ASK, LISTS),
     (programs.ranges_of_all_functions, 500, ASK, LISTS),
@@ -64,12 +63,14 @@ ROWS = [
     (programs.names_behind_near_copies, 4 << 20, ASK, None),
     (programs.small_units, 50000, ASK, None),
     (programs.one_name, 200000, GDB8, None),
-    (indexes.one_vector, 8000, LOOK_GDB, PATHS),
-    (indexes.slots_of_one_hash, 4000, LOOK_GDB, PATHS),
-    (indexes.slots_of_ends, 8000, LOOK_GDB, TEXTS),
+    (indexes.one_vector, 8000, LOOK_GDB, None),
+    (indexes.vectors_inside_one_another, 8000, LOOK_GDB, None),
+    (indexes.slots_of_one_hash, 4000, LOOK_GDB, None),
+    (indexes.slots_of_ends, 8000, LOOK_GDB, None),
     (indexes.a_wide_abbreviation, 16000, LOOK_NAMES, None),
     (indexes.one_string, 80000, LOOK_NAMES, None),
     (indexes.one_list, 16000, LOOK_NAMES, None),
+    (indexes.hashed_ends, 16000, LOOK_NAMES, None),
 ]
 
 

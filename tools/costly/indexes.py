@@ -32,10 +32,11 @@ class Slots:
         self.slots[at] = slot
         self.ahead[value] = (at + step) % self.count
 
-    def index(self, pool):
-        """A `.gdb_index` of version 8 with one unit."""
-        end = 40 + 8 * self.count
-        return struct.pack("<IIIIIIQQ", 8, 24, 40, 40, 40, end, 0, 1) + b"".join(struct.pack("<II", *slot) for slot in self.slots) + pool
+    def index(self, pool, units=1):
+        """A `.gdb_index` of version 8 with so many units."""
+        table = 24 + 16 * units
+        header = struct.pack("<IIIIII", 8, 24, table, table, table, table + 8 * self.count)
+        return header + struct.pack("<QQ", 0, 1) * units + b"".join(struct.pack("<II", *slot) for slot in self.slots) + pool
 
 
 def _gdb_index(names, front):
@@ -50,6 +51,16 @@ def _gdb_index(names, front):
 def one_vector(n):
     """n names, each with one vector of n elements"""
     return _gdb_index([b"%d" % number for number in range(n)], struct.pack("<I", n) + ELEMENTS[4:] * n)
+
+
+def vectors_inside_one_another(n):
+    """n names, each with a vector of n elements of its own: one number is the count of each and an element of those before it"""
+    slots, pool = Slots(n), bytearray(struct.pack("<I", n) * (2 * n))
+    for number in range(n):
+        name = b"%d" % number
+        slots.put(_hash(name), (len(pool), 4 * number))
+        pool += name + b"\0"
+    return slots.index(bytes(pool), n + 1), None
 
 
 def slots_of_one_hash(n):
@@ -88,3 +99,16 @@ def one_string(n):
 def one_list(n):
     """n names, each with one list of 2n entries"""
     return _name_index(n, ABBREVIATION + b"\0\0\0", b"\1\1\0\0\0" * (2 * n) + b"\0"), b"y\0"
+
+
+def hashed_ends(n):
+    """n names in one bucket, each an end of one string of n bytes"""
+    hashes, value, weight = [], 0, 1
+    for _ in range(n):
+        value, weight = (value + ord("y") * weight) & 0xFFFFFFFF, weight * 33 & 0xFFFFFFFF
+        hashes.append((5381 * weight + value) & 0xFFFFFFFF)
+    table = ABBREVIATION + b"\0\0\0"
+    counts = struct.pack("<HHIIIIIIII", 5, 0, 1, 0, 0, 1, n, len(table), 0, 0)
+    offsets = b"".join(struct.pack("<I", n - 1 - number) for number in range(n))
+    body = counts + struct.pack("<I", 1) + struct.pack("<%dI" % n, *hashes) + offsets + bytes(4 * n) + table + b"\1\1\0\0\0\0"
+    return struct.pack("<I", len(body)) + body, b"y" * n + b"\0"

@@ -1,6 +1,8 @@
-use Rattle.std.proofs.Common.{◌≡◌, ℕ, ◌+◌, ◌-◌, suc, List, ◌++◌, length, map, true, false, None, refl, ap, sym, subst, ◌∙◌, arith}
+use Rattle.std.proofs.Common.{◌≡◌, ℕ, ◌+◌, ◌-◌, ◌<◌, suc, List, ◌∷◌, ◌++◌, length, map, true, false, Some, None, refl, ap, sym, subst, ◌∙◌, arith}
+use Rattle.std.specs.Prelude.{IsOk}
+use Rattle.ix_base.specs.Reading.{Input}
 use Rattle.index_model.specs.NameAbbreviations.{Spec, specs_at}
-use Rattle.debugnames_read.specs.Specs.{first_in, is_last, spec_seen, specs_in}
+use Rattle.debugnames_read.specs.Specs.{first_in, is_last, spec_at, spec_seen, specs_in}
 use Rattle.debugnames_read.specs.Values.{kept_seen}
 use Rattle.debugnames_read.proofs.Readings.{first_goes, ok_goes, specs_end}
 use Rattle.debugnames_read.proofs.CountingLaws.{SameValues, counted, left_out, same_more, stands_first, stands_seen}
@@ -24,42 +26,41 @@ returns-then-is_last c =
     let end = ap first_in (specs_end 0 (n - c.attributes.counter) c.attributes.specs (spec_seen c.in_ok-spec.spec) c.read.new.cursor c.in_ok-spec.ensures.value last) in
     counted (map spec_seen c.attributes.list.items) _ (specs_in c.args.specs) end same
 
+-- what is left behind an attribute that isn't the last
+record Left (n k : ℕ) (next : Input) (s : Spec) (listed all : List Spec) : Type 0 where
+  ok : IsOk (specs_at 0 (n + 1 - (k + 1)) next)
+  same : SameValues (listed ++ s ∷ first_in (specs_at 0 (n + 1 - (k + 1)) next)) all
+
+left_behind : (n k : ℕ) → k < n + 1 → (i next : Input) (s : Spec) (listed all : List Spec) → spec_at i ≡ Some (s, next) → is_last s ≡ false → IsOk (specs_at 0 (n + 1 - k) i) → SameValues (listed ++ first_in (specs_at 0 (n + 1 - k) i)) all → Left n k next s listed all
+left_behind n k lt i next s listed all read on ok same =
+    let less : n + 1 - k ≡ suc (n - k) = omega (arith, lt) in
+    let behind : n + 1 - (k + 1) ≡ n - k = omega arith in
+    let sound = rw less at ok in
+    let first = first_goes 0 (n - k) i s next read on sound in
+    record {
+      ok = rw behind (ok_goes 0 (n - k) i s next read on sound);
+      same = rw behind (subst (λ (r : List Spec). SameValues (listed ++ r) all) first (rw less at same));
+    }
+
 pub attributes-preserved-then-not-wants : goal.attributes-preserved-then-not-wants
 attributes-preserved-then-not-wants c =
-    let n : ℕ = length c.rest.result.now in
-    let less : n + 1 - c.attributes.counter ≡ suc (n - c.attributes.counter) = omega (arith, c.attributes-test.true) in
-    let next : n + 1 - (c.attributes.counter + 1) ≡ n - c.attributes.counter = omega arith in
-    let same = rw less at c.attributes.invariant.same in
-    let ok = rw less at c.attributes.invariant.ok in
     let s : Spec = spec_seen c.in_ok-spec.spec in
-    let on : is_last s ≡ false = sym c.is_last.ensures ∙ c.if-is_last.false in
-    let first = first_goes 0 (n - c.attributes.counter) c.attributes.specs s c.read.new.cursor c.in_ok-spec.ensures.value on ok in
     let listed : List Spec = map spec_seen c.attributes.list.items in
-    let all : List Spec = specs_in c.args.specs in
-    let rest : List Spec = first_in (specs_at 0 (n - c.attributes.counter) c.read.new.cursor) in
-    let with_it = subst (λ (r : List Spec). SameValues (listed ++ r) all) first same in
+    let inv = c.attributes.invariant in
+    let left = left_behind (length c.rest.result.now) c.attributes.counter c.attributes-test.true c.attributes.specs c.read.new.cursor s listed (specs_in c.args.specs) c.in_ok-spec.ensures.value (sym c.is_last.ensures ∙ c.if-is_last.false) inv.ok inv.same in
     record {
-      ok = rw next (ok_goes 0 (n - c.attributes.counter) c.attributes.specs s c.read.new.cursor c.in_ok-spec.ensures.value on ok);
-      same = rw next (left_out (kept_seen c.attributes.found) listed s rest all c.attributes.invariant.found c.if-spec-eq-FLAG_PRESENT.true (sym c.wants.ensures ∙ c.if-not-wants.true) with_it);
-      found = c.attributes.invariant.found;
+      ok = left.ok;
+      same = left_out (kept_seen c.attributes.found) listed s _ (specs_in c.args.specs) inv.found c.if-spec-eq-FLAG_PRESENT.true (sym c.wants.ensures ∙ c.if-not-wants.true) left.same;
+      found = inv.found;
     }
 
 pub attributes-preserved : goal.attributes-preserved
 attributes-preserved c =
-    let n : ℕ = length c.rest.result.now in
-    let less : n + 1 - c.attributes.counter ≡ suc (n - c.attributes.counter) = omega (arith, c.attributes-test.true) in
-    let next : n + 1 - (c.attributes.counter + 1) ≡ n - c.attributes.counter = omega arith in
-    let same = rw less at c.attributes.invariant.same in
-    let ok = rw less at c.attributes.invariant.ok in
     let s : Spec = spec_seen c.in_ok-spec.spec in
-    let on : is_last s ≡ false = sym c.is_last.ensures ∙ c.if-is_last.false in
-    let first = first_goes 0 (n - c.attributes.counter) c.attributes.specs s c.read.new.cursor c.in_ok-spec.ensures.value on ok in
-    let listed : List Spec = map spec_seen c.attributes.list.items in
-    let all : List Spec = specs_in c.args.specs in
-    let rest : List Spec = first_in (specs_at 0 (n - c.attributes.counter) c.read.new.cursor) in
-    let with_it = subst (λ (r : List Spec). SameValues (listed ++ r) all) first same in
+    let inv = c.attributes.invariant in
+    let left = left_behind (length c.rest.result.now) c.attributes.counter c.attributes-test.true c.attributes.specs c.read.new.cursor s (map spec_seen c.attributes.list.items) (specs_in c.args.specs) c.in_ok-spec.ensures.value (sym c.is_last.ensures ∙ c.if-is_last.false) inv.ok inv.same in
     record {
-      ok = rw next (ok_goes 0 (n - c.attributes.counter) c.attributes.specs s c.read.new.cursor c.in_ok-spec.ensures.value on ok);
-      same = rw (next, c.in-Ok.ensures.items) (same_more c.attributes.list.items c.in_ok-spec.spec rest all with_it);
-      found = rw (c.in-Ok.ensures.items, c.keep.ensures) (stands_seen (kept_seen c.attributes.found) c.attributes.list.items c.in_ok-spec.spec None c.attributes.invariant.found);
+      ok = left.ok;
+      same = rw c.in-Ok.ensures.items (same_more c.attributes.list.items c.in_ok-spec.spec _ (specs_in c.args.specs) left.same);
+      found = rw (c.in-Ok.ensures.items, c.keep.ensures) (stands_seen (kept_seen c.attributes.found) c.attributes.list.items c.in_ok-spec.spec None inv.found);
     }
