@@ -7,6 +7,8 @@
 #[cfg(test)]
 mod added;
 #[cfg(test)]
+mod ends;
+#[cfg(test)]
 mod kept;
 #[cfg(test)]
 mod made;
