@@ -7,6 +7,7 @@ use Rattle.index_model.specs.Cache.{cache_in}
 use Rattle.query_text.specs.Questions.{Question}
 use Rattle.outside.specs.Counts.{Rose}
 use Rattle.outside.specs.Files.{Files, SameFiles, Stored, StoredOrPrefix}
+use Rattle.outside.specs.declared.shelf.Shelf.{Ghosts as OfShelf}
 use Rattle.outside.proofs.CountLaws.{then-rose}
 use Rattle.outside.proofs.FileLaws.{same_files-refl, same_files-trans}
 use Rattle.command_base.specs.FilesRead.{HoldsMore}
@@ -61,25 +62,31 @@ causes_of_result request told reads stores writes InputFault c = absurd c
 causes_of_result request told reads stores writes InputTooLong c = absurd c
 causes_of_result request told reads stores writes Stopped c = absurd c
 
-module _ (told shelf : Option Files) (file bytes : List ℕ) (heard : Heard) (old_reads mid_reads new_reads old_stores mid_stores new_stores : ℕ) (writes : Type 0) (was : WasRead told shelf file bytes old_reads mid_reads old_stores mid_stores) (old new : Option (List ℕ)) where
+module _ {F : Type 0} (seen : OfShelf F) (before middle last : F) (file bytes : List ℕ) (heard : Heard) (writes : Type 0) (was : WasRead seen before middle file bytes) (old new : Option (List ℕ)) where
+  abbrev told : Option Files
+  told = seen.files before
+
+  abbrev shelf : Option Files
+  shelf = seen.files middle
+
   -- what fails from here on, and what fails from before the file was read on
   abbrev later_reads : Type 0
-  later_reads = Rose mid_reads new_reads
+  later_reads = Rose (seen.read_faults middle) (seen.read_faults last)
 
   abbrev later_stores : Type 0
-  later_stores = Rose mid_stores new_stores
+  later_stores = Rose (seen.store_faults middle) (seen.store_faults last)
 
   abbrev reads : Type 0
-  reads = Rose old_reads new_reads
+  reads = Rose (seen.read_faults before) (seen.read_faults last)
 
   abbrev stores : Type 0
-  stores = Rose old_stores new_stores
+  stores = Rose (seen.store_faults before) (seen.store_faults last)
 
   reads_on : later_reads → reads
-  reads_on = then-rose old_reads mid_reads new_reads was.reads_on
+  reads_on = then-rose (seen.read_faults before) (seen.read_faults middle) (seen.read_faults last) was.reads_on
 
   stores_on : later_stores → stores
-  stores_on = subst (λ (n : ℕ). Rose n new_stores) was.stores_stay
+  stores_on = subst (λ (n : ℕ). Rose n (seen.store_faults last)) was.stores_stay
 
   -- a command that stores nothing
   does : (request : Request) → StoresNothing (Some request) → (after : Option Files) → SameFiles shelf after → (status : Status) → Wrote (Says (Some request) told heard) status old new → Causes (Some request) told reads stores writes status → Does (Some request) told after heard reads stores writes old new status

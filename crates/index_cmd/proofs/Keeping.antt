@@ -23,12 +23,12 @@ module _ (told shelf : Option Files) (same : SameFiles told shelf) where
   missed_from file store K L k why (unread id own c) = unread id own (k c)
   missed_from file store K L k why (stale id f own is) = stale id f own (stale_from (cache_name store id) id f is)
 
-  pub looks_from : (file store : List ℕ) (K : Type 0) → LooksFirst shelf file store K Refused → LooksFirst told file store K Refused
-  looks_from file store K (inl early) = inl early
-  looks_from file store K (inr missed) = inr (missed.0, missed_from file store K K (λ k. k) missed.0 missed.1)
+  pub looks_from : (file store : List ℕ) (K L : Type 0) → (K → L) → LooksFirst shelf file store K Refused → LooksFirst told file store L Refused
+  looks_from file store K L k (inl early) = inl early
+  looks_from file store K L k (inr missed) = inr (missed.0, missed_from file store K L k missed.0 missed.1)
 
-  pub looks_large_from : (file store : List ℕ) (K : Type 0) → LooksFirst shelf file store K IndexTooLarge → LooksFirst told file store K IndexTooLarge
-  looks_large_from file store K missed = (missed.0, missed_from file store K K (λ k. k) missed.0 missed.1)
+  pub looks_large_from : (file store : List ℕ) (K L : Type 0) → (K → L) → LooksFirst shelf file store K IndexTooLarge → LooksFirst told file store L IndexTooLarge
+  looks_large_from file store K L k missed = (missed.0, missed_from file store K L k missed.0 missed.1)
 
   module _ (after : Option Files) (file store : List ℕ) where
     pub may_from : MayKeep shelf after file store → MayKeep told after file store

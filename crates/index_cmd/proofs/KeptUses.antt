@@ -1,11 +1,11 @@
 -- Which requests and statuses say something of an index that may be kept.
-use Rattle.std.proofs.Common.{◌≡◌, ℕ, ◌≤◌, List, length, Option, Some, None, refl, subst}
+use Rattle.std.proofs.Common.{◌≡◌, ℕ, List, Option, Some, None, refl, subst}
 use Rattle.std.specs.Prelude.{⊤}
-use Rattle.ix_base.specs.declared.limits.TheConstants.{MAX_FILE_BYTES}
-use Rattle.outside.specs.Files.{Files, SameFiles}
+use Rattle.outside.specs.Counts.{Rose}
+use Rattle.outside.specs.Files.{Files}
+use Rattle.outside.specs.declared.shelf.Shelf.{Ghosts as OfShelf}
 use Rattle.outside.specs.Written.{Appends}
 use Rattle.query_text.specs.Questions.{Question}
-use Rattle.command_base.specs.FilesRead.{Holds}
 use Rattle.command_base.specs.Replies.{line_of}
 use Rattle.command_base.specs.Stops.{stop_status}
 use Rattle.command_base.specs.declared.file.ReadStop.{ReadStop}
@@ -15,13 +15,9 @@ use Rattle.command_base.specs.declared.status.Status.TheVariants.{Answered, Refu
 use Rattle.cached_command.specs.Cached.{LooksFirst}
 use Rattle.cached_command.specs.Caches.{IsCached}
 use Rattle.index_cmd.specs.Caching.{UsesKept}
+use Rattle.index_cmd.specs.Doings.{WasRead}
 use Rattle.index_cmd.specs.Replies.{Ends, without_line, with_line, cut}
 use Rattle.index_cmd.specs.Requests.{Request, TheHelp, TheVersion, OfFile, OfIndex, OfAdd, OfGdb, OfNames, OfServe, OfRace, OfDrill, OfAranges, OfFiles, OfCached}
-use Rattle.index_cmd.specs.Tasks.{request_on, request_seen}
-use Rattle.index_cmd.specs.declared.task.Action.{Action}
-use Rattle.index_cmd.specs.declared.task.Action.TheVariants as actions
-use Rattle.index_cmd.specs.declared.task.Task.{Task}
-use Rattle.index_cmd.specs.declared.task.Task.TheVariants as tasks
 use Rattle.index_cmd.proofs.Keeping.{cached_from, looks_from, looks_large_from}
 
 -- ---- statuses of which nothing is said
@@ -31,14 +27,6 @@ IsFree Answered = ⊥
 IsFree Refused = ⊥
 IsFree IndexTooLarge = ⊥
 IsFree other = ⊤
-
-abbrev pub IsNotCached : Action → Type 0
-IsNotCached (actions.Cached store q) = ⊥
-IsNotCached other = ⊤
-
-abbrev pub IsNotOnFile : Task → Type 0
-IsNotOnFile (tasks.OnFile f) = ⊥
-IsNotOnFile other = ⊤
 
 module _ (told shelf : Option Files) (kept_reads stores : Type 0) (old new : Option (List ℕ)) where
   pub free : (request : Option Request) (status : Status) → IsFree status → UsesKept request told shelf kept_reads stores old new status
@@ -78,33 +66,32 @@ module _ (told shelf : Option Files) (kept_reads stores : Type 0) (old new : Opt
   unread_file request stops.TooBig = free request FileTooBig tt
   unread_file request stops.Memory = free request NoMemory tt
 
-  -- ---- other requests
-
-  pub other_action : (file : List ℕ) (action : Action) → IsNotCached action → (status : Status) → UsesKept (Some (request_on file action)) told shelf kept_reads stores old new status
-  other_action file (actions.Ask q) o status = tt
-  other_action file (actions.Index kind out) o status = tt
-  other_action file (actions.Add kind out) o status = tt
-  other_action file (actions.LookGdb q) o status = tt
-  other_action file (actions.LookNames look strings name) o status = tt
-  other_action file (actions.Serve how) o status = tt
-  other_action file (actions.Race how script) o status = tt
-  other_action file actions.Aranges o status = tt
-  other_action file (actions.Files name) o status = tt
-  other_action file (actions.Cached store q) o status = absurd o
-
-  pub other_task : (task : Task) → IsNotOnFile task → (status : Status) → UsesKept (Some (request_seen task)) told shelf kept_reads stores old new status
-  other_task tasks.Help o status = tt
-  other_task tasks.Version o status = tt
-  other_task (tasks.Drill seed units) o status = tt
-  other_task (tasks.OnFile f) o status = absurd o
-
 -- ---- the command
 
-module _ (told shelf after : Option Files) (same : SameFiles told shelf) (file bytes store : List ℕ) (q : Question) (holds : Holds told file bytes) (small : length bytes ≤ MAX_FILE_BYTES) (kept_reads stores : Type 0) (old new : Option (List ℕ)) where
-  pub uses : (status : Status) → (status ≡ Answered → (text : List ℕ) × IsCached shelf after bytes store q kept_reads stores text × Appends old new text) → LooksFirst shelf bytes store kept_reads status → UsesKept (Some (OfCached file store q)) told after kept_reads stores old new status
-  uses Answered tied first = let t = tied refl in (t.0, (bytes, holds, small, cached_from told shelf same after bytes store q kept_reads stores kept_reads stores (λ k. k) (λ s. s) t.0 t.1), t.2)
-  uses Refused tied first = (bytes, holds, small, looks_from told shelf same bytes store kept_reads first)
-  uses IndexTooLarge tied first = (bytes, holds, small, looks_large_from told shelf same bytes store kept_reads first)
+module _ {F : Type 0} (seen : OfShelf F) (before middle last : F) (file bytes store : List ℕ) (q : Question) (was : WasRead seen before middle file bytes) (old new : Option (List ℕ)) where
+  -- what fails from here on, and what fails from before the file was read on
+  abbrev later_kept : Type 0
+  later_kept = Rose (seen.kept_faults middle) (seen.kept_faults last)
+
+  abbrev later_stores : Type 0
+  later_stores = Rose (seen.store_faults middle) (seen.store_faults last)
+
+  abbrev kept : Type 0
+  kept = Rose (seen.kept_faults before) (seen.kept_faults last)
+
+  abbrev stores : Type 0
+  stores = Rose (seen.store_faults before) (seen.store_faults last)
+
+  kept_on : later_kept → kept
+  kept_on = subst (λ (n : ℕ). Rose n (seen.kept_faults last)) was.kept_stay
+
+  stores_on : later_stores → stores
+  stores_on = subst (λ (n : ℕ). Rose n (seen.store_faults last)) was.stores_stay
+
+  pub uses : (status : Status) → (status ≡ Answered → (text : List ℕ) × IsCached (seen.files middle) (seen.files last) bytes store q later_kept later_stores text × Appends old new text) → LooksFirst (seen.files middle) bytes store later_kept status → UsesKept (Some (OfCached file store q)) (seen.files before) (seen.files last) kept stores old new status
+  uses Answered tied first = let t = tied refl in (t.0, (bytes, was.holds, was.small, cached_from (seen.files before) (seen.files middle) was.same (seen.files last) bytes store q later_kept later_stores kept stores kept_on stores_on t.0 t.1), t.2)
+  uses Refused tied first = (bytes, was.holds, was.small, looks_from (seen.files before) (seen.files middle) was.same bytes store later_kept kept kept_on first)
+  uses IndexTooLarge tied first = (bytes, was.holds, was.small, looks_large_from (seen.files before) (seen.files middle) was.same bytes store later_kept kept kept_on first)
   uses Usage tied first = tt
   uses ReadFault tied first = tt
   uses StoreFault tied first = tt

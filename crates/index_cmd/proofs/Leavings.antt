@@ -1,14 +1,13 @@
 -- What the shelf holds, once a status's line is written.
-use Rattle.std.proofs.Common.{◌≡◌, inl, inr, ℕ, List, Option, Some, None, refl, subst}
+use Rattle.std.proofs.Common.{◌≡◌, inl, inr, ℕ, List, Option, Some, None}
 use Rattle.outside.specs.Files.{Files, SameFiles}
 use Rattle.index_cmd.specs.Requests.{Request, TheHelp, TheVersion, OfFile, OfIndex, OfAdd, OfGdb, OfNames, OfServe, OfRace, OfDrill, OfAranges, OfFiles, OfCached, AsksIndex, StoresNothing}
 use Rattle.index_cmd.specs.Replies.{Causes, Ends, without_line, with_line, cut}
 use Rattle.command_base.specs.Replies.{line_of}
-use Rattle.command_base.specs.Statuses.{status_code}
 use Rattle.index_cmd.specs.Stores.{IsMaybeKept, IsStored, IsPartStored, Leaves, LeavesAtEnd, LeavesCut}
 use Rattle.command_base.specs.declared.status.Status.{Status}
 use Rattle.command_base.specs.declared.status.Status.TheVariants.{Answered, Refused, Usage, ReadFault, StoreFault, WriteFault, NoMemory, IndexRefused, TableRefused, IndexTooLarge, FileTooBig, AlreadyIndexed, TooManySections, InputFault, InputTooLong, Stopped}
-use Rattle.index_cmd.proofs.Outcomes.{asks_index, one_status}
+use Rattle.index_cmd.proofs.Outcomes.{asks_index}
 
 -- ---- a command that stores nothing
 
@@ -178,26 +177,3 @@ module _ (request : Option Request) (old new : Option Files) (stores : Type 0) w
   left_at_end told reads writes status result a b failed (without_line none same) c h = as_left status h
   left_at_end told reads writes status result a b failed (with_line text has all) c h = as_left status h
   left_at_end told reads writes status result a b failed (cut text has f part) c h = cut_left told reads writes status text has c h
-
-  -- by the number of a status
-  pub left_by : (status other : Status) → (status_code other ≡ 7 → ⊥) → status_code status ≡ status_code other → LeavesAtEnd request old new stores status → LeavesAtEnd request old new stores other
-  left_by status other n e h = subst (LeavesAtEnd request old new stores) (one_status status other n e) h
-
-  -- where the index isn't stored and no store and no write failed, all is as before
-  pub untouched : (status : Status) → (status_code status ≡ 0 → ⊥) → (status_code status ≡ 4 → ⊥) → (status_code status ≡ 5 → ⊥) → LeavesAtEnd request old new stores status → SameFiles old new
-  untouched Answered a b c h = absurd (a refl)
-  untouched StoreFault a b c h = absurd (b refl)
-  untouched WriteFault a b c h = absurd (c refl)
-  untouched Refused a b c h = h
-  untouched Usage a b c h = h
-  untouched ReadFault a b c h = h
-  untouched NoMemory a b c h = h
-  untouched IndexRefused a b c h = h
-  untouched (TableRefused table) a b c h = h
-  untouched IndexTooLarge a b c h = h
-  untouched FileTooBig a b c h = h
-  untouched AlreadyIndexed a b c h = h
-  untouched TooManySections a b c h = h
-  untouched InputFault a b c h = h
-  untouched InputTooLong a b c h = h
-  untouched Stopped a b c h = h

@@ -10,4 +10,5 @@ mod Tables
 mod Keeping
 mod KeptMeant
 mod KeptUses
+mod Inputs
 mod Completeness

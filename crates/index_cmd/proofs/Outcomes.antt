@@ -1,5 +1,5 @@
 -- What a command came to, once its status's line is written.
-use Rattle.std.proofs.Common.{◌≡◌, ◌⊎◌, inl, inr, ℕ, ◌==◌, if◌then◌else◌, List, [], Option, Some, None, Ok, refl, sym, ap, subst, ◌∙◌, arith}
+use Rattle.std.proofs.Common.{◌≡◌, ◌⊎◌, inl, inr, ℕ, List, [], Option, Some, None, Ok, refl, sym, ap, subst, ◌∙◌}
 use Rattle.std.specs.Prelude.{option_and_then, ⊤}
 use Rattle.ix_base.specs.declared.fault.Fault.{Fault}
 use Rattle.index_model.specs.Faults.{Built, first_fault, built_of}
@@ -9,45 +9,14 @@ use Rattle.outside.specs.Written.{Appends, AppendsPrefix}
 use Rattle.outside.proofs.WrittenLaws.{appends_more, appends_more_prefix}
 use Rattle.command_words.specs.Words.{Wanted, command_of}
 use Rattle.session_commands.specs.Heard.{Heard}
-use Rattle.index_cmd.specs.Requests.{Request, TheHelp, TheVersion, OfFile, OfIndex, OfAdd, OfGdb, OfNames, OfServe, OfRace, OfDrill, OfAranges, OfFiles, OfCached, AsksFile, AsksIndex, requested, request_of}
-use Rattle.index_cmd.specs.Replies.{Causes, Ends, without_line, with_line, cut, IsAnswer, IsRefusal, IsIndexRefusal, IsStatus, IsTableRefusal, SaysRequest}
+use Rattle.index_cmd.specs.Requests.{Request, TheHelp, TheVersion, OfFile, OfIndex, OfAdd, OfGdb, OfNames, OfServe, OfRace, OfDrill, OfAranges, OfFiles, OfCached, AsksIndex, requested, request_of}
+use Rattle.index_cmd.specs.Replies.{Causes, Ends, without_line, with_line, cut, IsAnswer, IsRefusal, IsIndexRefusal, IsTableRefusal, SaysRequest}
 use Rattle.command_base.specs.Replies.{Wrote, Writes, line_of}
-use Rattle.index_cmd.specs.Results.{Says, SaysNoMemory, WritesPrefix}
-use Rattle.command_base.specs.Statuses.{status_code}
+use Rattle.index_cmd.specs.Results.{Says, WritesPrefix}
+use Rattle.index_cmd.specs.Runs.{Run, HasWritten}
 use Rattle.command_base.specs.declared.status.Table.{Table}
-use Rattle.command_base.specs.declared.status.Table.TheVariants.{Addresses, Lines}
 use Rattle.command_base.specs.declared.status.Status.{Status}
 use Rattle.command_base.specs.declared.status.Status.TheVariants.{Answered, Refused, Usage, ReadFault, StoreFault, WriteFault, NoMemory, IndexRefused, TableRefused, IndexTooLarge, FileTooBig, AlreadyIndexed, TooManySections, InputFault, InputTooLong, Stopped}
-
--- ---- numbers of statuses
-
-from_code : ℕ → Status
-from_code n = if n == 0 then Answered else if n == 1 then Refused else if n == 2 then Usage else if n == 3 then ReadFault else if n == 4 then StoreFault else if n == 5 then WriteFault else if n == 6 then InputFault else if n == 8 then IndexRefused else if n == 9 then IndexTooLarge else if n == 10 then FileTooBig else if n == 12 then AlreadyIndexed else if n == 13 then TooManySections else if n == 14 then TableRefused Addresses else if n == 15 then TableRefused Lines else InputTooLong
-
--- 7 alone is the number of two
-code_back : (status : Status) → (status_code status ≡ 7 → ⊥) → from_code (status_code status) ≡ status
-unfolding from_code
-code_back Answered n = refl
-code_back Refused n = refl
-code_back Usage n = refl
-code_back ReadFault n = refl
-code_back StoreFault n = refl
-code_back WriteFault n = refl
-code_back InputFault n = refl
-code_back IndexRefused n = refl
-code_back (TableRefused Addresses) n = refl
-code_back (TableRefused Lines) n = refl
-code_back IndexTooLarge n = refl
-code_back FileTooBig n = refl
-code_back AlreadyIndexed n = refl
-code_back TooManySections n = refl
-code_back InputTooLong n = refl
-code_back NoMemory n = absurd (n refl)
-code_back Stopped n = absurd (n refl)
-
--- another number is that of one status
-pub one_status : (status other : Status) → (status_code other ≡ 7 → ⊥) → status_code status ≡ status_code other → status ≡ other
-one_status status other n e = sym (code_back status (λ s. n (sym e ∙ s))) ∙ ap from_code e ∙ code_back other n
 
 -- ---- outcomes
 
@@ -61,43 +30,6 @@ IsTold InputFault = ⊤
 IsTold InputTooLong = ⊤
 IsTold other = ⊥
 
-told_no_line : (status : Status) → IsTold status → line_of status ≡ None
-told_no_line Answered t = refl
-told_no_line Refused t = refl
-told_no_line IndexRefused t = refl
-told_no_line (TableRefused table) t = refl
-told_no_line InputFault t = refl
-told_no_line InputTooLong t = refl
-told_no_line Usage t = absurd t
-told_no_line ReadFault t = absurd t
-told_no_line StoreFault t = absurd t
-told_no_line WriteFault t = absurd t
-told_no_line NoMemory t = absurd t
-told_no_line IndexTooLarge t = absurd t
-told_no_line FileTooBig t = absurd t
-told_no_line AlreadyIndexed t = absurd t
-told_no_line TooManySections t = absurd t
-told_no_line Stopped t = absurd t
-
-told_not_7 : (status : Status) → IsTold status → status_code status ≡ 7 → ⊥
-told_not_7 Answered t e = omega (arith, e)
-told_not_7 Refused t e = omega (arith, e)
-told_not_7 IndexRefused t e = omega (arith, e)
-told_not_7 (TableRefused Addresses) t e = omega (arith, e)
-told_not_7 (TableRefused Lines) t e = omega (arith, e)
-told_not_7 InputFault t e = omega (arith, e)
-told_not_7 InputTooLong t e = omega (arith, e)
-told_not_7 Usage t e = t
-told_not_7 ReadFault t e = t
-told_not_7 StoreFault t e = t
-told_not_7 WriteFault t e = t
-told_not_7 NoMemory t e = t
-told_not_7 IndexTooLarge t e = t
-told_not_7 FileTooBig t e = t
-told_not_7 AlreadyIndexed t e = t
-told_not_7 TooManySections t e = t
-told_not_7 Stopped t e = t
-
 module _ (request : Option Request) (told : Option Files) (heard : Heard) (reads stores writes : Type 0) (old new : Option (List ℕ)) where
   -- a result was written, sessions stopped, or the line of a status with its cause, or a write failed
   pub data Outcome : Status → Type 0 where
@@ -106,60 +38,73 @@ module _ (request : Option Request) (told : Option Files) (heard : Heard) (reads
     lines : {status : Status} (text : List ℕ) → line_of status ≡ Some text → Causes request told reads stores writes status → Appends old new text → Outcome status
     fails : writes → WritesPrefix request told heard old new → Outcome WriteFault
 
-  of_told : (status other : Status) → IsTold other → status ≡ other → Outcome status → Writes old new (Says request told heard other)
-  of_told status other t e (tells t' w) = subst (λ (s : Status). Writes old new (Says request told heard s)) e w
-  of_told status other t e (stops text says part) = absurd (subst IsTold (sym e) t)
-  of_told status other t e (lines text is c a) = let none : None ≡ Some text = sym (told_no_line other t) ∙ ap line_of (sym e) ∙ is in absurd (cc none)
-  of_told status other t e (fails f p) = absurd (subst IsTold (sym e) t)
+-- what is promised of a run, by what it came to
+module _ (run : Run) where
+  abbrev pub Came : Status → Type 0
+  Came = Outcome run.request run.files_before run.heard run.read_failed run.store_failed run.write_failed run.written_before run.written_after
 
-  -- the text that goes with a status
-  pub telling : (status other : Status) → IsTold other → Outcome status → status_code status ≡ status_code other → Writes old new (Says request told heard other)
-  telling status other t o e = of_told status other t (one_status status other (told_not_7 other t) e) o
+  same_line : (line text : List ℕ) → Some line ≡ Some text → Appends run.written_before run.written_after text → Appends run.written_before run.written_after line
+  same_line line text is a = let same : Some text ≡ Some line = sym is in subst (Appends run.written_before run.written_after) (cc same) a
 
-  of_failed : (status : Status) → status ≡ WriteFault → Outcome status → writes × WritesPrefix request told heard old new
-  of_failed status e (tells t w) = absurd (subst IsTold e t)
-  of_failed status e (stops text says part) = absurd (cc e)
-  of_failed status e (lines text is c a) = let none : None ≡ Some text = ap line_of (sym e) ∙ is in absurd (cc none)
-  of_failed status e (fails f p) = (f, p)
+  pub has_written : (status : Status) → Came status → HasWritten run status
+  has_written Answered (tells t w) = w
+  has_written Refused (tells t w) = w
+  has_written IndexRefused (tells t w) = w
+  has_written (TableRefused table) (tells t w) = w
+  has_written InputFault (tells t w) = w
+  has_written InputTooLong (tells t w) = w
+  has_written Usage (tells t w) = absurd t
+  has_written ReadFault (tells t w) = absurd t
+  has_written StoreFault (tells t w) = absurd t
+  has_written NoMemory (tells t w) = absurd t
+  has_written IndexTooLarge (tells t w) = absurd t
+  has_written FileTooBig (tells t w) = absurd t
+  has_written AlreadyIndexed (tells t w) = absurd t
+  has_written TooManySections (tells t w) = absurd t
+  has_written WriteFault (tells t w) = absurd t
+  has_written Stopped (tells t w) = absurd t
+  has_written Usage (lines text is c a) = same_line _ text is a
+  has_written ReadFault (lines text is c a) = same_line _ text is a
+  has_written StoreFault (lines text is c a) = same_line _ text is a
+  has_written NoMemory (lines text is c a) = same_line _ text is a
+  has_written IndexTooLarge (lines text is c a) = same_line _ text is a
+  has_written FileTooBig (lines text is c a) = same_line _ text is a
+  has_written AlreadyIndexed (lines text is c a) = same_line _ text is a
+  has_written TooManySections (lines text is c a) = same_line _ text is a
+  has_written Answered (lines text is c a) = absurd (cc is)
+  has_written Refused (lines text is c a) = absurd (cc is)
+  has_written IndexRefused (lines text is c a) = absurd (cc is)
+  has_written (TableRefused table) (lines text is c a) = absurd (cc is)
+  has_written InputFault (lines text is c a) = absurd (cc is)
+  has_written InputTooLong (lines text is c a) = absurd (cc is)
+  has_written WriteFault (lines text is c a) = absurd (cc is)
+  has_written Stopped (lines text is c a) = absurd (cc is)
+  has_written status (stops text says part) = (text, says, part)
+  has_written status (fails f p) = p
 
-  pub failed : (status : Status) → Outcome status → status_code status ≡ 5 → writes × WritesPrefix request told heard old new
-  failed status o e = of_failed status (one_status status WriteFault (λ s. omega (arith, s)) e) o
+  told_causes : (status : Status) → IsTold status → Causes run.request run.files_before run.read_failed run.store_failed run.write_failed status
+  told_causes Answered t = tt
+  told_causes Refused t = tt
+  told_causes IndexRefused t = tt
+  told_causes (TableRefused table) t = tt
+  told_causes InputFault t = tt
+  told_causes InputTooLong t = tt
+  told_causes Usage t = absurd t
+  told_causes ReadFault t = absurd t
+  told_causes StoreFault t = absurd t
+  told_causes NoMemory t = absurd t
+  told_causes IndexTooLarge t = absurd t
+  told_causes FileTooBig t = absurd t
+  told_causes AlreadyIndexed t = absurd t
+  told_causes TooManySections t = absurd t
+  told_causes WriteFault t = absurd t
+  told_causes Stopped t = absurd t
 
-  -- a status with a line has its cause, and the line alone was appended
-  of_line : (status : Status) (line : List ℕ) → line_of status ≡ Some line → Outcome status → Causes request told reads stores writes status × Appends old new line
-  of_line status line has (tells t w) = let none : None ≡ Some line = sym (told_no_line status t) ∙ has in absurd (cc none)
-  of_line status line has (stops text says part) = absurd (cc has)
-  of_line status line has (lines text is c a) = let same : Some text ≡ Some line = sym is ∙ has in (c, subst (Appends old new) (cc same) a)
-  of_line status line has (fails f p) = absurd (cc has)
-
-  pub lined : (status other : Status) (line : List ℕ) → (status_code other ≡ 7 → ⊥) → Outcome status → status_code status ≡ status_code other → line_of other ≡ Some line → Causes request told reads stores writes other × Appends old new line
-  lined status other line n o e has = of_line other line has (subst Outcome (one_status status other n e) o)
-
-  -- want of memory has its line, or stops sessions
-  no_memory_line : (status : Status) (text : List ℕ) → status_code status ≡ 7 → line_of status ≡ Some text → line_of NoMemory ≡ Some text
-  no_memory_line NoMemory text e is = is
-  no_memory_line Stopped text e is = absurd (cc is)
-  no_memory_line Answered text e is = absurd (omega (arith, e))
-  no_memory_line Refused text e is = absurd (omega (arith, e))
-  no_memory_line Usage text e is = absurd (omega (arith, e))
-  no_memory_line ReadFault text e is = absurd (omega (arith, e))
-  no_memory_line StoreFault text e is = absurd (omega (arith, e))
-  no_memory_line WriteFault text e is = absurd (omega (arith, e))
-  no_memory_line InputFault text e is = absurd (omega (arith, e))
-  no_memory_line IndexRefused text e is = absurd (omega (arith, e))
-  no_memory_line (TableRefused Addresses) text e is = absurd (omega (arith, e))
-  no_memory_line (TableRefused Lines) text e is = absurd (omega (arith, e))
-  no_memory_line IndexTooLarge text e is = absurd (omega (arith, e))
-  no_memory_line FileTooBig text e is = absurd (omega (arith, e))
-  no_memory_line AlreadyIndexed text e is = absurd (omega (arith, e))
-  no_memory_line TooManySections text e is = absurd (omega (arith, e))
-  no_memory_line InputTooLong text e is = absurd (omega (arith, e))
-
-  pub no_memory : (status : Status) → Outcome status → status_code status ≡ 7 → SaysNoMemory request told heard old new
-  no_memory status (tells t w) e = absurd (told_not_7 status t e)
-  no_memory status (stops text says part) e = inr (text, says, part)
-  no_memory status (lines text is c a) e = inl (text, no_memory_line status text e is, a)
-  no_memory status (fails f p) e = absurd (omega (arith, e))
+  pub causes : (status : Status) → Came status → Causes run.request run.files_before run.read_failed run.store_failed run.write_failed status
+  causes status (tells t w) = told_causes status t
+  causes status (stops text says part) = tt
+  causes status (lines text is c a) = c
+  causes status (fails f p) = f
 
 -- ---- requests that are neither sessions nor a generated program
 
@@ -219,24 +164,6 @@ module _ (request : Option Request) (told : Option Files) (reads stores writes :
     plain status (fails h p) = plain_fails h
 
 -- what doesn't depend on the file
-pub asks : (request : Option Request) (P : Type 0) → AsksFile request (λ _ _. P) → P
-asks (Some (OfFile file q)) P h = h
-asks (Some (OfIndex kind file out)) P h = h
-asks (Some (OfAdd kind file out)) P h = h
-asks (Some (OfGdb index q)) P h = h
-asks (Some (OfNames look index strings name)) P (inl h) = h
-asks (Some (OfNames look index strings name)) P (inr h) = h
-asks (Some (OfServe how file)) P h = h
-asks (Some (OfRace how file script)) P (inl h) = h
-asks (Some (OfRace how file script)) P (inr h) = h
-asks (Some (OfAranges file)) P h = h
-asks (Some (OfFiles file name)) P h = h
-asks (Some (OfCached file store q)) P h = h
-asks (Some (OfDrill seed units)) P h = absurd h
-asks (Some TheHelp) P h = absurd h
-asks (Some TheVersion) P h = absurd h
-asks None P h = absurd h
-
 pub asks_index : (request : Option Request) (P : Type 0) → AsksIndex request (λ _ _ _. P) → P
 asks_index (Some (OfIndex kind file out)) P h = h
 asks_index (Some (OfAdd kind file out)) P h = h
@@ -316,27 +243,7 @@ module _ (request : Option Request) (told : Option Files) (heard : Heard) (reads
   outcome status result old mid new w c (with_line text has all) = lines text has (cause_up status c) (appends_more old mid new [] text (nothing status text old mid has w) all)
   outcome status result old mid new w c (cut text has f part) = fails (later f) (text, (status, inr has), appends_more_prefix old mid new [] text (nothing status text old mid has w) part)
 
--- ---- the clauses that speak of all statuses
-
--- each number is one of the list
-pub is_status : (status : Status) → IsStatus (status_code status)
-is_status Answered = (0, omega arith, refl)
-is_status Refused = (1, omega arith, refl)
-is_status Usage = (2, omega arith, refl)
-is_status ReadFault = (3, omega arith, refl)
-is_status StoreFault = (4, omega arith, refl)
-is_status WriteFault = (5, omega arith, refl)
-is_status InputFault = (6, omega arith, refl)
-is_status NoMemory = (7, omega arith, refl)
-is_status Stopped = (7, omega arith, refl)
-is_status IndexRefused = (8, omega arith, refl)
-is_status IndexTooLarge = (9, omega arith, refl)
-is_status FileTooBig = (10, omega arith, refl)
-is_status InputTooLong = (11, omega arith, refl)
-is_status AlreadyIndexed = (12, omega arith, refl)
-is_status TooManySections = (13, omega arith, refl)
-is_status (TableRefused Addresses) = (14, omega arith, refl)
-is_status (TableRefused Lines) = (15, omega arith, refl)
+-- ---- words outside the grammar
 
 module _ (told : Option Files) (reads stores writes : Type 0) (old new : Option (List ℕ)) where
   -- where nothing is asked, that is said, or memory was refused, or a write failed
@@ -363,15 +270,14 @@ module _ (told : Option Files) (reads stores writes : Type 0) (old new : Option 
   no_request InputTooLong (plain_lines text is c) = absurd (cc is)
   no_request Stopped (plain_lines text is c) = absurd (cc is)
 
-pub outside_grammar : (request : Option Request) (told : Option Files) (heard : Heard) (reads stores writes : Type 0) (old new : Option (List ℕ)) (status : Status) → Outcome request told heard reads stores writes old new status → request ≡ None →
-    (status_code status ≡ 2) ⊎ (status_code status ≡ 5) ⊎ (status_code status ≡ 7)
+pub outside_grammar : (request : Option Request) (told : Option Files) (heard : Heard) (reads stores writes : Type 0) (old new : Option (List ℕ)) (status : Status) → Outcome request told heard reads stores writes old new status → request ≡ None → (status ≡ Usage) ⊎ (status ≡ WriteFault) ⊎ (status ≡ NoMemory)
 outside_grammar request told heard reads stores writes old new status o is =
     by (no_request told reads stores writes old new status (plain None told reads stores writes old new heard (λ _ _ h. h) status (subst (λ (r : Option Request). Outcome r told heard reads stores writes old new status) is o)))
   where
-    by : (status ≡ Usage) ⊎ ((status ≡ WriteFault) × writes) ⊎ (status ≡ NoMemory) → (status_code status ≡ 2) ⊎ (status_code status ≡ 5) ⊎ (status_code status ≡ 7)
-    by (inl e) = inl (ap status_code e)
-    by (inr (inl e)) = inr (inl (ap status_code e.0))
-    by (inr (inr e)) = inr (inr (ap status_code e))
+    by : (status ≡ Usage) ⊎ ((status ≡ WriteFault) × writes) ⊎ (status ≡ NoMemory) → (status ≡ Usage) ⊎ (status ≡ WriteFault) ⊎ (status ≡ NoMemory)
+    by (inl e) = inl e
+    by (inr (inl e)) = inr (inl e.0)
+    by (inr (inr e)) = inr (inr e)
 
 -- the file holds no other bytes than these
 pub same_bytes : (held : Option (List ℕ)) (a b : List ℕ) → held ≡ Some a → held ≡ Some b → a ≡ b
@@ -388,12 +294,6 @@ none_some f e = cc e
 -- no line goes with these
 pub no_line : (status : Status) (written : Option (List ℕ)) (failed : Type 0) → line_of status ≡ None → Ends status written written failed status
 no_line status written failed none = without_line none refl
-
--- what isn't a write that failed was so before the line
-pub ended : (status result other : Status) (old new : Option (List ℕ)) (failed : Type 0) → (other ≡ WriteFault → ⊥) → Ends status old new failed result → result ≡ other → status ≡ other
-ended status result other old new failed n (without_line none same) e = e
-ended status result other old new failed n (with_line text has all) e = e
-ended status result other old new failed n (cut text has f part) e = absurd (n (sym e))
 
 pub line_said : (status result : Status) (old new : Option (List ℕ)) (failed : Type 0) (text : List ℕ) → line_of status ≡ Some text → (result ≡ status → Appends old new text) → (result ≡ status) ⊎ (result ≡ WriteFault) → (result ≡ WriteFault → failed) → (result ≡ WriteFault → AppendsPrefix old new text) → Ends status old new failed result
 line_said status result old new failed text has said (inl e) fault left = subst (Ends status old new failed) (sym e) (with_line text has (said e))

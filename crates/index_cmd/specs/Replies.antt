@@ -1,5 +1,5 @@
 -- What is written of what was asked, and when each status comes.
-use Rattle.std.specs.Prelude.{◌≡◌, ◌⊎◌, ℕ, List, [], ◌∷◌, Contains, Option, Some, None, ⊤}
+use Rattle.std.specs.Prelude.{◌≡◌, ◌⊎◌, ℕ, List, [], Option, Some, None, ⊤}
 use Rattle.ix_base.specs.declared.limits.TheConstants.{MAX_FILE_BYTES}
 use Rattle.elf_make.specs.Generated.{generated_file}
 use Rattle.outside.specs.Files.{Files}
@@ -113,10 +113,6 @@ pub data Ends (status : Status) (old new : Option (List ℕ)) (failed : Type 0) 
   without_line : line_of status ≡ None → old ≡ new → Ends status old new failed status
   with_line : (text : List ℕ) → line_of status ≡ Some text → Appends old new text → Ends status old new failed status
   cut : (text : List ℕ) → line_of status ≡ Some text → failed → AppendsPrefix old new text → Ends status old new failed WriteFault
-
--- the numbers of the statuses that come
-abbrev pub IsStatus : ℕ → Type 0
-IsStatus n = Contains (0 ∷ 1 ∷ 2 ∷ 3 ∷ 4 ∷ 5 ∷ 6 ∷ 7 ∷ 8 ∷ 9 ∷ 10 ∷ 11 ∷ 12 ∷ 13 ∷ 14 ∷ 15 ∷ []) n
 
 -- Where nothing failed, the status is that of what was asked, or want of memory: of a file within the limit, that of its meaning.
 -- Of sessions and of generated programs nothing is said here.

@@ -4,10 +4,9 @@ use Rattle.elf_make.specs.Generated.{generated_file}
 use Rattle.ix_base.specs.declared.limits.TheConstants.{MAX_FILE_BYTES}
 use Rattle.outside.specs.Counts.{Rose}
 use Rattle.outside.specs.Files.{Files}
-use Rattle.outside.specs.Written.{Appends, AppendsPrefix}
+use Rattle.outside.specs.Written.{AppendsPrefix}
 use Rattle.command_base.specs.Replies.{OfBytesUpTo, OfFileBytes, OfWholeFile, line_of}
 use Rattle.command_base.specs.declared.status.Status.{Status}
-use Rattle.command_base.specs.declared.status.Status.TheVariants.{NoMemory, Stopped}
 use Rattle.session_commands.specs.declared.script.TheConstants.{MAX_SCRIPT_BYTES}
 use Rattle.session_commands.specs.Heard.{Heard}
 use Rattle.session_commands.specs.Races.{SaysRace}
@@ -24,12 +23,6 @@ Says (Some (OfServe how file)) told heard status text = OfFileBytes told file (�
 Says (Some (OfRace how file script)) told heard status text = OfFileBytes told file (λ bytes. OfBytesUpTo MAX_SCRIPT_BYTES told script (λ held. SaysRace how.spelling bytes how.readers held status text))
 Says (Some (OfDrill seed units)) told heard status text = SaysDrill seed units status text
 Says request told heard status text = SaysRequest request told status text
-
--- memory was refused: the line says so, or a prefix of what sessions say was appended
-abbrev pub SaysNoMemory : Option Request → Option Files → Heard → Option (List ℕ) → Option (List ℕ) → Type 0
-SaysNoMemory request told heard old new =
-    ((text : List ℕ) × (line_of NoMemory ≡ Some text) × Appends old new text)
-    ⊎ ((text : List ℕ) × Says request told heard Stopped text × AppendsPrefix old new text)
 
 -- the text of a result, or the line of another status
 abbrev pub IsText : Option Request → Option Files → Heard → List ℕ → Type 0

@@ -1,19 +1,15 @@
 //! What is asked for is done.
 
-ghost use Rattle.std.specs.Prelude.{◌≡◌, ◌<◌, ◌≤◌, ◌⊎◌, Some, ℕ, List, Option, length};
+ghost use Rattle.std.specs.Prelude.{◌<◌, ◌≤◌, Some, ℕ, List, length};
 ghost use Rattle.ix_base.specs.declared.limits.TheConstants.{MAX_FILE_BYTES};
 ghost use Rattle.outside.specs.Counts.{Rose};
-ghost use Rattle.outside.specs.Files.{Files, SameFiles};
+ghost use Rattle.outside.specs.Files.{SameFiles};
 ghost use Rattle.index_commands.specs.NamesLooks.{SaysNames};
-ghost use Rattle.session_commands.specs.Heard.{heard};
 ghost use Rattle.session_commands.specs.Races.{SaysRace};
 ghost use Rattle.session_commands.specs.declared.script.TheConstants.{MAX_SCRIPT_BYTES};
 ghost use Rattle.command_base.specs.Replies.{Wrote};
-ghost use Rattle.command_base.specs.FilesRead.{Holds};
-ghost use Rattle.command_base.specs.declared.status.Status.TheVariants as statuses;
-ghost use Rattle.index_cmd.specs.Caching.{UsesKept};
-ghost use Rattle.index_cmd.specs.Doings.{CausesBeside, Does, SaysBeside, WasRead};
-ghost use Rattle.index_cmd.specs.Requests.{ReadsNoInput};
+ghost use Rattle.index_cmd.specs.Doings.{CausesBeside, Did, SaysBeside, WasRead};
+ghost use Rattle.index_cmd.specs.Runs.{ran};
 ghost use Rattle.index_cmd.specs.Tasks.{request_on, request_seen, IsActionInBounds, IsInBounds};
 
 use crate::about::{HELP, VERSION};
@@ -45,10 +41,7 @@ pub(crate) fn perform<
     requires some { 0 < crew.now.workers }
     requires few { crew.now.workers ≤ 64 }
     requires bounds { IsInBounds task.now }
-    ensures did { Does (Some (request_seen task.now)) (F.files shelf.old) (F.files shelf.new) (heard S.left S.read_faults input.old input.new) (Rose (F.read_faults shelf.old) (F.read_faults shelf.new)) (Rose (F.store_faults shelf.old) (F.store_faults shelf.new)) (Rose (K.write_faults out.old) (K.write_faults out.new)) (K.written out.old) (K.written out.new) result }
-    ensures uses { UsesKept (Some (request_seen task.now)) (F.files shelf.old) (F.files shelf.new) (Rose (F.kept_faults shelf.old) (F.kept_faults shelf.new)) (Rose (F.store_faults shelf.old) (F.store_faults shelf.new)) (K.written out.old) (K.written out.new) result }
-    ensures input { ReadsNoInput (Some (request_seen task.now)) → input.new ≡ input.old }
-    ensures unread { (result ≡ statuses.ReadFault) ⊎ (result ≡ statuses.FileTooBig) → input.new ≡ input.old }
+    ensures did { Did (ran F.Shelf S.Source K.Sink (Some (request_seen task.now)) shelf.old shelf.new input.old input.new out.old out.new) result }
     ensures counts { K.write_faults out.old ≤ K.write_faults out.new }
 {
     match task {
@@ -70,10 +63,7 @@ fn read_and_act<
     requires some { 0 < crew.now.workers }
     requires few { crew.now.workers ≤ 64 }
     requires bounds { IsActionInBounds on.now.action }
-    ensures did { Does (Some (request_on on.now.file.now on.now.action)) (F.files shelf.old) (F.files shelf.new) (heard S.left S.read_faults input.old input.new) (Rose (F.read_faults shelf.old) (F.read_faults shelf.new)) (Rose (F.store_faults shelf.old) (F.store_faults shelf.new)) (Rose (K.write_faults out.old) (K.write_faults out.new)) (K.written out.old) (K.written out.new) result }
-    ensures uses { UsesKept (Some (request_on on.now.file.now on.now.action)) (F.files shelf.old) (F.files shelf.new) (Rose (F.kept_faults shelf.old) (F.kept_faults shelf.new)) (Rose (F.store_faults shelf.old) (F.store_faults shelf.new)) (K.written out.old) (K.written out.new) result }
-    ensures input { ReadsNoInput (Some (request_on on.now.file.now on.now.action)) → input.new ≡ input.old }
-    ensures unread { (result ≡ statuses.ReadFault) ⊎ (result ≡ statuses.FileTooBig) → input.new ≡ input.old }
+    ensures did { Did (ran F.Shelf S.Source K.Sink (Some (request_on on.now.file.now on.now.action)) shelf.old shelf.new input.old input.new out.old out.new) result }
     ensures counts { K.write_faults out.old ≤ K.write_faults out.new }
 {
     match read_file(crew.alloc, shelf, on.file, MAX_FILE_BYTES as usize) {
@@ -82,7 +72,7 @@ fn read_and_act<
     }
 }
 
-// Does what is asked of the bytes of a file. The clause speaks of the shelf and the counts as they were before the file was read.
+// Does what is asked of the bytes of a file. The clause speaks of the shelf as it was before the file was read.
 fn act<R: Threads + Wait + Sync, F: Shelf, S: Source + Send, K: Sink + Send, G: Gate + Sync>(
     crew: &Crew<'_, R, G>,
     action: &Action<'_>,
@@ -95,10 +85,7 @@ fn act<R: Threads + Wait + Sync, F: Shelf, S: Source + Send, K: Sink + Send, G: 
     requires some { 0 < crew.now.workers }
     requires few { crew.now.workers ≤ 64 }
     requires bounds { IsActionInBounds action.now }
-    ensures did { (told : Option Files) (file : List ℕ) (old_reads old_stores : ℕ) → WasRead told (F.files shelf.old) file bytes.now old_reads (F.read_faults shelf.old) old_stores (F.store_faults shelf.old) → Does (Some (request_on file action.now)) told (F.files shelf.new) (heard S.left S.read_faults input.old input.new) (Rose old_reads (F.read_faults shelf.new)) (Rose old_stores (F.store_faults shelf.new)) (Rose (K.write_faults out.old) (K.write_faults out.new)) (K.written out.old) (K.written out.new) result }
-    ensures uses { (told : Option Files) (file : List ℕ) → SameFiles told (F.files shelf.old) → Holds told file bytes.now → UsesKept (Some (request_on file action.now)) told (F.files shelf.new) (Rose (F.kept_faults shelf.old) (F.kept_faults shelf.new)) (Rose (F.store_faults shelf.old) (F.store_faults shelf.new)) (K.written out.old) (K.written out.new) result }
-    ensures input { (file : List ℕ) → ReadsNoInput (Some (request_on file action.now)) → input.new ≡ input.old }
-    ensures unread { (result ≡ statuses.ReadFault) ⊎ (result ≡ statuses.FileTooBig) → input.new ≡ input.old }
+    ensures did { (file : List ℕ) (before : F) → WasRead F.Shelf before shelf.old file bytes.now → Did (ran F.Shelf S.Source K.Sink (Some (request_on file action.now)) before shelf.new input.old input.new out.old out.new) result }
     ensures counts { K.write_faults out.old ≤ K.write_faults out.new }
 {
     match action {
