@@ -10,6 +10,7 @@ use Rattle.entry_scan.proofs.AbbreviationFronts.{begins_within}
 use Rattle.entry_scan.specs.AbbreviationTables.{own, head_seen, heads_seen, IsWithin, Extends}
 use Rattle.entry_scan.specs.Fronts.{IsFront}
 use Rattle.entry_scan.specs.Marks.{AreMarks}
+use Rattle.entry_scan.specs.Jumps.{AreJumps}
 
 part_kept : (old more : List Spec) (start end : ℕ) → start ≤ end → end ≤ length old → take (end - start) (drop start (old ++ more)) ≡ take (end - start) (drop start old)
 part_kept old more start end up within =
@@ -28,6 +29,7 @@ within_kept old new h within kept = record {
   end = omega (arith, within.end, begins_within old new kept);
   front = subst (λ (specs : List Spec). IsFront specs h.front) (sym (own_kept old new h within kept)) within.front;
   marks = subst (λ (specs : List Spec). AreMarks specs h.marks) (sym (own_kept old new h within kept)) within.marks;
+  jumps = subst (λ (specs : List Spec). AreJumps specs h.jumps) (sym (own_kept old new h within kept)) within.jumps;
 }
 
 one : (P : Head → Type 0) (h : Head) → P h → All P (h ∷ [])

@@ -22,7 +22,7 @@ abbrev has_code : ℕ → Head → Bool
 has_code code h = h.code == code
 
 abbrev nothing : Head
-nothing = record { code = 0; tag = 0; start = 0; end = 0; front = record { count = 0; bytes = 0 }; marks = record { bits = 0 }; children = false }
+nothing = record { code = 0; tag = 0; start = 0; end = 0; front = record { count = 0; bytes = 0 }; marks = record { bits = 0 }; jumps = record { slots = [] }; children = false }
 
 place_seen : (specs : List Spec) (heads : List Head) (code : ℕ) → position_or_len (λ (a : Abbrev). a.code == code) (heads_seen specs heads) ≡ position_or_len (has_code code) heads
 place_seen specs [] code = refl

@@ -1,5 +1,5 @@
 -- The places that were read can be searched once they are sorted.
-use Rattle.std.proofs.Common.{◌≡◌, ℕ, zero, suc, ◌+◌, ◌-◌, ◌<◌, ◌≤◌, ◌⊎◌, inl, inr, Bool, false, List, length, get_or, IsPermutation, is_lt, nat_cmp, add-one, sym, ap, ◌∙◌, arith}
+use Rattle.std.proofs.Common.{[], ◌≡◌, ℕ, zero, suc, ◌+◌, ◌-◌, ◌<◌, ◌≤◌, ◌⊎◌, inl, inr, Bool, false, List, length, get_or, IsPermutation, is_lt, nat_cmp, add-one, sym, ap, ◌∙◌, arith}
 use Rattle.std.specs.Ordering.{ordering_then}
 use Rattle.std.proofs.lemmas.Bool.Decides.{nat_tests}
 use Rattle.std.proofs.lemmas.List.Sorted.{All-permutation, Contains-permutation, length_permutation}
@@ -55,7 +55,7 @@ Says heads o = (o.index < length heads) × ((d : Head) → (get_or heads o.index
 
 place_says : (heads : List Head) (o : Place) (k : ℕ) → k < length heads → ((d : Head) → o ≡ place_at heads k d) → Says heads o
 place_says heads o k lt is =
-    let d : Head = record { code = 0; tag = 0; start = 0; end = 0; front = record { count = 0; bytes = 0 }; marks = record { bits = 0 }; children = false } in
+    let d : Head = record { code = 0; tag = 0; start = 0; end = 0; front = record { count = 0; bytes = 0 }; marks = record { bits = 0 }; jumps = record { slots = [] }; children = false } in
     let index : o.index ≡ k = ap (λ (p : Place). p.index) (is d) in
     (omega arith, λ e. rw index (sym (ap (λ (p : Place). p.code) (is e))))
 

@@ -28,23 +28,23 @@ both_there : (n m : ℕ) (i : Input) → n ≤ length i.rest → past_bytes m (p
 both_there n m i le =
     rw (length-drop n i.rest, same_room n m (length i.rest) le) (ap (λ (j : Input). cond (leb (n + m) (length i.rest)) (Ok j) (Err TRUNCATED)) (same_place n m i))
 
-both : (n m : ℕ) (i : Input) (b : Bool) → leb n (length i.rest) ≡ b → (past_bytes n i >>= past_bytes m) ≡ past_bytes (n + m) i
+pub both : (n m : ℕ) (i : Input) (b : Bool) → leb n (length i.rest) ≡ b → (past_bytes n i >>= past_bytes m) ≡ past_bytes (n + m) i
 both n m i true e = rw e (both_there n m i (leb-true _ _ e))
 both n m i false e =
     let less : length i.rest < n = leb-false _ _ e in
     rw (e, lt-leb (n + m) (length i.rest) (omega arith)) refl
 
-onwards : (r : Result Input ℕ) (f g : Input → Result Input ℕ) → ((r >>= f) >>= g) ≡ (r >>= λ j. f j >>= g)
+pub onwards : (r : Result Input ℕ) (f g : Input → Result Input ℕ) → ((r >>= f) >>= g) ≡ (r >>= λ j. f j >>= g)
 onwards (Ok j) f g = refl
 onwards (Err code) f g = refl
 
-alike : (r : Result Input ℕ) (f g : Input → Result Input ℕ) → ((j : Input) → f j ≡ g j) → (r >>= f) ≡ (r >>= g)
+pub alike : (r : Result Input ℕ) (f g : Input → Result Input ℕ) → ((j : Input) → f j ≡ g j) → (r >>= f) ≡ (r >>= g)
 alike (Ok j) f g h = h j
 alike (Err code) f g h = refl
 
 -- ---- values
 
-next_taken : (f : Format) (s : Spec) (ss : List Spec) (i : Input) (r : Result Input ℕ) → place_read (value_at f.version f.wide s.form s.constant i) ≡ r → place_read (values_at f (s ∷ ss) i) ≡ (r >>= λ j. place_read (values_at f ss j))
+pub next_taken : (f : Format) (s : Spec) (ss : List Spec) (i : Input) (r : Result Input ℕ) → place_read (value_at f.version f.wide s.form s.constant i) ≡ r → place_read (values_at f (s ∷ ss) i) ≡ (r >>= λ j. place_read (values_at f ss j))
 next_taken f s ss i (Ok j) e = place_goes f s ss i j e
 next_taken f s ss i (Err code) e = place_stops f s ss i code e
 

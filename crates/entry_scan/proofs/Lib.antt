@@ -8,6 +8,7 @@ mod ValueLaws
 mod FrontLaws
 mod MarkLaws
 mod FirstLaws
+mod JumpLaws
 mod Steady
 mod EntryLaws
 mod LeftLaws

@@ -7,6 +7,7 @@ use Rattle.index_model.specs.Abbreviations as meant
 use Rattle.entry_scan.specs.SeenAbbreviations.{spec_seen}
 use Rattle.entry_scan.specs.Fronts.{IsFront}
 use Rattle.entry_scan.specs.Marks.{AreMarks}
+use Rattle.entry_scan.specs.Jumps.{AreJumps}
 
 -- the attributes of a head among those of all heads
 abbrev pub own : List Spec → Head → List Spec
@@ -24,12 +25,13 @@ heads_seen specs heads = map (head_seen specs) heads
 abbrev pub Extends : {A : Type 0} → List A → List A → Type 0
 Extends old new = take (length old) new ≡ old
 
--- the attributes of a head are among these, begin with its front and have its marks
+-- the attributes of a head are among these, begin with its front, and have its marks and its jumps
 pub record IsWithin (specs : List Spec) (h : Head) : Type 0 where
   pub start : h.start ≤ h.end
   pub end : h.end ≤ length specs
   pub front : IsFront (own specs h) h.front
   pub marks : AreMarks (own specs h) h.marks
+  pub jumps : AreJumps (own specs h) h.jumps
 
 -- the place of the head at an index
 abbrev pub place_at : List Head → ℕ → Head → Place

@@ -5,6 +5,7 @@ pub mod FormNumbers
 pub mod Values
 pub mod Fronts
 pub mod Marks
+pub mod Jumps
 pub mod Tokens
 pub mod Ahead
 pub mod Inside

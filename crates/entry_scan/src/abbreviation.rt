@@ -8,6 +8,7 @@ ghost use Rattle.entry_scan.specs.GivesTable.{GivesOrFails, AddsOrFails};
 ghost use Rattle.entry_scan.specs.SeenAbbreviations.{spec_seen};
 ghost use Rattle.entry_scan.specs.AbbreviationTables.{head_seen, heads_seen, IsWithin, IsSplit, Extends};
 
+use crate::jumps::Jumps;
 use crate::marks::Marks;
 use crate::sizes::{Front, front_of};
 use ix_base::Cursor;
@@ -68,6 +69,7 @@ pub(crate) struct Head {
     pub(crate) end: usize,
     pub(crate) front: Front,
     pub(crate) marks: Marks,
+    pub(crate) jumps: Jumps,
     pub(crate) children: bool,
 }
 
@@ -143,6 +145,7 @@ fn read_head(code: u64, specs: &mut Vec<Spec>, cursor: &mut Cursor<'_>) -> Resul
         end,
         front: front_of(&specs[start..end]),
         marks: Marks::of(&specs[start..end]),
+        jumps: Jumps::of(&specs[start..end]),
         children,
     })
 }

@@ -7,8 +7,10 @@ ghost use Rattle.entry_scan.specs.SeenAbbreviations.{abbrev_seen};
 ghost use Rattle.entry_scan.specs.AbbreviationTables.{AreInOrder, Cuts};
 ghost use Rattle.entry_scan.specs.Fronts.{IsFront};
 ghost use Rattle.entry_scan.specs.Marks.{AreMarks};
+ghost use Rattle.entry_scan.specs.Jumps.{AreJumps};
 
 use crate::abbreviation::{BadAbbrev, Head, Parts, Place, Spec, read_parts};
+use crate::jumps::Jumps;
 use crate::marks::Marks;
 use crate::sizes::Front;
 use std::alloc::Global;
@@ -22,12 +24,13 @@ pub struct Abbrev<'t> {
     pub specs: &'t [Spec],
 }
 
-/// An abbreviation, the front of its attributes, and which it may have.
+/// An abbreviation, the front of its attributes, which it may have, and where their values begin.
 #[derive(Clone, Copy)]
 pub(crate) struct Shape<'t> {
     pub abbrev: Abbrev<'t>,
     pub front: Front,
     pub marks: Marks,
+    pub jumps: &'t Jumps,
 }
 
 /// The abbreviations of a table, in the order in which they stand there.
@@ -86,8 +89,9 @@ impl Abbrevs {
         ensures value { option_map (λ s. abbrev_seen code s.abbrev) result ≡ abbrev_of self.now code }
         ensures front { IfSome result (λ s. IsFront s.abbrev.specs.now s.front) }
         ensures marks { IfSome result (λ s. AreMarks s.abbrev.specs.now s.marks) }
+        ensures jumps { IfSome result (λ s. AreJumps s.abbrev.specs.now s.jumps.now) }
     {
-        let head = self.heads[self.index_of(code)?];
+        let head = &self.heads[self.index_of(code)?];
         Some(Shape {
             abbrev: Abbrev {
                 tag: head.tag,
@@ -96,6 +100,7 @@ impl Abbrevs {
             },
             front: head.front,
             marks: head.marks,
+            jumps: &head.jumps,
         })
     }
 

@@ -1,12 +1,11 @@
 //! The attributes of an entry.
 
-ghost use Rattle.std.specs.Prelude.{◌≡◌, ◌==◌, find, option_map};
+ghost use Rattle.std.specs.Prelude.{◌≡◌};
 ghost use Rattle.std.specs.Iterator.{YieldsFirstBy, item_count};
-ghost use Rattle.index_model.specs.FormSeen.{seen};
 ghost use Rattle.entry_scan.specs.Values.{values_at, value_read, IsRead};
 
 use crate::abbreviation::Spec;
-use crate::values::{Format, pass_one, read};
+use crate::values::{Format, read};
 use index_model::Value;
 use ix_base::Cursor;
 use std::marker::Model;
@@ -34,7 +33,6 @@ impl<'a> Model for Attributes<'a> {
 }
 
 impl<'a> Attributes<'a> {
-    ghost use Rattle.index_model.specs.FormSeen.{seen};
     ghost use Rattle.entry_scan.specs.Values.{values_at, value_read, IsRead};
 
     // The attributes whose values begin at the cursor.
@@ -48,52 +46,6 @@ impl<'a> Attributes<'a> {
             format,
         }
     }
-
-    // The value of the first that has this number. What stands before it is passed.
-    pub(crate) fn first(&self, number: u64) -> Option<Value<'a>>
-        ensures { option_map seen result ≡ option_map (λ v. v.1) (find (λ v. v.0 == number) self.now) }
-    {
-        first_of(self.specs, self.format, self.cursor.copied(), number)
-    }
-
-    // The same attributes again.
-    pub(crate) fn again(&self) -> Attributes<'a>
-        ensures { result ≡ self.now }
-    {
-        Attributes {
-            specs: self.specs,
-            cursor: self.cursor.copied(),
-            format: self.format,
-        }
-    }
-}
-
-// The value of the first of these attributes that has this number. Their values begin at the cursor.
-//
-// It stays a call, so that the test for attributes that aren't there is small enough to stand where it is made.
-#[inline(never)]
-fn first_of<'a>(
-    specs: &[Spec],
-    format: Format,
-    cursor: Cursor<'a>,
-    number: u64,
-) -> Option<Value<'a>>
-    requires { IsRead (values_at format specs.now cursor) }
-    ensures { option_map seen result ≡ option_map (λ v. v.1) (find (λ v. v.0 == number) (value_read (values_at format specs.now cursor.entry))) }
-{
-    let mut cursor = cursor;
-    for spec in specs {
-        if spec.attribute == number {
-            return match read(spec, format, &mut cursor) {
-                Ok(value) => Some(value),
-                Err(_) => None,
-            };
-        }
-        if let Err(_) = pass_one(spec, format, &mut cursor) {
-            return None;
-        }
-    }
-    None
 }
 
 impl<'a> Iterator for Attributes<'a> {

@@ -4,6 +4,7 @@ ghost use Rattle.std.specs.Prelude.{◌≡◌, ◌≤◌, ◌<◌, ◌^◌};
 
 use crate::attributes::Attributes;
 use crate::marks::Marks;
+use crate::written::Written;
 use index_model::Value;
 use std::marker::Model;
 
@@ -17,7 +18,7 @@ pub struct Item<'a> {
     pub(crate) children: bool,
     pub(crate) tag: u64,
     pub(crate) marks: Marks,
-    pub(crate) values: Attributes<'a>,
+    pub(crate) values: Written<'a>,
 }
 
 impl<'a> Model for Item<'a> {
@@ -27,11 +28,14 @@ impl<'a> Model for Item<'a> {
 
     ghost use Rattle.std.specs.Prelude.{◌≤◌, ◌<◌, ◌^◌};
 
-    ghost view = { λ d. record { at = d.at; after = d.after; depth = d.depth; children = d.children; tag = d.tag; values = d.values } };
+    ghost use Rattle.entry_scan.specs.Values.{values_at, value_read, IsRead};
+
+    ghost view = { λ d. record { at = d.at; after = d.after; depth = d.depth; children = d.children; tag = d.tag; values = value_read (values_at d.values.format d.values.specs.now d.values.cursor) } };
 
     ghost use Rattle.entry_scan.specs.Marks.{AreMarked};
+    ghost use Rattle.entry_scan.specs.Jumps.{AreJumps};
 
-    ghost invariant = { λ d. (d.depth ≤ 1024) × (d.at < 2 ^ 63) × (d.after < 2 ^ 63) × AreMarked d.values d.marks };
+    ghost invariant = { λ d. (d.depth ≤ 1024) × (d.at < 2 ^ 63) × (d.after < 2 ^ 63) × AreMarked (value_read (values_at d.values.format d.values.specs.now d.values.cursor)) d.marks × IsRead (values_at d.values.format d.values.specs.now d.values.cursor) × AreJumps d.values.specs.now d.values.jumps.now };
 }
 
 impl<'a> Item<'a> {
@@ -92,6 +96,6 @@ impl<'a> Item<'a> {
     pub fn attributes(&self) -> Attributes<'a>
         ensures { result ≡ self.now.values }
     {
-        self.values.again()
+        self.values.all()
     }
 }

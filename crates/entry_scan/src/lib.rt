@@ -13,12 +13,14 @@ mod form_numbers;
 mod forms;
 mod inside;
 mod item;
+mod jumps;
 mod marks;
 mod sizes;
 mod token;
 mod tree;
 mod values;
 mod walk;
+mod written;
 
 pub use abbreviation::{BadAbbrev, Spec};
 pub use abbreviations::{Abbrev, Abbrevs};

@@ -34,8 +34,8 @@ pub(crate) fn size_of(form: u64, wide: bool) -> Option<u32>
     }
 }
 
-// The front and one more attribute, of this form. None where its values don't all take the same bytes.
-fn with_next(front: Front, form: u64) -> Option<Front>
+/// The front and one more attribute, of this form. None where its values don't all take the same bytes.
+pub(crate) fn with_next(front: Front, form: u64) -> Option<Front>
     ensures { IfSome result (TakesNext form front) }
 {
     let size = size_of(form, false)?;

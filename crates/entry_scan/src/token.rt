@@ -6,11 +6,12 @@ ghost use Rattle.index_model.specs.Gives.{GivesAlways};
 ghost use Rattle.index_model.specs.Tags.{is_root_tag};
 ghost use Rattle.entry_scan.specs.Fronts.{IsFront};
 ghost use Rattle.entry_scan.specs.Marks.{AreMarks};
+ghost use Rattle.entry_scan.specs.Jumps.{AreJumps};
 
 use crate::abbreviations::{Abbrevs, Shape};
-use crate::attributes::Attributes;
 use crate::item::Item;
 use crate::values::{Format, pass_all};
+use crate::written::Written;
 use index_model::Unit;
 use ix_base::code::{BAD_CODE, BAD_ROOT, DEPTH, TRUNCATED};
 use ix_base::{Cursor, MAX_DEPTH};
@@ -114,6 +115,7 @@ impl<'a> Frame<'a> {
         requires place { at < 2 ^ 63 }
         requires front { IsFront shape.abbrev.specs.now shape.front }
         requires marks { AreMarks shape.abbrev.specs.now shape.marks }
+        requires jumps { AreJumps shape.abbrev.specs.now shape.jumps.now }
         requires small { self.now.unit.start + cursor.old.at + length cursor.old.rest < 2 ^ 63 }
         ensures value { GivesAlways (λ t. (token_seen t, joint self.now.unit.start cursor.new)) result
             (entry_at self.now.unit self.now.abbrevs.now (levels_seen levels) at (abbrev_seen 0 shape.entry.abbrev) (joint self.now.unit.start cursor.old)) }
@@ -127,6 +129,7 @@ impl<'a> Frame<'a> {
             abbrev,
             front,
             marks,
+            jumps,
         } = shape;
         if !may_stand(levels.root, abbrev.tag) {
             return Err(BAD_ROOT);
@@ -146,7 +149,12 @@ impl<'a> Frame<'a> {
             children: abbrev.children,
             tag: abbrev.tag,
             marks,
-            values: Attributes::new(abbrev.specs, begin, format),
+            values: Written {
+                specs: abbrev.specs,
+                jumps,
+                cursor: begin,
+                format,
+            },
         }))
     }
 }

@@ -1,8 +1,7 @@
 //! Where in the file the texts of entries are thought to stand. Nothing rests on it: a list of nodes compares the bytes there.
 
-use crate::facts::{LINKAGE_NAME, NAME, OLD_LINKAGE_NAME};
-use crate::forms::is_text;
 use crate::home::Home;
+use crate::text_values::TextValues;
 use entry_scan::Item;
 use file_image::SectionTable;
 use index_model::{Part, Places, Value};
@@ -38,21 +37,17 @@ impl TextPlaces {
         places
     }
 
-    /// Where the texts of an entry stand, whose unit's part of `.debug_str_offsets` begins at the base.
-    pub fn of_entry(&self, home: &Home<'_, '_>, base: Option<u64>, entry: &Item<'_>) -> Places {
+    /// Where the texts of an entry stand, by their values. Its unit's part of `.debug_str_offsets` begins at the base.
+    pub fn of_values(
+        &self,
+        home: &Home<'_, '_>,
+        base: Option<u64>,
+        entry: &Item<'_>,
+        values: &TextValues<'_>,
+    ) -> Places {
         Places {
-            name: self.of_value(home, base, entry, &entry.value(NAME)),
-            linkage: self.of_linkage(home, base, entry),
-        }
-    }
-
-    // Where its linkage name stands.
-    fn of_linkage(&self, home: &Home<'_, '_>, base: Option<u64>, entry: &Item<'_>) -> u64 {
-        let value = entry.value(LINKAGE_NAME);
-        if is_text(&value) {
-            self.of_value(home, base, entry, &value)
-        } else {
-            self.of_value(home, base, entry, &entry.value(OLD_LINKAGE_NAME))
+            name: self.of_value(home, base, entry, &values.name),
+            linkage: self.of_value(home, base, entry, &values.linkage),
         }
     }
 

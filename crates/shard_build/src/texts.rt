@@ -1,19 +1,19 @@
 //! The texts of an entry, borrowed from the file (DWARF 5, section 7.5.5 on the class string).
 
 ghost use Rattle.std.specs.Prelude.{◌≡◌, ◌-◌, ℕ, List, Some, option_map, option_and_then};
-ghost use Rattle.index_model.specs.Attributes.{as_text, linkage_value};
+ghost use Rattle.index_model.specs.Attributes.{as_text};
 ghost use Rattle.index_model.specs.FormSeen.{seen};
 ghost use Rattle.index_model.specs.Forms.{Inline};
 ghost use Rattle.index_model.specs.Gives.{GivesAlways};
 ghost use Rattle.index_model.specs.LawsTexts.{StandsIn};
 ghost use Rattle.index_model.specs.Meaning.{at_place};
 ghost use Rattle.index_model.specs.Strings.{bounded};
+ghost use Rattle.index_model.specs.Walk.{Item as EntryOf};
 ghost use Rattle.file_image.specs.TextLimits.{tested};
-ghost use Rattle.shard_build.specs.Texts.{text_by, texts_by, texts_seen, HoldsTexts};
+ghost use Rattle.shard_build.specs.Texts.{text_by, texts_by, texts_seen, HoldsTexts, AreTextValues};
 
-use crate::facts::{LINKAGE_NAME, NAME, OLD_LINKAGE_NAME};
-use crate::forms::is_text;
 use crate::home::Home;
+use crate::text_values::TextValues;
 use entry_scan::Item;
 use file_image::{test_text, text};
 use index_model::Value;
@@ -34,7 +34,21 @@ impl<'s, 'f> Home<'s, 'f> {
         requires { HoldsTexts self.now.bytes.now self.now.unit entry.now }
         ensures { GivesAlways texts_seen result (at_place entry.now.at (texts_by self.now.sections.now base self.now.unit.wide entry.now)) }
     {
-        match self.own_texts(base, entry) {
+        self.texts_of(base, entry, &TextValues::of(entry))
+    }
+
+    /// The same, by their values.
+    pub fn texts_of(
+        &self,
+        base: Option<u64>,
+        entry: &Item<'_>,
+        values: &TextValues<'_>,
+    ) -> Result<Texts<'f>, Fault>
+        requires holds { HoldsTexts self.now.bytes.now self.now.unit entry.now }
+        requires values { AreTextValues values.now entry.now }
+        ensures { GivesAlways texts_seen result (at_place entry.now.at (texts_by self.now.sections.now base self.now.unit.wide entry.now)) }
+    {
+        match self.own_texts(base, entry, values) {
             Ok(texts) => Ok(texts),
             Err(code) => Err(Fault {
                 code,
@@ -45,26 +59,19 @@ impl<'s, 'f> Home<'s, 'f> {
 
     // The same; the error is the code of the fault.
     #[tactic(auto, unfolding(crate::specs::Texts::texts_by))]
-    fn own_texts(&self, base: Option<u64>, entry: &Item<'_>) -> Result<Texts<'f>, u8>
-        requires { HoldsTexts self.now.bytes.now self.now.unit entry.now }
+    fn own_texts(
+        &self,
+        base: Option<u64>,
+        entry: &Item<'_>,
+        values: &TextValues<'_>,
+    ) -> Result<Texts<'f>, u8>
+        requires holds { HoldsTexts self.now.bytes.now self.now.unit entry.now }
+        requires values { AreTextValues values.now entry.now }
         ensures { GivesAlways texts_seen result (texts_by self.now.sections.now base self.now.unit.wide entry.now) }
     {
-        let name = self.text(base, entry, &entry.value(NAME))?;
-        let linkage = self.own_linkage(base, entry)?;
+        let name = self.text(base, entry, &values.name)?;
+        let linkage = self.text(base, entry, &values.linkage)?;
         Ok(Texts { name, linkage })
-    }
-
-    // Its linkage name, if it has one.
-    fn own_linkage(&self, base: Option<u64>, entry: &Item<'_>) -> Result<Option<&'f [u8]>, u8>
-        requires { HoldsTexts self.now.bytes.now self.now.unit entry.now }
-        ensures { GivesAlways (λ t. option_map (λ bytes. bytes.now) t) result (text_by self.now.sections.now base self.now.unit.wide (linkage_value entry.now)) }
-    {
-        let value = entry.value(LINKAGE_NAME);
-        if is_text(&value) {
-            self.text(base, entry, &value)
-        } else {
-            self.text(base, entry, &entry.value(OLD_LINKAGE_NAME))
-        }
     }
 
     // The text of a value of an entry, if it is one.
@@ -115,13 +122,17 @@ impl<'s, 'f> Home<'s, 'f> {
         Ok(Some(found_in(self.bytes, from as usize, to as usize, text)))
     }
 
-    /// Whether the texts of an entry are sound: the same as `texts`, where they aren't kept.
-    pub fn test<'a>(&self, base: Option<u64>, entry: &Item<'a>) -> Result<(), Fault>
-    where
-        'f: 'a,
+    /// Whether the texts of an entry are sound: the same as `texts_of`, where they aren't kept.
+    pub fn test(
+        &self,
+        base: Option<u64>,
+        entry: &Item<'_>,
+        values: &TextValues<'_>,
+    ) -> Result<(), Fault>
+        requires { AreTextValues values.now entry.now }
         ensures { GivesAlways (λ done. done) result (tested (at_place entry.now.at (texts_by self.now.sections.now base self.now.unit.wide entry.now))) }
     {
-        match self.test_own(base, entry) {
+        match self.test_values(base, values) {
             Ok(()) => Ok(()),
             Err(code) => Err(Fault {
                 code,
@@ -132,34 +143,16 @@ impl<'s, 'f> Home<'s, 'f> {
 
     // The same; the error is the code of the fault.
     #[tactic(auto, unfolding(crate::specs::Texts::texts_by))]
-    fn test_own<'a>(&self, base: Option<u64>, entry: &Item<'a>) -> Result<(), u8>
-    where
-        'f: 'a,
-        ensures { GivesAlways (λ done. done) result (tested (texts_by self.now.sections.now base self.now.unit.wide entry.now)) }
+    fn test_values(&self, base: Option<u64>, values: &TextValues<'_>) -> Result<(), u8>
+        ensures { (d : EntryOf) → AreTextValues values.now d → GivesAlways (λ done. done) result (tested (texts_by self.now.sections.now base self.now.unit.wide d)) }
     {
-        self.test_text(base, &entry.value(NAME))?;
-        self.test_linkage(base, entry)
-    }
-
-    // Whether its linkage name is sound, if it has one.
-    fn test_linkage<'a>(&self, base: Option<u64>, entry: &Item<'a>) -> Result<(), u8>
-    where
-        'f: 'a,
-        ensures { GivesAlways (λ done. done) result (tested (text_by self.now.sections.now base self.now.unit.wide (linkage_value entry.now))) }
-    {
-        let value = entry.value(LINKAGE_NAME);
-        if is_text(&value) {
-            self.test_text(base, &value)
-        } else {
-            self.test_text(base, &entry.value(OLD_LINKAGE_NAME))
-        }
+        self.test_text(base, &values.name)?;
+        self.test_text(base, &values.linkage)
     }
 
     // Whether a value is a sound text, if it is a text. It is read where it stands, since a copy would cost more than the test.
     #[tactic(auto, using(crate::proofs::TextLaws::text_anyway))]
-    fn test_text<'a>(&self, base: Option<u64>, value: &Option<Value<'a>>) -> Result<(), u8>
-    where
-        'f: 'a,
+    fn test_text(&self, base: Option<u64>, value: &Option<Value<'_>>) -> Result<(), u8>
         ensures { GivesAlways (λ done. done) result (tested (text_by self.now.sections.now base self.now.unit.wide (option_and_then as_text (option_map seen value.now)))) }
     {
         match value {

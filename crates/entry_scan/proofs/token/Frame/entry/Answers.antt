@@ -5,9 +5,6 @@ use Rattle.entry_scan.proofs.EntryLaws.{too_deep, no_root, bad_value, entry_read
 use Rattle.entry_scan.proofs.MarkLaws.{values_marked}
 use Rattle.entry_scan.proofs.token.Frame.entry.Goals as goal
 
-pub new-requires : goal.new-requires
-new-requires c = (c.pass_all.new.cursor, rw c.copied-begin.ensures c.in_default.ensures.value)
-
 pub returns-then-levels-gt-MAX_DEPTH-clause-value : goal.returns-then-levels-gt-MAX_DEPTH-clause-value
 returns-then-levels-gt-MAX_DEPTH-clause-value c = too_deep _ _ (levels_seen c.args.levels) _ _ _ c.if-levels-gt-MAX_DEPTH.true
 
@@ -23,12 +20,14 @@ pub returns-clause-value : goal.returns-clause-value
 returns-clause-value c =
     let read = joint_values c.args.self.now.unit c.args.self.now.abbrevs.now c.args.shape.abbrev.specs.now c.args.self.now.unit.start c.args.cursor.now c.pass_all.new.cursor c.in_default.ensures.value in
     let made = entry_read c.args.self.now.unit c.args.self.now.abbrevs.now (levels_seen c.args.levels) c.args.at (abbrev_seen 0 c.args.shape.abbrev) (joint c.args.self.now.unit.start c.args.cursor.now) c.if-levels-gt-MAX_DEPTH.false (sym c.may_stand.ensures ∙ c.if-not-may_stand.false) _ _ read in
-    rw (c.offset.ensures, c.new.ensures, c.copied-begin.ensures) made
+    rw (c.offset.ensures, c.copied-begin.ensures) made
 
 pub invariant_of-result : goal.invariant_of-result
 invariant_of-result c = (
   c.if-levels-gt-MAX_DEPTH.false,
   c.requires.place,
   omega (arith, c.offset.ensures, c.pass_all.ensures.place.end, c.requires.small),
-  rw c.new.ensures (values_marked _ c.args.shape.marks c.args.shape.abbrev.specs.now _ c.requires.marks),
+  values_marked _ c.args.shape.marks c.args.shape.abbrev.specs.now _ c.requires.marks,
+  (c.pass_all.new.cursor, rw c.copied-begin.ensures c.in_default.ensures.value),
+  c.requires.jumps,
 )

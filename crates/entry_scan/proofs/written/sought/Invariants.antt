@@ -2,7 +2,7 @@ use Rattle.std.proofs.Common.{◌≡◌, ◌==◌, ℕ, drop}
 use Rattle.std.specs.List.{find}
 use Rattle.index_model.specs.Forms.{Value}
 use Rattle.entry_scan.specs.Values.{values_at, value_read, IsRead}
-use Rattle.entry_scan.proofs.attributes.first_of.Given as goal
+use Rattle.entry_scan.proofs.written.sought.Given as goal
 
 -- the first of those that are left is the first of all
 abbrev pub invariant-loop-spec : goal.invariant-loop-spec

@@ -2,7 +2,7 @@ use Rattle.std.proofs.Common.{ℕ, ◌+◌, length-drop, drop, get_or, Option, o
 use Rattle.index_model.specs.Forms.{Value}
 use Rattle.entry_scan.proofs.FirstLaws.{found, passed, no_stop, none_first}
 use Rattle.entry_scan.proofs.ValueLaws.{no_fault, specs_from, zero_spec}
-use Rattle.entry_scan.proofs.attributes.first_of.Goals as goal
+use Rattle.entry_scan.proofs.written.sought.Goals as goal
 
 abbrev text : Option (ℕ × Value) → Option Value
 text o = option_map (λ (v : ℕ × Value). v.1) o
