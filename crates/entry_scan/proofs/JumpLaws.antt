@@ -1,12 +1,12 @@
 -- Attributes whose values begin at one place, and the first of a number among them.
-use Rattle.std.proofs.Common.{◌≡◌, ◌≢◌, ℕ, zero, suc, ◌+◌, ◌%◌, ◌<◌, ◌≤◌, ◌==◌, ◌⊎◌, inl, inr, Bool, true, false, cond, leb, List, [], ◌∷◌, ◌++◌, take, drop, get_or, length, option_map, Option, Some, None, Result, Ok, Err, refl, ap, sym, subst, ◌∙◌, arith}
+use Rattle.std.proofs.Common.{◌≡◌, ◌≢◌, ℕ, ℤ, is_some, zero, suc, ◌+◌, ◌%◌, ◌<◌, ◌≤◌, ◌==◌, ◌⊎◌, inl, inr, Bool, true, false, cond, leb, List, [], ◌∷◌, ◌++◌, take, drop, get_or, length, option_map, Option, Some, None, Result, Ok, Err, refl, ap, sym, subst, ◌∙◌, arith}
 use Rattle.std.specs.Prelude.{IfSome}
 use Rattle.std.proofs.lemmas.Option.{same_Some}
 use Rattle.std.proofs.lemmas.List.{take_more, take-append-drop, get_or_default}
 use Rattle.ix_base.specs.declared.code.TheConstants.{TRUNCATED}
-use Rattle.ix_base.specs.Reading.{Input, past, skip}
+use Rattle.ix_base.specs.Reading.{Input, past, skip, number}
 use Rattle.index_model.specs.Meaning.{◌>>=◌}
-use Rattle.index_model.specs.Forms.{Value, value_at}
+use Rattle.index_model.specs.Forms.{Value, Flag, Str, value_at}
 use Rattle.index_model.specs.Walk.{values}
 use Rattle.entry_scan.specs.declared.abbreviation.Spec.{Spec}
 use Rattle.entry_scan.specs.declared.jumps.Jump.{Jump}
@@ -14,11 +14,11 @@ use Rattle.entry_scan.specs.declared.jumps.Jumps.{Jumps}
 use Rattle.entry_scan.specs.declared.values.Format.{Format}
 use Rattle.entry_scan.specs.Values.{values_at, place_read, past_bytes, IsRead, TakeBytes}
 use Rattle.entry_scan.specs.Fronts.{narrow}
-use Rattle.entry_scan.specs.Jumps.{Take, LacksBefore, IsJump, AreJumps, slot}
+use Rattle.entry_scan.specs.Jumps.{Take, LacksBefore, IsJump, AreJumps, Leads, slot}
 use Rattle.entry_scan.proofs.SizeLaws.{nothing_takes}
 use Rattle.entry_scan.proofs.FrontLaws.{both, onwards, alike, next_taken}
-use Rattle.entry_scan.proofs.FirstLaws.{first, passed}
-use Rattle.entry_scan.proofs.ValueLaws.{place_goes, place_stops, zero_spec}
+use Rattle.entry_scan.proofs.FirstLaws.{first, passed, found}
+use Rattle.entry_scan.proofs.ValueLaws.{place_goes, place_stops, no_fault, specs_from, zero_spec}
 
 -- ---- values of two parts
 
@@ -90,6 +90,9 @@ module _ (f : Format) (n : ℕ) where
 
 -- ---- jumps
 
+abbrev text : Option (ℕ × Value) → Option Value
+text o = option_map (λ (v : ℕ × Value). v.1) o
+
 abbrev empty : Type 0
 empty = record {}
 
@@ -107,10 +110,23 @@ lacks_room : (b : Bool) (j : Input) → cond b (Some (skipped j)) None ≡ None 
 lacks_room true j e = absurd cc
 lacks_room false j e = refl
 
-module _ (specs : List Spec) (f : Format) (number : ℕ) (jump : Jump) (i : Input) (all : IsRead (values_at f specs i)) (is_narrow : f.wide ≡ false) (is : IsJump specs number jump) where
+-- a flag that takes no byte
+pub flag_read : (version : ℕ) (wide : Bool) (constant : ℤ) (j : Input) → value_at version wide 0x19 constant j ≡ Ok (Flag true, j)
+unfolding value_at
+flag_read version wide constant j = refl
+
+-- an offset of a text
+pub str_read : (version : ℕ) (wide : Bool) (constant : ℤ) (j next : Input) (x : ℕ) → wide ≡ false → number 4 j ≡ Some (x, next) → value_at version wide 0x0E constant j ≡ Ok (Str x, next)
+unfolding value_at
+str_read version wide constant j next x e g = rw e (rw g refl)
+
+module _ (specs : List Spec) (f : Format) (number : ℕ) (jump : Jump) (i : Input) (all : IsRead (values_at f specs i)) (to : Leads f specs number jump) where
+  abbrev is : IsJump specs number jump
+  is = to.jump
+
   takes_here : place_read (values_at f (take jump.index specs) i) ≡ past_bytes jump.bytes i
   takes_here =
-      let same : f ≡ narrow f.version = ap (λ (w : Bool). let made : Format = record { version = f.version; wide = w } in made) is_narrow in
+      let same : f ≡ narrow f.version = ap (λ (w : Bool). let made : Format = record { version = f.version; wide = w } in made) to.narrow_ in
       subst (λ (g : Format). place_read (values_at g (take jump.index specs) i) ≡ past_bytes jump.bytes i) (sym same) (is.takes f.version i)
 
   -- the bytes before its value are there
@@ -126,6 +142,39 @@ module _ (specs : List Spec) (f : Format) (number : ℕ) (jump : Jump) (i : Inpu
   leads j e =
       let there = takes_here ∙ has_room (leb jump.bytes (length i.rest)) (past jump.bytes i) j e in
       later f number specs jump.index i j all there (λ k d lt same. is.first k d lt (ap (λ (n : ℕ). n % 64) same))
+
+  -- what it reads there is the first of its number
+  pub read_there : (j : Input) → skip jump.bytes i ≡ Some (skipped j) → (v : Value) (next : Input) → value_at f.version f.wide (get_or specs jump.index zero_spec).form (get_or specs jump.index zero_spec).constant j ≡ Ok (v, next) → text (first f number specs i) ≡ Some v
+  read_there j e v next read =
+      let k = jump.index in
+      let rest = rw (specs_from specs k is.within) at leads j e in
+      ap text rest.1 ∙ found f number (get_or specs k zero_spec) (drop (k + 1) specs) j rest.0 v next read (to.own zero_spec)
+
+  -- there is a value
+  module _ where
+    abbrev s : Spec
+    s = get_or specs jump.index zero_spec
+
+    by_read : (j : Input) → skip jump.bytes i ≡ Some (skipped j) → (r : Result (Value × Input) ℕ) → value_at f.version f.wide s.form s.constant j ≡ r → is_some (text (first f number specs i)) ≡ true
+    by_read j e (Ok x) g = ap (λ (o : Option Value). is_some o) (read_there j e x.0 x.1 g)
+    by_read j e (Err code) g =
+        let rest = rw (specs_from specs jump.index is.within) at leads j e in
+        absurd (no_fault f s (drop (jump.index + 1) specs) j code g rest.0)
+
+    by_skip : (o : Option (empty × Input)) → skip jump.bytes i ≡ o → is_some (text (first f number specs i)) ≡ true
+    by_skip None e = absurd (room e)
+    by_skip (Some p) e = by_read p.1 e (value_at f.version f.wide s.form s.constant p.1) refl
+
+    at_skip : (o : Option (empty × Input)) → skip jump.bytes i ≡ o → s.form ≡ 0x19 → text (first f number specs i) ≡ Some (Flag true)
+    at_skip None g e = absurd (room g)
+    at_skip (Some p) g e = read_there p.1 g (Flag true) p.1 (rw e (flag_read f.version f.wide s.constant p.1))
+
+    -- and it is a flag that is set, where it is one that takes no byte
+    pub flagged : s.form ≡ 0x19 → text (first f number specs i) ≡ Some (Flag true)
+    flagged e = at_skip (skip jump.bytes i) refl e
+
+    pub there : is_some (text (first f number specs i)) ≡ true
+    there = by_skip (skip jump.bytes i) refl
 
 -- ---- one more jump
 

@@ -1,9 +1,10 @@
 -- Where the values of an abbreviation's attributes begin in each entry of a unit of the 32-bit format.
-use Rattle.std.specs.Prelude.{◌≡◌, ◌<◌, ◌%◌, ℕ, List, length, take, slice_index_or, Option, None, IfSome}
+use Rattle.std.specs.Prelude.{◌≡◌, ◌<◌, ◌%◌, ℕ, false, List, length, take, slice_index_or, Option, None, IfSome}
 use Rattle.ix_base.specs.Reading.{Input}
 use Rattle.entry_scan.specs.declared.abbreviation.Spec.{Spec}
 use Rattle.entry_scan.specs.declared.jumps.Jump.{Jump}
 use Rattle.entry_scan.specs.declared.jumps.Jumps.{Jumps}
+use Rattle.entry_scan.specs.declared.values.Format.{Format}
 use Rattle.entry_scan.specs.Fronts.{narrow}
 use Rattle.entry_scan.specs.Values.{values_at, place_read, past_bytes}
 
@@ -28,3 +29,9 @@ slot js number = slice_index_or js.slots (number % 64) None
 -- each is the jump of such an attribute
 abbrev pub AreJumps : List Spec → Jumps → Type 0
 AreJumps specs js = (number : ℕ) → IfSome (slot js number) (IsJump specs number)
+
+-- the jump leads to the first attribute with the number
+pub record Leads (f : Format) (specs : List Spec) (number : ℕ) (j : Jump) : Type 0 where
+  pub narrow_ : f.wide ≡ false
+  pub jump : IsJump specs number j
+  pub own : (d : Spec) → (slice_index_or specs j.index d).attribute ≡ number

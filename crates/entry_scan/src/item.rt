@@ -39,8 +39,9 @@ impl<'a> Model for Item<'a> {
 }
 
 impl<'a> Item<'a> {
-    ghost use Rattle.std.specs.Prelude.{option_map};
-    ghost use Rattle.index_model.specs.Attributes.{attribute as attribute_of};
+    ghost use Rattle.std.specs.Prelude.{option_map, is_some, Some, IfSome};
+    ghost use Rattle.index_model.specs.Attributes.{attribute as attribute_of, is_set};
+    ghost use Rattle.index_model.specs.Forms.{Str};
     ghost use Rattle.index_model.specs.FormSeen.{seen};
 
     /// Its joint offset.
@@ -90,6 +91,46 @@ impl<'a> Item<'a> {
             return None;
         }
         self.values.first(attribute)
+    }
+
+    /// Whether it has an attribute with this number.
+    #[inline]
+    pub fn has(&self, attribute: u64) -> bool
+        ensures { result ≡ is_some (attribute_of attribute self.now) }
+    {
+        if !self.marks.may_have(attribute) {
+            return false;
+        }
+        if self.values.is_there(attribute) {
+            return true;
+        }
+        self.values.first(attribute).is_some()
+    }
+
+    /// Whether its first attribute with this number is a flag that is set (DWARF 5, section 7.5.5, flag).
+    #[inline]
+    pub fn is_set(&self, attribute: u64) -> bool
+        ensures { result ≡ is_set (attribute_of attribute self.now) }
+    {
+        if !self.marks.may_have(attribute) {
+            return false;
+        }
+        if self.values.is_present(attribute) {
+            return true;
+        }
+        matches!(self.values.first(attribute), Some(Value::Flag(true)))
+    }
+
+    /// The offset into `.debug_str` that its first attribute with this number names, if one look tells it. Where it is
+    /// None, `value` tells what the entry has.
+    #[inline]
+    pub fn str_at(&self, attribute: u64) -> Option<u64>
+        ensures { IfSome result (λ at. attribute_of attribute self.now ≡ Some (Str at)) }
+    {
+        if !self.marks.may_have(attribute) {
+            return None;
+        }
+        self.values.str_at(attribute)
     }
 
     /// Its attributes in order, for a caller that reads more than one: they are read in one pass.

@@ -1,13 +1,14 @@
 //! The values of an entry as they are written.
 
-ghost use Rattle.std.specs.Prelude.{◌≡◌, ◌==◌, false, find, slice_index_or, option_map};
+ghost use Rattle.std.specs.Prelude.{◌≡◌, ◌==◌, true, find, is_some, option_map, Some, IfSome};
+ghost use Rattle.index_model.specs.Forms.{Flag, Str};
 ghost use Rattle.index_model.specs.FormSeen.{seen};
-ghost use Rattle.entry_scan.specs.declared.abbreviation.Spec.{Spec as SpecOf};
-ghost use Rattle.entry_scan.specs.Jumps.{AreJumps, IsJump};
+ghost use Rattle.entry_scan.specs.Jumps.{AreJumps, Leads};
 ghost use Rattle.entry_scan.specs.Values.{values_at, value_read, IsRead};
 
 use crate::abbreviation::Spec;
 use crate::attributes::Attributes;
+use crate::form_codes::{FLAG_PRESENT, STRP};
 use crate::jumps::{Jump, Jumps};
 use crate::values::{Format, pass_one, read};
 use index_model::Value;
@@ -24,18 +25,83 @@ pub(crate) struct Written<'a> {
 
 impl<'a> Written<'a> {
     /// The value of the first attribute that has this number.
+    ///
+    /// It stays a call, so that the test for attributes that aren't there is small enough to stand where it is made.
+    #[inline(never)]
     pub fn first(&self, number: u64) -> Option<Value<'a>>
         requires read { IsRead (values_at self.now.format self.now.specs.now self.now.cursor) }
         requires jumps { AreJumps self.now.specs.now self.now.jumps.now }
         ensures { option_map seen result ≡ option_map (λ v. v.1) (find (λ v. v.0 == number) (value_read (values_at self.now.format self.now.specs.now self.now.cursor))) }
     {
-        first_of(
-            self.specs,
-            self.jumps,
-            self.format,
-            self.cursor.copied(),
-            number,
-        )
+        match self.led(number) {
+            Some(jump) => jumped(
+                self.specs,
+                jump,
+                self.format,
+                self.cursor.copied(),
+                number,
+            ),
+            None => sought(self.specs, self.format, self.cursor.copied(), number),
+        }
+    }
+
+    /// Whether one look tells that there is an attribute with this number.
+    #[inline]
+    pub fn is_there(&self, number: u64) -> bool
+        requires read { IsRead (values_at self.now.format self.now.specs.now self.now.cursor) }
+        requires jumps { AreJumps self.now.specs.now self.now.jumps.now }
+        ensures { result ≡ true → is_some (option_map (λ v. v.1) (find (λ v. v.0 == number) (value_read (values_at self.now.format self.now.specs.now self.now.cursor)))) ≡ true }
+    {
+        match self.led(number) {
+            Some(_) => true,
+            None => false,
+        }
+    }
+
+    /// Whether one look tells that the first attribute with this number is a flag that takes no byte.
+    #[inline]
+    pub fn is_present(&self, number: u64) -> bool
+        requires read { IsRead (values_at self.now.format self.now.specs.now self.now.cursor) }
+        requires jumps { AreJumps self.now.specs.now self.now.jumps.now }
+        ensures { result ≡ true → option_map (λ v. v.1) (find (λ v. v.0 == number) (value_read (values_at self.now.format self.now.specs.now self.now.cursor))) ≡ Some (Flag true) }
+    {
+        let Some(jump) = self.led(number) else {
+            return false;
+        };
+        self.specs[jump.index as usize].form == FLAG_PRESENT
+    }
+
+    /// The offset into `.debug_str` at which the first attribute with this number stands, if one look tells it.
+    #[inline]
+    pub fn str_at(&self, number: u64) -> Option<u64>
+        requires read { IsRead (values_at self.now.format self.now.specs.now self.now.cursor) }
+        requires jumps { AreJumps self.now.specs.now self.now.jumps.now }
+        ensures { IfSome result (λ at. option_map (λ v. v.1) (find (λ v. v.0 == number) (value_read (values_at self.now.format self.now.specs.now self.now.cursor))) ≡ Some (Str at)) }
+    {
+        let jump = self.led(number)?;
+        if self.specs[jump.index as usize].form != STRP {
+            return None;
+        }
+        let mut cursor = self.cursor.copied();
+        cursor.skip(u64::from(jump.bytes))?;
+        Some(u64::from(cursor.u32()?))
+    }
+
+    // The jump to the first attribute with this number, if one look finds it.
+    #[inline]
+    fn led(&self, number: u64) -> Option<Jump>
+        requires { AreJumps self.now.specs.now self.now.jumps.now }
+        ensures { IfSome result (Leads self.now.format self.now.specs.now number) }
+    {
+        if self.format.wide {
+            return None;
+        }
+        let jump = self.jumps.of_number(number)?;
+        if self.specs[jump.index as usize].attribute == number {
+            Some(jump)
+        } else {
+            None
+        }
     }
 
     /// All attributes with their values, in the order of the entry.
@@ -47,31 +113,6 @@ impl<'a> Written<'a> {
     }
 }
 
-// The value of the first of these attributes that has this number. Their values begin at the cursor.
-//
-// It stays a call, so that the test for attributes that aren't there is small enough to stand where it is made.
-#[inline(never)]
-fn first_of<'a>(
-    specs: &[Spec],
-    jumps: &Jumps,
-    format: Format,
-    cursor: Cursor<'a>,
-    number: u64,
-) -> Option<Value<'a>>
-    requires read { IsRead (values_at format specs.now cursor) }
-    requires jumps { AreJumps specs.now jumps.now }
-    ensures { option_map seen result ≡ option_map (λ v. v.1) (find (λ v. v.0 == number) (value_read (values_at format specs.now cursor.entry))) }
-{
-    if !format.wide {
-        if let Some(jump) = jumps.of_number(number) {
-            if specs[jump.index as usize].attribute == number {
-                return jumped(specs, jump, format, cursor, number);
-            }
-        }
-    }
-    sought(specs, format, cursor, number)
-}
-
 // The value to which a jump leads.
 fn jumped<'a>(
     specs: &[Spec],
@@ -81,9 +122,7 @@ fn jumped<'a>(
     number: u64,
 ) -> Option<Value<'a>>
     requires read { IsRead (values_at format specs.now cursor) }
-    requires narrow { format.wide ≡ false }
-    requires jump { IsJump specs.now number jump }
-    requires own { (d : SpecOf) → (slice_index_or specs.now jump.index d).attribute ≡ number }
+    requires leads { Leads format specs.now number jump }
     ensures { option_map seen result ≡ option_map (λ v. v.1) (find (λ v. v.0 == number) (value_read (values_at format specs.now cursor.entry))) }
 {
     let mut cursor = cursor;

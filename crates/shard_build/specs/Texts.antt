@@ -1,13 +1,11 @@
 -- The texts of an entry, by what its unit's root says (DWARF 5, 7.5.5 on the class string).
-use Rattle.std.specs.Prelude.{◌≡◌, ℕ, ◌-◌, Bool, List, Option, Some, option_map, option_and_then, Result, Ok}
+use Rattle.std.specs.Prelude.{◌≡◌, ℕ, ◌-◌, Bool, List, Option, Some, option_map, Result, Ok}
 use Rattle.shard_build.specs.declared.texts.Texts.{Texts as TextsRead}
 use Rattle.index_model.specs.declared.unit.Unit.{Unit as UnitHeader}
 use Rattle.index_model.specs.Meaning.{◌>>=◌, if_some}
 use Rattle.index_model.specs.Sections.{Section}
 use Rattle.index_model.specs.Forms.{Value, Inline}
-use Rattle.index_model.specs.Attributes.{attribute, as_text, name_value, linkage_value}
-use Rattle.index_model.specs.FormSeen.{seen}
-use Rattle.shard_build.specs.declared.text_values.TextValues.{TextValues}
+use Rattle.index_model.specs.Attributes.{attribute, name_value, linkage_value}
 use Rattle.index_model.specs.Strings.{Texts, text_of}
 use Rattle.index_model.specs.Walk.{Item}
 use Rattle.index_model.specs.LawsTexts.{StandsIn}
@@ -31,14 +29,3 @@ HoldsTexts bytes u d = (n : ℕ) (text : List ℕ) → attribute n d ≡ Some (I
 -- the texts with their bytes
 abbrev pub texts_seen : TextsRead → Texts
 texts_seen t = record { name = option_map (λ b. b.now) t.name; linkage = option_map (λ b. b.now) t.linkage }
-
--- a text that stands in the entry is the value of one of its attributes
-abbrev pub IsHeld : Option Value → Item → Type 0
-IsHeld v d = (text : List ℕ) → v ≡ Some (Inline text) → (n : ℕ) × (attribute n d ≡ Some (Inline text))
-
--- the values of which the entry's texts are made
-pub record AreTextValues (v : TextValues) (d : Item) : Type 0 where
-  pub name_ : option_and_then as_text (option_map seen v.name) ≡ name_value d
-  pub linkage_ : option_and_then as_text (option_map seen v.linkage) ≡ linkage_value d
-  pub name_held : IsHeld (option_map seen v.name) d
-  pub linkage_held : IsHeld (option_map seen v.linkage) d

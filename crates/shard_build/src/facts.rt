@@ -84,28 +84,28 @@ pub(crate) fn ranges(entry: &Item<'_>, version: u16) -> Option<Raw>
 pub(crate) fn is_declaration(entry: &Item<'_>) -> bool
     ensures { result ≡ is_declaration entry.now }
 {
-    forms::flag(entry.value(DECLARATION))
+    entry.is_set(DECLARATION)
 }
 
 /// Whether it has itself the external flag.
 pub(crate) fn is_external(entry: &Item<'_>) -> bool
     ensures { result ≡ has_external entry.now }
 {
-    forms::flag(entry.value(EXTERNAL))
+    entry.is_set(EXTERNAL)
 }
 
 /// Whether it is a scoped enumeration.
 pub(crate) fn is_enum_class(entry: &Item<'_>) -> bool
     ensures { result ≡ has_enum_class entry.now }
 {
-    forms::flag(entry.value(ENUM_CLASS))
+    entry.is_set(ENUM_CLASS)
 }
 
 /// Whether it says itself that it is the main program.
 pub(crate) fn is_main(entry: &Item<'_>) -> bool
     ensures { result ≡ says_main entry.now }
 {
-    forms::flag(entry.value(MAIN_SUBPROGRAM))
+    entry.is_set(MAIN_SUBPROGRAM)
         || forms::unsigned(entry.value(CALLING_CONVENTION)) == Some(PROGRAM)
 }
 
@@ -113,8 +113,7 @@ pub(crate) fn is_main(entry: &Item<'_>) -> bool
 pub(crate) fn has_value(entry: &Item<'_>) -> bool
     ensures { result ≡ has_value entry.now }
 {
-    entry.value(CONST_VALUE).is_some()
-        || (entry.tag() == VARIABLE && entry.value(LOCATION).is_some())
+    entry.has(CONST_VALUE) || (entry.tag() == VARIABLE && entry.has(LOCATION))
 }
 
 /// Whether it has itself a low_pc, ranges or an entry_pc, in a unit of this version.

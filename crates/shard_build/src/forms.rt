@@ -1,7 +1,7 @@
 //! What is read of a value, by its form (DWARF 5, sections 7.5.4 and 7.5.5). A value of another form counts as absent.
 
 ghost use Rattle.std.specs.Prelude.{◌≡◌, is_some, option_map, option_and_then};
-ghost use Rattle.index_model.specs.Attributes.{as_text, as_address, as_unsigned, as_high, as_ranges, as_reference, as_signature, as_offset, is_set};
+ghost use Rattle.index_model.specs.Attributes.{as_text, as_address, as_unsigned, as_high, as_ranges, as_reference, as_signature, as_offset};
 ghost use Rattle.index_model.specs.Forms.{Signed, Offset};
 ghost use Rattle.index_model.specs.ShardParts.{raw_of, raw_of_high, as_next};
 ghost use Rattle.index_model.specs.FormSeen.{seen};
@@ -144,11 +144,4 @@ pub(crate) fn offset(value: Option<Value<'_>>) -> Option<u64>
         Some(Value::Offset(offset)) => Some(offset),
         _ => None,
     }
-}
-
-/// Whether a flag is there and set.
-pub(crate) fn flag(value: Option<Value<'_>>) -> bool
-    ensures { result ≡ is_set (option_map seen value.entry) }
-{
-    matches!(value, Some(Value::Flag(true)))
 }

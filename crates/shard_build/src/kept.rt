@@ -3,13 +3,12 @@
 ghost use Rattle.std.specs.Prelude.{◌≡◌, ◌+◌, ◌<◌, ◌^◌, ◌++◌, ◌∷◌, [], ℕ, length, reverse, OnOk};
 ghost use Rattle.index_model.specs.Gives.{Gives};
 ghost use Rattle.shard_build.specs.Kept.{has_node, is_visited_in, node_by, nodes_added, with_texts, spans_by, opened_by, imports_by};
-ghost use Rattle.shard_build.specs.Texts.{HoldsTexts, AreTextValues};
+ghost use Rattle.shard_build.specs.Texts.{HoldsTexts};
 
 use crate::frame::Frame;
 use crate::home::Home;
 use crate::open::{Open, role_of};
 use crate::text_places::TextPlaces;
-use crate::text_values::TextValues;
 use entry_rules::in_table;
 use entry_scan::Item;
 use index_model::{Import, Nodes, Spans};
@@ -45,11 +44,10 @@ pub(crate) fn add_node<'f>(
     ensures { Gives (λ _. nodes.new) result (nodes_added home.now.sections.now (home.now.number, home.now.unit) frame.now outer nodes.old entry.now) }
 {
     let base = frame.str_offsets_base;
-    let values = TextValues::of(entry);
     if has_node(home, frame, outer, visited, entry) {
-        add_node_with_texts(nodes, places, home, base, outer, entry, &values)
+        add_node_with_texts(nodes, places, home, base, outer, entry)
     } else {
-        Ok(home.test(base, entry, &values)?)
+        Ok(home.test(base, entry)?)
     }
 }
 
@@ -76,15 +74,13 @@ fn add_node_with_texts<'f>(
     base: Option<u64>,
     outer: Option<Open>,
     entry: &Item<'_>,
-    values: &TextValues<'_>,
 ) -> Result<(), Stop>
-    requires holds { HoldsTexts home.now.bytes.now home.now.unit entry.now }
-    requires values { AreTextValues values.now entry.now }
+    requires { HoldsTexts home.now.bytes.now home.now.unit entry.now }
     ensures { Gives (λ _. nodes.new) result (with_texts home.now.sections.now (home.now.number, home.now.unit) base entry.now (λ t. nodes.old ++ node_by home.now.sections.now (home.now.number, home.now.unit) outer entry.now t ∷ [])) }
 {
-    let texts = home.texts_of(base, entry, values)?;
+    let texts = home.texts(base, entry)?;
     let node = home.node(outer, entry, texts);
-    nodes.push(&node, places.of_values(home, base, entry, values))?;
+    nodes.push(&node, places.of_entry(home, base, entry))?;
     Ok(())
 }
 

@@ -15,7 +15,6 @@ mod run;
 mod shard;
 mod tables;
 mod text_places;
-mod text_values;
 mod texts;
 mod unit;
 

@@ -1,7 +1,8 @@
 //! Where in the file the texts of entries are thought to stand. Nothing rests on it: a list of nodes compares the bytes there.
 
+use crate::facts::NAME;
 use crate::home::Home;
-use crate::text_values::TextValues;
+use crate::texts::linkage_attribute;
 use entry_scan::Item;
 use file_image::SectionTable;
 use index_model::{Part, Places, Value};
@@ -37,17 +38,25 @@ impl TextPlaces {
         places
     }
 
-    /// Where the texts of an entry stand, by their values. Its unit's part of `.debug_str_offsets` begins at the base.
-    pub fn of_values(
+    /// Where the texts of an entry stand, whose unit's part of `.debug_str_offsets` begins at the base.
+    pub fn of_entry(&self, home: &Home<'_, '_>, base: Option<u64>, entry: &Item<'_>) -> Places {
+        Places {
+            name: self.of_attribute(home, base, entry, NAME),
+            linkage: self.of_attribute(home, base, entry, linkage_attribute(entry)),
+        }
+    }
+
+    // Where the text of an attribute stands.
+    fn of_attribute(
         &self,
         home: &Home<'_, '_>,
         base: Option<u64>,
         entry: &Item<'_>,
-        values: &TextValues<'_>,
-    ) -> Places {
-        Places {
-            name: self.of_value(home, base, entry, &values.name),
-            linkage: self.of_value(home, base, entry, &values.linkage),
+        attribute: u64,
+    ) -> u64 {
+        match entry.str_at(attribute) {
+            Some(at) => self.str.saturating_add(at),
+            None => self.of_value(home, base, entry, &entry.value(attribute)),
         }
     }
 

@@ -1,19 +1,19 @@
 //! The texts of an entry, borrowed from the file (DWARF 5, section 7.5.5 on the class string).
 
 ghost use Rattle.std.specs.Prelude.{◌≡◌, ◌-◌, ℕ, List, Some, option_map, option_and_then};
-ghost use Rattle.index_model.specs.Attributes.{as_text};
+ghost use Rattle.index_model.specs.Attributes.{as_text, linkage_value, read_as};
 ghost use Rattle.index_model.specs.FormSeen.{seen};
 ghost use Rattle.index_model.specs.Forms.{Inline};
 ghost use Rattle.index_model.specs.Gives.{GivesAlways};
 ghost use Rattle.index_model.specs.LawsTexts.{StandsIn};
 ghost use Rattle.index_model.specs.Meaning.{at_place};
 ghost use Rattle.index_model.specs.Strings.{bounded};
-ghost use Rattle.index_model.specs.Walk.{Item as EntryOf};
 ghost use Rattle.file_image.specs.TextLimits.{tested};
-ghost use Rattle.shard_build.specs.Texts.{text_by, texts_by, texts_seen, HoldsTexts, AreTextValues};
+ghost use Rattle.shard_build.specs.Texts.{text_by, texts_by, texts_seen, HoldsTexts};
 
+use crate::facts::{LINKAGE_NAME, NAME, OLD_LINKAGE_NAME};
+use crate::forms::is_text;
 use crate::home::Home;
-use crate::text_values::TextValues;
 use entry_scan::Item;
 use file_image::{test_text, text};
 use index_model::Value;
@@ -28,27 +28,24 @@ pub(crate) struct Texts<'f> {
     pub linkage: Option<&'f [u8]>,
 }
 
+/// The attribute in which an entry has its linkage name: that of the standard, or where no text is in it that of older producers.
+pub(crate) fn linkage_attribute(entry: &Item<'_>) -> u64
+    ensures { read_as as_text result entry.now ≡ linkage_value entry.now }
+{
+    if entry.str_at(LINKAGE_NAME).is_some() || is_text(&entry.value(LINKAGE_NAME)) {
+        LINKAGE_NAME
+    } else {
+        OLD_LINKAGE_NAME
+    }
+}
+
 impl<'s, 'f> Home<'s, 'f> {
     /// The texts of an entry, which are borrowed from the file. The fault is the first of them, name before linkage name.
     pub fn texts(&self, base: Option<u64>, entry: &Item<'_>) -> Result<Texts<'f>, Fault>
         requires { HoldsTexts self.now.bytes.now self.now.unit entry.now }
         ensures { GivesAlways texts_seen result (at_place entry.now.at (texts_by self.now.sections.now base self.now.unit.wide entry.now)) }
     {
-        self.texts_of(base, entry, &TextValues::of(entry))
-    }
-
-    /// The same, by their values.
-    pub fn texts_of(
-        &self,
-        base: Option<u64>,
-        entry: &Item<'_>,
-        values: &TextValues<'_>,
-    ) -> Result<Texts<'f>, Fault>
-        requires holds { HoldsTexts self.now.bytes.now self.now.unit entry.now }
-        requires values { AreTextValues values.now entry.now }
-        ensures { GivesAlways texts_seen result (at_place entry.now.at (texts_by self.now.sections.now base self.now.unit.wide entry.now)) }
-    {
-        match self.own_texts(base, entry, values) {
+        match self.own_texts(base, entry) {
             Ok(texts) => Ok(texts),
             Err(code) => Err(Fault {
                 code,
@@ -59,19 +56,29 @@ impl<'s, 'f> Home<'s, 'f> {
 
     // The same; the error is the code of the fault.
     #[tactic(auto, unfolding(crate::specs::Texts::texts_by))]
-    fn own_texts(
+    fn own_texts(&self, base: Option<u64>, entry: &Item<'_>) -> Result<Texts<'f>, u8>
+        requires { HoldsTexts self.now.bytes.now self.now.unit entry.now }
+        ensures { GivesAlways texts_seen result (texts_by self.now.sections.now base self.now.unit.wide entry.now) }
+    {
+        let name = self.text_in(base, entry, NAME)?;
+        let linkage = self.text_in(base, entry, linkage_attribute(entry))?;
+        Ok(Texts { name, linkage })
+    }
+
+    // The text of an attribute of an entry, if it has one.
+    fn text_in(
         &self,
         base: Option<u64>,
         entry: &Item<'_>,
-        values: &TextValues<'_>,
-    ) -> Result<Texts<'f>, u8>
-        requires holds { HoldsTexts self.now.bytes.now self.now.unit entry.now }
-        requires values { AreTextValues values.now entry.now }
-        ensures { GivesAlways texts_seen result (texts_by self.now.sections.now base self.now.unit.wide entry.now) }
+        attribute: u64,
+    ) -> Result<Option<&'f [u8]>, u8>
+        requires { HoldsTexts self.now.bytes.now self.now.unit entry.now }
+        ensures { GivesAlways (λ t. option_map (λ bytes. bytes.now) t) result (text_by self.now.sections.now base self.now.unit.wide (read_as as_text attribute entry.now)) }
     {
-        let name = self.text(base, entry, &values.name)?;
-        let linkage = self.text(base, entry, &values.linkage)?;
-        Ok(Texts { name, linkage })
+        match entry.str_at(attribute) {
+            Some(at) => text(self.sections, base, self.unit.wide, &Value::Str(at)),
+            None => self.text(base, entry, &entry.value(attribute)),
+        }
     }
 
     // The text of a value of an entry, if it is one.
@@ -122,17 +129,11 @@ impl<'s, 'f> Home<'s, 'f> {
         Ok(Some(found_in(self.bytes, from as usize, to as usize, text)))
     }
 
-    /// Whether the texts of an entry are sound: the same as `texts_of`, where they aren't kept.
-    pub fn test(
-        &self,
-        base: Option<u64>,
-        entry: &Item<'_>,
-        values: &TextValues<'_>,
-    ) -> Result<(), Fault>
-        requires { AreTextValues values.now entry.now }
+    /// Whether the texts of an entry are sound: the same as `texts`, where they aren't kept.
+    pub fn test(&self, base: Option<u64>, entry: &Item<'_>) -> Result<(), Fault>
         ensures { GivesAlways (λ done. done) result (tested (at_place entry.now.at (texts_by self.now.sections.now base self.now.unit.wide entry.now))) }
     {
-        match self.test_values(base, values) {
+        match self.test_own(base, entry) {
             Ok(()) => Ok(()),
             Err(code) => Err(Fault {
                 code,
@@ -143,11 +144,21 @@ impl<'s, 'f> Home<'s, 'f> {
 
     // The same; the error is the code of the fault.
     #[tactic(auto, unfolding(crate::specs::Texts::texts_by))]
-    fn test_values(&self, base: Option<u64>, values: &TextValues<'_>) -> Result<(), u8>
-        ensures { (d : EntryOf) → AreTextValues values.now d → GivesAlways (λ done. done) result (tested (texts_by self.now.sections.now base self.now.unit.wide d)) }
+    fn test_own(&self, base: Option<u64>, entry: &Item<'_>) -> Result<(), u8>
+        ensures { GivesAlways (λ done. done) result (tested (texts_by self.now.sections.now base self.now.unit.wide entry.now)) }
     {
-        self.test_text(base, &values.name)?;
-        self.test_text(base, &values.linkage)
+        self.test_in(base, entry, NAME)?;
+        self.test_in(base, entry, linkage_attribute(entry))
+    }
+
+    // Whether the text of an attribute of an entry is sound, if it has one.
+    fn test_in(&self, base: Option<u64>, entry: &Item<'_>, attribute: u64) -> Result<(), u8>
+        ensures { GivesAlways (λ done. done) result (tested (text_by self.now.sections.now base self.now.unit.wide (read_as as_text attribute entry.now))) }
+    {
+        match entry.str_at(attribute) {
+            Some(at) => test_text(self.sections, base, self.unit.wide, &Value::Str(at)),
+            None => self.test_text(base, &entry.value(attribute)),
+        }
     }
 
     // Whether a value is a sound text, if it is a text. It is read where it stands, since a copy would cost more than the test.

@@ -6,7 +6,7 @@ use Rattle.index_model.specs.Meaning.{◌>>=◌}
 use Rattle.index_model.specs.Strings.{Texts}
 use Rattle.file_image.specs.TextLimits.{tested}
 use Rattle.shard_build.specs.Texts.{text_by, texts_by}
-use Rattle.shard_build.proofs.home.Home.test_values.Goals as goal
+use Rattle.shard_build.proofs.home.Home.test_own.Goals as goal
 
 abbrev both : Result (Option (List ℕ)) ℕ → Result (Option (List ℕ)) ℕ → Result Texts ℕ
 both name linkage = name >>= λ n. linkage >>= λ l. Ok (record { name = n; linkage = l })
@@ -19,9 +19,9 @@ second_decides (Err e) linkage x r sound h = absurd cc
 
 pub returns : goal.returns
 unfolding texts_by
-returns c = λ d are.
+returns c =
     let home = c.args.self.now in
+    let d = c.args.entry.now in
     let by : Option Value → Result (Option (List ℕ)) ℕ = text_by home.sections.now c.args.base home.unit.wide in
-    let name : tested (by (name_value d)) ≡ Ok c.in_ok-test_text.field-0 = ap (λ (v : Option Value). tested (by v)) (sym are.name_) ∙ c.in_ok-test_text.ensures in
-    let linkage = rw are.linkage_ at c.test_text-2.ensures in
-    second_decides (by (name_value d)) (by (linkage_value d)) c.in_ok-test_text.field-0 c.test_text-2.result name linkage
+    let linkage = rw c.linkage_attribute.ensures at c.test_in-2.ensures in
+    second_decides (by (name_value d)) (by (linkage_value d)) c.in_ok-test_in.field-0 c.test_in-2.result c.in_ok-test_in.ensures linkage
