@@ -33,16 +33,16 @@ impl<'a> Written<'a> {
         requires jumps { AreJumps self.now.specs.now self.now.jumps.now }
         ensures { option_map seen result ≡ option_map (λ v. v.1) (find (λ v. v.0 == number) (value_read (values_at self.now.format self.now.specs.now self.now.cursor))) }
     {
-        match self.led(number) {
-            Some(jump) => jumped(
+        if let Some(jump) = self.led(number) {
+            return jumped(
                 self.specs,
                 jump,
                 self.format,
                 self.cursor.copied(),
                 number,
-            ),
-            None => sought(self.specs, self.format, self.cursor.copied(), number),
+            );
         }
+        sought(self.specs, self.format, self.cursor.copied(), number)
     }
 
     /// Whether one look tells that there is an attribute with this number.
@@ -52,10 +52,10 @@ impl<'a> Written<'a> {
         requires jumps { AreJumps self.now.specs.now self.now.jumps.now }
         ensures { result ≡ true → is_some (option_map (λ v. v.1) (find (λ v. v.0 == number) (value_read (values_at self.now.format self.now.specs.now self.now.cursor)))) ≡ true }
     {
-        match self.led(number) {
-            Some(_) => true,
-            None => false,
+        if let Some(_) = self.led(number) {
+            return true;
         }
+        false
     }
 
     /// Whether one look tells that the first attribute with this number is a flag that takes no byte.
@@ -97,11 +97,10 @@ impl<'a> Written<'a> {
             return None;
         }
         let jump = self.jumps.of_number(number)?;
-        if self.specs[jump.index as usize].attribute == number {
-            Some(jump)
-        } else {
-            None
+        if self.specs[jump.index as usize].attribute != number {
+            return None;
         }
+        Some(jump)
     }
 
     /// All attributes with their values, in the order of the entry.
@@ -125,9 +124,9 @@ fn jumped<'a>(
     requires leads { Leads format specs.now number jump }
     ensures { option_map seen result ≡ option_map (λ v. v.1) (find (λ v. v.0 == number) (value_read (values_at format specs.now cursor.entry))) }
 {
-    let mut cursor = cursor;
-    cursor.skip(u64::from(jump.bytes))?;
-    match read(&specs[jump.index as usize], format, &mut cursor) {
+    let mut ahead = cursor;
+    ahead.skip(u64::from(jump.bytes))?;
+    match read(&specs[jump.index as usize], format, &mut ahead) {
         Ok(value) => Some(value),
         Err(_) => None,
     }

@@ -1,7 +1,7 @@
-use Rattle.std.proofs.Common.{ℕ, sym, ◌∙◌, ap}
+use Rattle.std.proofs.Common.{◌≡◌, ℕ, sym, ◌∙◌, ap, rules}
 use Rattle.entry_scan.specs.Tokens.{token_seen}
 use Rattle.index_model.specs.declared.unit.Unit.{Unit as UnitHeader}
-use Rattle.index_model.specs.Walk.{Walk}
+use Rattle.index_model.specs.Walk.{Walk, with_token}
 use Rattle.shard_build.specs.Kept.{kept_seen}
 use Rattle.shard_build.specs.Texts.{HoldsTexts}
 use Rattle.shard_build.proofs.TokenSteps.{on_first, on_others, one_more}
@@ -9,15 +9,15 @@ use Rattle.shard_build.proofs.kept.Kept.walk.Goals as goal
 
 pub take-requires-clause-texts : goal.take-requires-clause-texts
 take-requires-clause-texts c =
-    let first = rw c.in-Some.is at c.in_ok-token.ensures.value in
-    on_first (HoldsTexts c.args.home.now.bytes.now c.args.home.now.unit) (token_seen c.in-Some.token) c.loop-token.walk c.token.new.self first c.loop-token.invariant.texts
+    let first : c.loop-token.walk ≡ with_token (token_seen c.in-Ok-Some.token) c.token-read.new.self = search rules in
+    on_first (HoldsTexts c.args.home.now.bytes.now c.args.home.now.unit) (token_seen c.in-Ok-Some.token) c.loop-token.walk c.token-read.new.self first c.loop-token.invariant.texts
 
 pub loop-token-preserved : goal.loop-token-preserved
 loop-token-preserved c =
-    let first = rw c.in-Some.is at c.in_ok-token.ensures.value in
+    let first : c.loop-token.walk ≡ with_token (token_seen c.in-Ok-Some.token) c.token-read.new.self = search rules in
     let u : ℕ × UnitHeader = (c.args.home.now.number, c.args.home.now.unit) in
     record {
-      same = one_more c.args.home.now.sections.now u (kept_seen c.loop-token.self) (kept_seen c.take.new.self) (token_seen c.in-Some.token) c.loop-token.walk c.token.new.self first c.in_default-take.ensures ∙ c.loop-token.invariant.same;
+      same = one_more c.args.home.now.sections.now u (kept_seen c.loop-token.self) (kept_seen c.take.new.self) (token_seen c.in-Ok-Some.token) c.loop-token.walk c.token-read.new.self first c.in_default.ensures ∙ c.loop-token.invariant.same;
       end = ap (λ (w : Walk). w.end) (sym first) ∙ c.loop-token.invariant.end;
-      texts = on_others (HoldsTexts c.args.home.now.bytes.now c.args.home.now.unit) (token_seen c.in-Some.token) c.loop-token.walk c.token.new.self first c.loop-token.invariant.texts;
+      texts = on_others (HoldsTexts c.args.home.now.bytes.now c.args.home.now.unit) (token_seen c.in-Ok-Some.token) c.loop-token.walk c.token-read.new.self first c.loop-token.invariant.texts;
     }
