@@ -200,6 +200,7 @@ module _ (specs : List Spec) (old new : Jumps) (k : ℕ) (jump : Jump) (number :
     where
       cases : (j < k) ⊎ (j ≡ k)
       cases = grind arith
+
       by : IsAdded m → (j < k) ⊎ (j ≡ k) → ⊥
       by (inl kept) (inl less) = lacks m (sym kept ∙ none) j d less same
       by (inl kept) (inr here) =

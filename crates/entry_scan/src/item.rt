@@ -27,7 +27,6 @@ impl<'a> Model for Item<'a> {
     ghost Value = { Entry };
 
     ghost use Rattle.std.specs.Prelude.{◌≤◌, ◌<◌, ◌^◌};
-
     ghost use Rattle.entry_scan.specs.Values.{values_at, value_read, IsRead};
 
     ghost view = { λ d. record { at = d.at; after = d.after; depth = d.depth; children = d.children; tag = d.tag; values = value_read (values_at d.values.format d.values.specs.now d.values.cursor) } };

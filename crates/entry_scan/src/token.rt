@@ -81,6 +81,7 @@ impl<'a> Frame<'a> {
     }
 
     /// The token at the cursor. The error is the code of the fault at its place.
+    #[inline(always)]
     pub fn token(&self, levels: Levels, cursor: &mut Cursor<'a>) -> Result<Token<'a>, u8>
         requires small { self.now.unit.start + cursor.old.at + length cursor.old.rest < 2 ^ 63 }
         ensures value { GivesAlways (λ t. (token_seen t, joint self.now.unit.start cursor.new)) result
@@ -105,6 +106,7 @@ impl<'a> Frame<'a> {
     }
 
     // The entry at a place whose abbreviation is known. The values of its attributes begin at the cursor.
+    #[inline(always)]
     fn entry(
         &self,
         levels: Levels,

@@ -49,6 +49,7 @@ impl<'a> Tree<'a> {
     }
 
     /// The token at the place, which is passed.
+    #[inline(always)]
     pub fn step(&mut self) -> Result<Token<'a>, Fault>
         requires small { self.old.frame.unit.start + self.old.cursor.at + length self.old.cursor.rest < 2 ^ 63 }
         requires goes_on { is_over (levels_seen self.old.levels) self.old.cursor ≡ false }

@@ -34,13 +34,7 @@ impl<'a> Written<'a> {
         ensures { option_map seen result ≡ option_map (λ v. v.1) (find (λ v. v.0 == number) (value_read (values_at self.now.format self.now.specs.now self.now.cursor))) }
     {
         if let Some(jump) = self.led(number) {
-            return jumped(
-                self.specs,
-                jump,
-                self.format,
-                self.cursor.copied(),
-                number,
-            );
+            return jumped(self.specs, jump, self.format, self.cursor.copied(), number);
         }
         sought(self.specs, self.format, self.cursor.copied(), number)
     }
@@ -133,12 +127,7 @@ fn jumped<'a>(
 }
 
 // The same, where each value before it is passed.
-fn sought<'a>(
-    specs: &[Spec],
-    format: Format,
-    cursor: Cursor<'a>,
-    number: u64,
-) -> Option<Value<'a>>
+fn sought<'a>(specs: &[Spec], format: Format, cursor: Cursor<'a>, number: u64) -> Option<Value<'a>>
     requires { IsRead (values_at format specs.now cursor) }
     ensures { option_map seen result ≡ option_map (λ v. v.1) (find (λ v. v.0 == number) (value_read (values_at format specs.now cursor.entry))) }
 {

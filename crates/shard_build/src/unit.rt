@@ -85,19 +85,14 @@ impl<'f> Kept<'f> {
         requires texts { (d : EntryOf) → Contains (items walk) d → HoldsTexts home.now.bytes.now home.now.unit d }
         ensures { Gives (λ _. kept_seen self.new) result (behind_walk home.now.sections.now (home.now.number, home.now.unit) (kept_seen self.old) walk.entry) }
     {
-        loop {
-            // A token is taken where it lies, since to move it costs more than to read it.
-            let read = walk.token();
-            let token = match &read {
-                Ok(Some(token)) => token,
-                Ok(None) => return Ok(()),
-                Err(fault) => return Err(Stop::Fault(*fault)),
-            };
-            if let Err(stop) = self.take(home, token) {
+        let mut token = Token::Null { depth: 0, after: 0 };
+        while walk.read_into(&mut token)? {
+            if let Err(stop) = self.take(home, &token) {
                 finish(&mut walk)?;
                 return Err(stop);
             }
         }
+        Ok(())
     }
 }
 

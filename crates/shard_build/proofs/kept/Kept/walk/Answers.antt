@@ -9,15 +9,15 @@ use Rattle.shard_build.proofs.kept.Kept.walk.Goals as goal
 
 pub take-requires-clause-texts : goal.take-requires-clause-texts
 take-requires-clause-texts c =
-    let first : c.loop-token.walk ≡ with_token (token_seen c.in-Ok-Some.token) c.token-read.new.self = search rules in
-    on_first (HoldsTexts c.args.home.now.bytes.now c.args.home.now.unit) (token_seen c.in-Ok-Some.token) c.loop-token.walk c.token-read.new.self first c.loop-token.invariant.texts
+    let first : c.loop-self.walk ≡ with_token (token_seen c.read_into.new.place) c.read_into.new.self = search rules in
+    on_first (HoldsTexts c.args.home.now.bytes.now c.args.home.now.unit) (token_seen c.read_into.new.place) c.loop-self.walk c.read_into.new.self first c.loop-self.invariant.texts
 
-pub loop-token-preserved : goal.loop-token-preserved
-loop-token-preserved c =
-    let first : c.loop-token.walk ≡ with_token (token_seen c.in-Ok-Some.token) c.token-read.new.self = search rules in
+pub loop-self-preserved : goal.loop-self-preserved
+loop-self-preserved c =
+    let first : c.loop-self.walk ≡ with_token (token_seen c.read_into.new.place) c.read_into.new.self = search rules in
     let u : ℕ × UnitHeader = (c.args.home.now.number, c.args.home.now.unit) in
     record {
-      same = one_more c.args.home.now.sections.now u (kept_seen c.loop-token.self) (kept_seen c.take.new.self) (token_seen c.in-Ok-Some.token) c.loop-token.walk c.token-read.new.self first c.in_default.ensures ∙ c.loop-token.invariant.same;
-      end = ap (λ (w : Walk). w.end) (sym first) ∙ c.loop-token.invariant.end;
-      texts = on_others (HoldsTexts c.args.home.now.bytes.now c.args.home.now.unit) (token_seen c.in-Ok-Some.token) c.loop-token.walk c.token-read.new.self first c.loop-token.invariant.texts;
+      same = one_more c.args.home.now.sections.now u (kept_seen c.loop-self.self) (kept_seen c.take.new.self) (token_seen c.read_into.new.place) c.loop-self.walk c.read_into.new.self first c.in_default.ensures ∙ c.loop-self.invariant.same;
+      end = ap (λ (w : Walk). w.end) (sym first) ∙ c.loop-self.invariant.end;
+      texts = on_others (HoldsTexts c.args.home.now.bytes.now c.args.home.now.unit) (token_seen c.read_into.new.place) c.loop-self.walk c.read_into.new.self first c.loop-self.invariant.texts;
     }
