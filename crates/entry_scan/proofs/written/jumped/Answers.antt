@@ -1,4 +1,4 @@
-use Rattle.std.proofs.Common.{◌≡◌, ℕ, ◌+◌, drop, get_or, Option, option_map, ap, sym, ◌∙◌}
+use Rattle.std.proofs.Common.{ℕ, ◌+◌, drop, get_or, Option, option_map, ap, sym, ◌∙◌}
 use Rattle.index_model.specs.Forms.{Value}
 use Rattle.entry_scan.proofs.FirstLaws.{found}
 use Rattle.entry_scan.proofs.JumpLaws.{room, leads}

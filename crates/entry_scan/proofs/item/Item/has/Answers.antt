@@ -1,4 +1,4 @@
-use Rattle.std.proofs.Common.{◌≡◌, ℕ, is_some, Option, option_map, ap, sym}
+use Rattle.std.proofs.Common.{ℕ, is_some, Option, option_map, ap, sym}
 use Rattle.index_model.specs.Forms.{Value}
 use Rattle.entry_scan.specs.Values.{values_at, value_read}
 use Rattle.entry_scan.proofs.MarkLaws.{not_there}

@@ -1,4 +1,4 @@
-use Rattle.std.proofs.Common.{◌≡◌, ℕ, Option, option_map, ap, sym}
+use Rattle.std.proofs.Common.{ℕ, Option, option_map, ap, sym}
 use Rattle.index_model.specs.Forms.{Value}
 use Rattle.index_model.specs.Attributes.{is_set}
 use Rattle.entry_scan.specs.Values.{values_at, value_read}

@@ -1,11 +1,10 @@
-use Rattle.std.proofs.Common.{◌≡◌, ◌+◌, ◌%◌, ◌<◌, Option, None, get_or, replicate, refl, ◌∙◌, sym, subst, arith}
+use Rattle.std.proofs.Common.{◌%◌, Option, None, refl, ◌∙◌, sym, subst, arith}
 use Rattle.std.specs.Prelude.{IfSome, IsSome}
 use Rattle.std.proofs.lemmas.Bool.{false≢true}
 use Rattle.std.proofs.lemmas.List.{get_or-replicate}
 use Rattle.entry_scan.specs.declared.jumps.Jump.{Jump}
 use Rattle.entry_scan.specs.Jumps.{IsJump, Take}
 use Rattle.entry_scan.proofs.JumpLaws.{none_take, one_more, jumps_added, lacks_added}
-use Rattle.entry_scan.proofs.ValueLaws.{zero_spec}
 use Rattle.entry_scan.proofs.jumps.Jumps.of.Goals as goal
 
 pub loop-spec-init : goal.loop-spec-init

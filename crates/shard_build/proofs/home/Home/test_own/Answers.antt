@@ -1,5 +1,5 @@
-use Rattle.std.proofs.Common.{option_and_then, ◌≡◌, ℕ, List, Option, Result, Ok, Err, sym, ap, ◌∙◌}
-use Rattle.index_model.specs.Attributes.{as_text, name_value, linkage_value}
+use Rattle.std.proofs.Common.{◌≡◌, ℕ, List, Option, Result, Ok, Err}
+use Rattle.index_model.specs.Attributes.{name_value, linkage_value}
 use Rattle.index_model.specs.Forms.{Value}
 use Rattle.index_model.specs.Gives.{GivesAlways}
 use Rattle.index_model.specs.Meaning.{◌>>=◌}
