@@ -1,6 +1,7 @@
 -- The unit of an entry that is read again.
 use Rattle.std.proofs.Common.{◌≡◌, ℕ, ◌+◌, ◌<◌, ◌≤◌, length, List, [], ◌∷◌, Option, Some, Result, Ok, refl, sym, ap, subst, ◌∙◌, arith, ⊎_elim}
 use Rattle.std.specs.Prelude.{Contains, codes, slice_get, IsSome}
+use Rattle.std.specs.List.{AllZip}
 use Rattle.std.proofs.lemmas.Option.{get_or_from_slice_get}
 use Rattle.common_laws.proofs.Members.{contains_cases}
 use Rattle.ix_base.specs.declared.code.TheConstants.{BAD_ABBREVIATION}
@@ -12,10 +13,11 @@ use Rattle.index_model.specs.Abbreviations.{Abbrev, table}
 use Rattle.index_model.specs.Attributes.{Reference}
 use Rattle.index_model.specs.Faults.{scanned, program_of}
 use Rattle.index_model.specs.Meaning.{fault}
-use Rattle.index_model.specs.Program.{Walked, Program, walked, item_with_offset}
+use Rattle.index_model.specs.NodeSeen.{NodeSeen}
+use Rattle.index_model.specs.Program.{Walked, Program, walked, located, item_with_offset}
 use Rattle.index_model.specs.References.{target_of}
 use Rattle.index_model.specs.Sections.{Section, section_bytes}
-use Rattle.index_model.specs.ShardParts.{spans_of, as_next}
+use Rattle.index_model.specs.ShardParts.{spans_of, as_next, IsSeenOf}
 use Rattle.index_model.proofs.Meanings.{some_ok}
 use Rattle.index_model.proofs.Scans.{AreScans, read, scanned_walked, program_parts}
 use Rattle.index_model.proofs.UnitsApart.{walk_parts}
@@ -104,3 +106,7 @@ module _ (im : Image) (image : image_of im.file ≡ Ok im) (p : Program) (is : p
       node_there s o there n node =
           let entry : located_in_span (walk_by h a) s o ≡ item_with_offset p o = ap (λ (v : Walked). located_in_span v s o) walk_here ∙ sym there in
           subst (λ (ss : List Section). IsNodeIn ss n (item_with_offset p o)) (sections ∙ parts.sections) (subst (IsNodeIn h.sections.now n) entry node)
+
+      -- the nodes of all its entries are those of the file's unit
+      pub nodes_there : (nodes : List NodeSeen) → AllZip (IsSeenOf h.sections.now) nodes (located (walk_by h a)) → AllZip (IsSeenOf p.sections) nodes (located w)
+      nodes_there nodes are = subst (λ (ss : List Section). AllZip (IsSeenOf ss) nodes (located w)) (sections ∙ parts.sections) (subst (λ (v : Walked). AllZip (IsSeenOf h.sections.now) nodes (located v)) walk_here are)

@@ -60,25 +60,41 @@ module _ (ss : List Section) where
     nodes_rise ms ds z.1 h.1,
   )
 
+  module _ (nodes : List NodeSeen) (ds : List Located) (are : AllZip (IsSeenOf ss) nodes ds) where
+    -- the offsets of the nodes rise as those of their entries do
+    pub offsets_rise_by : Pairs Before ds → IsNonDecreasingBy (λ n. n.facts.offset) nodes
+    offsets_rise_by before i j d le within =
+        let pairs = nodes_rise nodes ds are before in
+        ⊎_elim
+        (λ (lt : i < j). let r = all_pairs NodesEarlier nodes pairs i j d lt within in omega (arith, r))
+        (λ (ge : j ≤ i). let same : i ≡ j = omega (arith, le, ge) in subst (λ (k : ℕ). (get_or nodes i d).facts.offset ≤ (get_or nodes k d).facts.offset) same (omega arith))
+        (cases_lt i j)
+
+    module _ (o : ℕ) where
+      -- the node at an offset is that of an entry there
+      pub entry_there : (n : NodeSeen) → find (has_offset o) nodes ≡ Some n → (d : Located) × Contains ds d × IsSeenOf ss n d × (d.item.at ≡ o)
+      entry_there n found =
+          let m = of_find (has_offset o) nodes n found in
+          let e = entry_of nodes ds are n m.0 in
+          (e.0, e.1, e.2, sym (node_offset n.facts e.0 e.2.facts) ∙ eqb-true n.facts.offset o m.1)
+
+      -- without a node at its offset there is no entry
+      pub none_there : find (has_offset o) nodes ≡ None → (d : Located) → Contains ds d → d.item.at ≡ o → ⊥
+      none_there none d c place =
+          let n = node_of nodes ds are d c in
+          find_none (has_offset o) nodes none n.0 n.1 (eq-eqb (n.0).facts.offset o (node_offset (n.0).facts d n.2.facts ∙ place))
+
   module _ (s : Shard) (run : List Walked) (a : AreApart ss run) (stands : StandsFor ss s run) where
     -- the offsets of a shard's nodes rise
     pub offsets_rise : IsNonDecreasingBy (λ n. n.facts.offset) s.nodes
-    offsets_rise i j d le within =
-        let pairs = nodes_rise s.nodes (kept_in run) stands.nodes (pairs_filter Before kept (flat_map located run) (located_before ss run a)) in
-        ⊎_elim
-        (λ (lt : i < j). let r = all_pairs NodesEarlier s.nodes pairs i j d lt within in omega (arith, r))
-        (λ (ge : j ≤ i). let same : i ≡ j = omega (arith, le, ge) in subst (λ (k : ℕ). (get_or s.nodes i d).facts.offset ≤ (get_or s.nodes k d).facts.offset) same (omega arith))
-        (cases_lt i j)
+    offsets_rise = offsets_rise_by s.nodes (kept_in run) stands.nodes (pairs_filter Before kept (flat_map located run) (located_before ss run a))
 
     -- the node at an offset is that of an entry there
     pub kept_there : (o : ℕ) (n : NodeSeen) → find (has_offset o) s.nodes ≡ Some n → (d : Located) × Contains (flat_map located run) d × IsSeenOf ss n d × (d.item.at ≡ o)
     kept_there o n found =
-        let m = of_find (has_offset o) s.nodes n found in
-        let e = entry_of s.nodes (kept_in run) stands.nodes n m.0 in
-        (e.0, (of_filter kept (flat_map located run) e.0 e.1).0, e.2, sym (node_offset n.facts e.0 e.2.facts) ∙ eqb-true n.facts.offset o m.1)
+        let e = entry_there s.nodes (kept_in run) stands.nodes o n found in
+        (e.0, (of_filter kept (flat_map located run) e.0 e.1).0, e.2, e.3)
 
     -- without a node at its offset an entry isn't kept
     pub not_kept : (o : ℕ) → find (has_offset o) s.nodes ≡ None → (d : Located) → Contains (flat_map located run) d → d.item.at ≡ o → kept d ≡ true → ⊥
-    not_kept o none d c place on =
-        let n = node_of s.nodes (kept_in run) stands.nodes d (to_filter kept (flat_map located run) d c on) in
-        find_none (has_offset o) s.nodes none n.0 n.1 (eq-eqb (n.0).facts.offset o (node_offset (n.0).facts d n.2.facts ∙ place))
+    not_kept o none d c place on = none_there s.nodes (kept_in run) stands.nodes o none d (to_filter kept (flat_map located run) d c on) place

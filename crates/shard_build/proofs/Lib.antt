@@ -22,3 +22,6 @@ mod AgainLaws
 mod AgainUnits
 pub mod WholeFile
 mod TextLaws
+mod AboveLaws
+mod UnitNodes
+mod UnitRead

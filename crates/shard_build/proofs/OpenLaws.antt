@@ -15,14 +15,14 @@ use Rattle.shard_build.specs.Kept.{innermost, is_visited_in, role_of}
 
 -- ---- entries that rise
 
-before_in : (n : ℕ) (es : List Item) (d : Item) (rest : List Item) → Rise n (es ++ d ∷ rest) → (x : Item) → Contains es x → x.at < d.at
+pub before_in : (n : ℕ) (es : List Item) (d : Item) (rest : List Item) → Rise n (es ++ d ∷ rest) → (x : Item) → Contains es x → x.at < d.at
 before_in n [] d rest r x c = absurd (omega (arith, c.1))
 before_in n (e ∷ es) d rest r x c = ⊎_elim
     (λ (same : e ≡ x). let up = rise_below (suc e.at) (es ++ d ∷ rest) d r.1 (Contains-append_right es (d ∷ rest) d (contains_here d rest)) in omega (arith, up, ap (λ (y : Item). y.at) same))
     (λ (l : Contains es x). before_in (suc e.at) es d rest r.1 x l)
     (contains_cases e es x c)
 
-after_in : (n : ℕ) (es : List Item) (d : Item) (rest : List Item) → Rise n (es ++ d ∷ rest) → (x : Item) → Contains (d ∷ rest) x → d.at ≤ x.at
+pub after_in : (n : ℕ) (es : List Item) (d : Item) (rest : List Item) → Rise n (es ++ d ∷ rest) → (x : Item) → Contains (d ∷ rest) x → d.at ≤ x.at
 after_in n [] d rest r x c = ⊎_elim
     (λ (same : d ≡ x). omega (arith, ap (λ (y : Item). y.at) same))
     (λ (l : Contains rest x). let up = rise_below (suc d.at) rest x r.1 l in omega (arith, up))

@@ -1,17 +1,26 @@
 //! Entries that are read again from the bytes of their unit, where no node was kept of them.
 
-ghost use Rattle.std.specs.Prelude.{◌≡◌, ◌≤◌, ◌<◌, ◌+◌, ◌^◌, Contains, length};
-ghost use Rattle.index_model.specs.ShardParts.{spans_of};
-ghost use Rattle.index_model.specs.Strings.{base_of};
+ghost use Rattle.std.specs.Prelude.{◌≡◌, ◌≤◌, ◌<◌, ◌+◌, ◌^◌, Contains, IfOk, Ok, length};
+ghost use Rattle.std.specs.List.{AllZip};
+ghost use Rattle.index_model.specs.NodeSeen.{node_seen};
+ghost use Rattle.index_model.specs.Program.{located};
+ghost use Rattle.index_model.specs.ShardParts.{spans_of, IsSeenOf};
+ghost use Rattle.index_model.specs.Strings.{Texts as TextsMeant, base_of};
 ghost use Rattle.file_image.specs.Images.{unit_bytes};
 ghost use Rattle.shard_build.specs.Again.{walk_by, IsSound};
 ghost use Rattle.shard_build.specs.Entries.{IsNodeIn};
 ghost use Rattle.shard_build.specs.Found.{located_in_span, IsSpanOfParent};
+ghost use Rattle.shard_build.specs.Kept.{node_under};
+ghost use Rattle.shard_build.specs.Texts.{texts_by, HoldsTexts};
 
+use crate::above::Above;
 use crate::facts;
 use crate::home::Home;
-use entry_scan::{Abbrevs, Walk, item_at};
-use index_model::{Node, Span};
+use crate::text_places::TextPlaces;
+use entry_scan::{Abbrevs, Item, Walk, item_at};
+use index_model::{Node, Nodes, Span};
+use ix_base::NoMemory;
+use std::alloc::Global;
 
 impl<'s, 'f> Home<'s, 'f> {
     /// The node of the entry at a joint offset in the span of its parent, None where no entry of the unit stands there.
@@ -26,8 +35,44 @@ impl<'s, 'f> Home<'s, 'f> {
         ensures { IsNodeIn self.now.sections.now result (located_in_span (walk_by self.now abbrevs.now) span.now offset) }
     {
         let item = item_at(self.bytes, &self.unit, abbrevs, span, offset)?;
-        match self.texts(self.str_offsets_base(abbrevs), &item) {
-            Ok(texts) => Some(self.node_under(Some(span.entry), &item, texts)),
+        let base = self.str_offsets_base(abbrevs);
+        Some(self.node_of_sound(base, Some(span.entry), &item))
+    }
+
+    /// The nodes of all entries of the unit, in section order.
+    pub fn nodes(
+        &self,
+        alloc: Global,
+        file: &'f [u8],
+        abbrevs: &Abbrevs,
+    ) -> Result<Nodes<'f>, NoMemory>
+        requires own { self.now.bytes.now ≡ unit_bytes self.now.sections.now self.now.unit }
+        requires header { self.now.unit.body ≤ length self.now.bytes.now }
+        requires small { self.now.unit.start + length self.now.bytes.now < 2 ^ 63 }
+        requires sound { IsSound self.now abbrevs.now }
+        ensures { IfOk result (λ nodes. AllZip (IsSeenOf self.now.sections.now) nodes (located (walk_by self.now abbrevs.now))) }
+    {
+        let base = self.str_offsets_base(abbrevs);
+        let places = TextPlaces::of(file);
+        let mut nodes = Nodes::new(alloc, file);
+        let mut above = Above::new(alloc)?;
+        let mut walk = Walk::new(self.bytes, &self.unit, abbrevs);
+        while let Ok(Some(entry)) = walk.next() {
+            let node = self.node_of_sound(base, above.parent(&entry), &entry);
+            nodes.push(&node, places.of_entry(self, base, &entry))?;
+            above.pass(&entry);
+        }
+        Ok(nodes)
+    }
+
+    // The node of an entry without a fault, whose parent has this joint offset.
+    fn node_of_sound(&self, base: Option<u64>, parent: Option<u64>, entry: &Item<'_>) -> Node<'f>
+        requires texts { HoldsTexts self.now.bytes.now self.now.unit entry.now }
+        requires sound { (t : TextsMeant) × (texts_by self.now.sections.now base self.now.unit.wide entry.now ≡ Ok t) }
+        ensures { (t : TextsMeant) → texts_by self.now.sections.now base self.now.unit.wide entry.now ≡ Ok t → node_seen result ≡ node_under self.now.sections.now (self.now.number, self.now.unit) parent entry.now t }
+    {
+        match self.texts(base, entry) {
+            Ok(texts) => self.node_under(parent, entry, texts),
             Err(_) => unreachable!(),
         }
     }

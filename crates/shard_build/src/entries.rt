@@ -6,11 +6,12 @@ ghost use Rattle.index_model.specs.Attributes.{Reference};
 ghost use Rattle.index_model.specs.Program.{Walked, item_with_offset};
 ghost use Rattle.index_model.specs.ShardParts.{as_next};
 ghost use Rattle.shard_build.specs.Entries.{AreShardsOfFile, ForProgram, IsNodeIn, IsTargetOf, entry_meant};
-ghost use Rattle.shard_build.specs.Found.{IsWithin};
+ghost use Rattle.shard_build.specs.Found.{IsFound, IsWithin};
 
-use crate::found::Found;
+use crate::found::{Found, node_at};
 use crate::home::Home;
 use crate::tables::Table;
+use crate::units_again::UnitsAgain;
 use file_image::Image;
 use index_model::{Next, Node, Shard, Span};
 use ix_base::NoMemory;
@@ -24,6 +25,8 @@ pub struct Entries<'s, 'f> {
     image: &'s Image<'f>,
     shards: &'s [Arc<Shard<'f>>],
     at_hand: Option<Table>,
+    // Units that were read again, once there was need of it.
+    units: Option<UnitsAgain<'f>>,
 }
 
 impl<'s, 'f> Model for Entries<'s, 'f> {
@@ -33,12 +36,13 @@ impl<'s, 'f> Model for Entries<'s, 'f> {
     ghost use Rattle.index_model.specs.Sections.{section_bytes};
     ghost use Rattle.shard_build.specs.Entries.{EntriesOf, AreShardsOfFile};
     ghost use Rattle.shard_build.specs.Runs.{IsAtOffset};
+    ghost use Rattle.shard_build.specs.Again.{AreOfUnits};
 
     ghost Value = { EntriesOf };
 
     ghost view = { λ e. record { image = e.image.now; shards = map arc_value e.shards.now } };
 
-    ghost invariant = { λ e. AreShardsOfFile e.image.now (map arc_value e.shards.now) × ForSome e.at_hand (IsAtOffset (section_bytes e.image.now.sections (codes ".debug_abbrev"))) };
+    ghost invariant = { λ e. AreShardsOfFile e.image.now (map arc_value e.shards.now) × ForSome e.at_hand (IsAtOffset (section_bytes e.image.now.sections (codes ".debug_abbrev"))) × ForSome e.units (λ u. AreOfUnits e.image.now.file u.nodes) };
 }
 
 impl<'s, 'f> Entries<'s, 'f> {
@@ -51,6 +55,7 @@ impl<'s, 'f> Entries<'s, 'f> {
             image,
             shards,
             at_hand: None,
+            units: None,
         }
     }
 
@@ -73,19 +78,53 @@ impl<'s, 'f> Entries<'s, 'f> {
         ensures value { ForProgram self.old (λ p. IfOk result (λ n. IsNodeIn p.sections n (item_with_offset p offset))) }
         ensures kept { self.new ≡ self.old }
     {
-        match Found::of(self.image, self.shards, offset) {
+        match self.find(offset) {
             Found::Kept(node) => Ok(Some(node)),
-            Found::Within(span) => self.again(alloc, &span, offset),
+            Found::Within(span) => {
+                let whole = self.is_too_much(alloc, &span, offset)?;
+                self.again(alloc, &span, offset, whole)
+            }
             Found::Nowhere => Ok(None),
         }
     }
 
-    // The node of the entry at a joint offset in the span of its parent, where it is read again.
+    // What is known of the entry at a joint offset.
+    fn find(&self, offset: u64) -> Found<'f>
+        ensures { ForProgram self.now (λ p. IsFound p offset result) }
+    {
+        if let Some(units) = &self.units {
+            if let Some(found) = units.find(self.image, offset) {
+                return found;
+            }
+        }
+        Found::of(self.image, self.shards, offset)
+    }
+
+    // Whether more bytes than a unit has would be read for single entries of it, with the one at an offset in this span.
+    fn is_too_much(&mut self, alloc: Global, span: &Span, offset: u64) -> Result<bool, NoMemory>
+        ensures { self.new ≡ self.old }
+    {
+        let length = match self.image.units().get(span.unit as usize) {
+            Some(unit) => unit.length,
+            None => 0,
+        };
+        let mut units = match self.units.take() {
+            Some(units) => units,
+            None => UnitsAgain::new(alloc),
+        };
+        let answer = units.is_too_much(span.unit, offset.saturating_sub(span.from), length);
+        self.units = Some(units);
+        answer
+    }
+
+    // The node of the entry at a joint offset in the span of its parent, where it is read again: alone, or with the whole unit,
+    // which is kept from then on.
     fn again(
         &mut self,
         alloc: Global,
         span: &Span,
         offset: u64,
+        whole: bool,
     ) -> Result<Option<Node<'f>>, NoMemory>
         requires { ForProgram self.old (λ p. IsWithin p offset span.now) }
         ensures value { ForProgram self.old (λ p. IfOk result (λ n. IsNodeIn p.sections n (item_with_offset p offset))) }
@@ -97,7 +136,13 @@ impl<'s, 'f> Entries<'s, 'f> {
         let section = self.image.sections().debug_abbrev();
         let table = Table::of_sound(alloc, section, &home.unit, self.at_hand.take())?;
         let table = self.at_hand.insert(table);
-        Ok(home.node_within(&table.abbrevs, span, offset))
+        if !whole {
+            return Ok(home.node_within(&table.abbrevs, span, offset));
+        }
+        let nodes = home.nodes(alloc, self.image.file(), &table.abbrevs)?;
+        let node = node_at(&nodes, offset);
+        self.units = Some(UnitsAgain::with(alloc, self.units.take(), span.unit, nodes)?);
+        Ok(node)
     }
 
     /// The node of the entry that a reference of a unit's entry names (DWARF 5, section 7.5.5), None where it names none.

@@ -52,8 +52,8 @@ impl<'f> Found<'f> {
     }
 }
 
-// The number of the unit in which the offset stands: the last that begins there or before it.
-fn unit_at(image: &Image<'_>, offset: u64) -> Option<u32>
+/// The number of the unit in which the offset stands: the last that begins there or before it.
+pub(crate) fn unit_at(image: &Image<'_>, offset: u64) -> Option<u32>
     ensures { IsUnitAt image.now.file offset result }
 {
     let begun = image.units().partition_point(|unit| unit.start <= offset);
@@ -75,8 +75,8 @@ fn has_unit(shard: &Shard<'_>, unit: u32) -> bool
     shard.first <= unit && ((unit - shard.first) as usize) < shard.roots.as_slice().len()
 }
 
-// The node at the offset, among nodes whose offsets rise.
-fn node_at<'f>(nodes: &Nodes<'f>, offset: u64) -> Option<Node<'f>>
+/// The node at the offset, among nodes whose offsets rise.
+pub(crate) fn node_at<'f>(nodes: &Nodes<'f>, offset: u64) -> Option<Node<'f>>
     ensures { IsNonDecreasingBy (λ n. n.facts.offset) nodes.now → option_map node_seen result ≡ find (λ n. n.facts.offset == offset) nodes.now }
 {
     let place = nodes.count_before(offset);

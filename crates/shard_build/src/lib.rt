@@ -2,6 +2,7 @@
 //! and 7.5.3).
 #![tactic(auto)]
 
+mod above;
 mod again;
 mod entries;
 mod facts;
@@ -17,6 +18,7 @@ mod tables;
 mod text_places;
 mod texts;
 mod unit;
+mod units_again;
 
 pub use entries::Entries;
 pub use shard::scan;
