@@ -5,7 +5,7 @@ mod AdaLaws
 mod OpenedTags
 mod PlaceLaws
 mod VisitLaws
-mod ChainLaws
+pub mod ChainLaws
 mod SignatureLaws
 mod FollowLaws
 mod TracedLaws

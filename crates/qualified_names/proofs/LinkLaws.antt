@@ -1,6 +1,6 @@
 -- What is known of the link of an indexed entry.
 use Rattle.std.proofs.Common.{◌≡◌, ℕ, ◌≤◌, Bool, true, false, cond, not, ◌&&◌, ◌||◌, eqb, leb, List, [], ◌∷◌, ◌-◌, length, length-drop, find, unwrap_or, Option, Some, None, option_map, Result, Ok, Err, refl, sym, ap, subst, ◌∙◌, arith}
-use Rattle.std.specs.Prelude.{codes, is_some, Contains, IfOk, IsOkAnd}
+use Rattle.std.specs.Prelude.{codes, is_some, Contains, IfOk, IsOkAnd, OnOk}
 use Rattle.std.specs.Borrow.{Bor}
 use Rattle.std.specs.List.{list_all}
 use Rattle.std.proofs.lemmas.Bool.{true≢false, and_parts, eqb-true, leb-true}
@@ -29,10 +29,12 @@ use Rattle.index_model.specs.ShardParts.{IsNodeOf}
 use Rattle.shard_build.specs.Entries.{EntriesOf}
 use Rattle.parent_resolve.specs.declared.followed.Followed.{Followed}
 use Rattle.parent_resolve.specs.Followed.{Named, followed_of, all_entries, IsFollowed}
+use Rattle.parent_resolve.proofs.ChainLaws.{alone_ends, next_none}
+use Rattle.parent_resolve.proofs.NodeLaws.{node_parts}
 use Rattle.parent_resolve.proofs.Outwards.{ok_and}
 use Rattle.qualified_names.specs.declared.indexed.Indexed.{Indexed}
 use Rattle.qualified_names.specs.Nodes.{indexed_seen}
-use Rattle.qualified_names.specs.Indexed.{HasLink, IsEnd, IsIndexed}
+use Rattle.qualified_names.specs.Indexed.{HasLink, IsAroundEnd, IsEnd, IsIndexed}
 use Rattle.qualified_names.specs.Paths.{HasPath}
 
 -- ---- the parts of a link
@@ -180,6 +182,18 @@ end_is p x k h f at given =
       node = subst (λ (m : Named). IsNodeOf p.sections f.end (chain_end k.entry m.chain)) same n.2.end;
     }
 
+-- an entry without a reference is the end of its chain
+pub own_end : (p : Program) (x : Indexed) (k : Link) → IsIndexed p (indexed_seen x) k → x.node.next ≡ None → IsEnd p k x.node
+own_end p x k h none =
+    let alone = alone_ends p k.entry (next_none p x.node k.entry h.node none) in
+    let same : k.entry ∷ [] ≡ k.chain = same_ok (k.entry ∷ []) k.chain (sym alone ∙ (parts p x k h).chain) in
+    let end : k.entry ≡ chain_end k.entry k.chain = ap (chain_end k.entry) same in
+    record { there = subst (Contains (all_entries p)) end h.there; node = subst (IsNodeOf p.sections x.node) end h.node }
+
+-- what is around the node of the end is around the end
+pub is_around_end : (p : Program) (k : Link) (end : Node) → IsEnd p k end → (parent : Option ℕ) → parent ≡ end.parent → IsAroundEnd p k parent
+is_around_end p k end is parent same = record { there = is.there; is = same ∙ (node_parts p.sections end (chain_end k.entry k.chain) is.node).1 }
+
 -- the scope path around it has no fault
 pub has_path : (e old : EntriesOf) (x : Indexed) (h : HasLink old x) → program_of e.image.file ≡ Ok h.program → (end : Node) → IsEnd h.program h.link end → HasPath e end
 has_path e old x h file end is = record {
@@ -195,3 +209,7 @@ has_path e old x h file end is = record {
 pub if_ok : {A E : Type 0} (P Q : A → Type 0) (r : Result A E) → ((x : A) → P x → Q x) → IfOk r P → IfOk r Q
 if_ok P Q (Ok x) f h = f x h
 if_ok P Q (Err e) f h = h
+
+pub on_ok : {A E : Type 0} (P Q : Type 0) (r : Result A E) → (P → Q) → OnOk r P → OnOk r Q
+on_ok P Q (Ok x) f h = f h
+on_ok P Q (Err e) f h = h

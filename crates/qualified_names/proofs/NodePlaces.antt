@@ -7,7 +7,7 @@ use Rattle.qualified_names.specs.Nodes.{from_offset, has_offset}
 use Rattle.qualified_names.proofs.Mains.{drop_next}
 
 -- behind the end there is nothing
-pub none_here : (ns : List NodeSeen) (k : ℕ) → slice_get ns k ≡ None → (drop k ns ≡ []) × (drop (suc k) ns ≡ [])
+pub none_here : {A : Type 0} (ns : List A) (k : ℕ) → slice_get ns k ≡ None → (drop k ns ≡ []) × (drop (suc k) ns ≡ [])
 none_here [] zero is = (refl, refl)
 none_here [] (suc k) is = (refl, refl)
 none_here (y ∷ ys) zero is = absurd cc

@@ -1,11 +1,12 @@
 -- What is known of an indexed entry, by its node and by what its references say.
-use Rattle.std.specs.Prelude.{◌≡◌, true, List, Contains, Ok}
+use Rattle.std.specs.Prelude.{◌≡◌, ℕ, true, List, Contains, Option, Ok}
 use Rattle.std.specs.List.{AllZip}
 use Rattle.index_model.specs.declared.rules.Class.{Class}
 use Rattle.index_model.specs.declared.shard.Node.{Node}
 use Rattle.index_model.specs.Chains.{chain_end}
 use Rattle.index_model.specs.Faults.{program_of}
 use Rattle.index_model.specs.Links.{Link, link_of, is_link_indexed, indexed_in}
+use Rattle.index_model.specs.Parents.{parent_offset}
 use Rattle.index_model.specs.Program.{Program}
 use Rattle.index_model.specs.ShardParts.{IsNodeOf, IsSeenOf}
 use Rattle.index_model.specs.Shards.{AreShardsOf, IsLinkedEntryOf}
@@ -61,3 +62,8 @@ ForLinksOf e xs Holds = (p : Program) → program_of e.image.file ≡ Ok p → A
 pub record IsEnd (p : Program) (k : Link) (end : Node) : Type 0 where
   pub there : Contains (all_entries p) (chain_end k.entry k.chain)
   pub node : IsNodeOf p.sections end (chain_end k.entry k.chain)
+
+-- the offset is that of the lexical parent of the last entry of the chain
+pub record IsAroundEnd (p : Program) (k : Link) (parent : Option ℕ) : Type 0 where
+  pub there : Contains (all_entries p) (chain_end k.entry k.chain)
+  pub is : parent ≡ parent_offset (chain_end k.entry k.chain)

@@ -4,7 +4,7 @@ ghost use Rattle.std.specs.Prelude.{◌≡◌, IfOk, OnOk, IsOkAnd};
 ghost use Rattle.index_model.specs.Names.{scope_path};
 ghost use Rattle.parent_resolve.specs.Components.{AreComponents};
 ghost use Rattle.parent_resolve.specs.Followed.{ForEntry};
-ghost use Rattle.qualified_names.specs.Indexed.{ForLink, HasLink, IsEnd};
+ghost use Rattle.qualified_names.specs.Indexed.{ForLink, HasLink, IsAroundEnd, IsEnd};
 ghost use Rattle.qualified_names.specs.Paths.{AreAround, HasPath};
 
 use crate::indexed::Indexed;
@@ -21,8 +21,31 @@ pub(crate) struct Around<'f> {
     pub(crate) components: Vec<Option<&'f [u8]>>,
 }
 
-/// The last entry of the chain.
-pub(crate) fn end_of<'f>(
+/// Goes to the scope around the last entry of an entry's chain.
+pub(crate) fn go_around_end<'f>(
+    around: &mut Around<'f>,
+    references: &mut References<'_, 'f>,
+    alloc: Global,
+    entry: &Indexed<'f>,
+) -> Result<(), NoMemory>
+    requires link { HasLink references.old entry.now }
+    requires around { AreAround references.old around.old.parent around.old.components }
+    ensures there { ForLink references.old entry.now (λ p k. OnOk result (IsAroundEnd p k around.new.parent)) }
+    ensures around { AreAround references.old around.new.parent around.new.components }
+    ensures kept { references.new ≡ references.old }
+{
+    match entry.node.next {
+        // Most entries are their own chain.
+        None => go_around(around, references, alloc, &entry.node),
+        Some(_) => {
+            let end = end_of(references, alloc, entry)?;
+            go_around(around, references, alloc, &end)
+        }
+    }
+}
+
+// The last entry of the chain.
+fn end_of<'f>(
     references: &mut References<'_, 'f>,
     alloc: Global,
     entry: &Indexed<'f>,
@@ -38,8 +61,8 @@ pub(crate) fn end_of<'f>(
     }
 }
 
-/// Goes to the scope around an entry whose chain ends with this node. Most entries share it with the one before.
-pub(crate) fn go_around<'f>(
+// Goes to the scope around an entry whose chain ends with this node. Most entries share it with the one before.
+fn go_around<'f>(
     around: &mut Around<'f>,
     references: &mut References<'_, 'f>,
     alloc: Global,

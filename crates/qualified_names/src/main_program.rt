@@ -107,11 +107,10 @@ fn first_main_in<'f>(
     ensures kept { languages.new ≡ languages.old }
 {
     let mut left = nodes;
-    while let Some((indexed, others)) = left.split_first() {
+    while let Some(indexed) = left.next() {
         if sought.tells(languages, &indexed) {
             return Some(indexed);
         }
-        left = others;
     }
     None
 }

@@ -9,7 +9,7 @@ ghost use Rattle.shard_build.specs.Entries.{AreShardsOfFile};
 ghost use Rattle.qualified_names.specs.Indexed.{ForLink, HasLink};
 
 use crate::indexed::Indexed;
-use crate::links::{Around, end_of, go_around};
+use crate::links::{Around, go_around_end};
 use entry_rules::Class;
 use file_image::Image;
 use index_model::{Shard, Text};
@@ -97,8 +97,7 @@ impl<'s, 'f> Names<'s, 'f> {
         ensures value { ForLink self.old entry.now (λ p k. IfOk result (λ v. option_map (scoped_name k.path) (name_in k) ≡ Some v.items)) }
         ensures kept { self.new ≡ self.old }
     {
-        let end = end_of(&mut self.references, alloc, entry)?;
-        go_around(&mut self.around, &mut self.references, alloc, &end)?;
+        go_around_end(&mut self.around, &mut self.references, alloc, entry)?;
         scoped(alloc, self.around.components.as_slice(), entry.name())
     }
 }

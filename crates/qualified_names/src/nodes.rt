@@ -15,6 +15,8 @@ pub(crate) struct IndexedNodes<'r, 'f> {
     // The index of the first node that is left.
     from: usize,
     links: &'r [LinkedEntry<'f>],
+    // The index of the first link that is left.
+    first: usize,
 }
 
 impl<'r, 'f> Model for IndexedNodes<'r, 'f> {
@@ -23,7 +25,7 @@ impl<'r, 'f> Model for IndexedNodes<'r, 'f> {
 
     ghost Value = { List IndexedSeen };
 
-    ghost view = { λ s. indexed_nodes (drop s.from s.nodes.now) s.links.now };
+    ghost view = { λ s. indexed_nodes (drop s.from s.nodes.now) (drop s.first s.links.now) };
 }
 
 impl<'r, 'f> IndexedNodes<'r, 'f> {
@@ -35,26 +37,23 @@ impl<'r, 'f> IndexedNodes<'r, 'f> {
             nodes: &shard.nodes,
             from: 0,
             links: linked.entries.as_slice(),
+            first: 0,
         }
     }
 
-    /// The first indexed entry, and those behind it.
-    pub(crate) fn split_first(self) -> Option<(Indexed<'f>, IndexedNodes<'r, 'f>)>
-        ensures { MatchOption result (self.entry ≡ []) (λ first. self.entry ≡ indexed_seen first.0 ∷ first.1) }
+    /// The next indexed entry. It is passed.
+    pub(crate) fn next(&mut self) -> Option<Indexed<'f>>
+        ensures { MatchOption result (self.old ≡ []) (λ first. self.old ≡ indexed_seen first ∷ self.new) }
     {
-        let (own, links) = self.links.split_first()?;
+        let own = self.links.get(self.first)?;
         let place = place_from(self.nodes, self.from, own.offset);
         if self.nodes.len() <= place {
             return None;
         }
         let node = self.nodes.get(place)?;
-        let indexed = Indexed { node, links: *own };
-        let left = IndexedNodes {
-            nodes: self.nodes,
-            from: place + 1,
-            links,
-        };
-        Some((indexed, left))
+        self.from = place + 1;
+        self.first += 1;
+        Some(Indexed { node, links: *own })
     }
 }
 

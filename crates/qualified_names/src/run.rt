@@ -50,9 +50,8 @@ fn entries_of<'f>(
 {
     let mut entries = Vec::with_capacity(alloc, linked.entries.as_slice().len())?;
     let mut left = IndexedNodes::of(shard, linked);
-    while let Some((indexed, others)) = left.split_first() {
+    while let Some(indexed) = left.next() {
         push_entries(&mut entries, names, alloc, &indexed)?;
-        left = others;
     }
     Ok(List::of(entries))
 }

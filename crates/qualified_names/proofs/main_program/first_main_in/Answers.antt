@@ -13,7 +13,7 @@ returns-then-tells-clause-value c f p file are ks z =
     let q = is_main_by p c.args.sought in
     let inv = c.loop-indexed.invariant in
     let l = subst (Left p q ks) c.in-Some.ensures (inv.left f p file are ks z) in
-    let s = first_left p q ks (indexed_seen c.in-Some.indexed) c.in-Some.others l in
+    let s = first_left p q ks (indexed_seen c.in-Some.indexed) c.next.new.self l in
     let shards = subst (AreShardsOf p) (sym inv.kept) are in
     subst (IsFound p (Some c.in-Some.indexed)) (sym (s.2 (sym (c.tells.ensures.value f p file shards s.0 s.1) ∙ c.if-tells.true))) s.1
 
@@ -24,7 +24,7 @@ loop-indexed-preserved c = record {
       let q = is_main_by p c.args.sought in
       let inv = c.loop-indexed.invariant in
       let l = subst (Left p q ks) c.in-Some.ensures (inv.left f p file are ks z) in
-      let s = first_left p q ks (indexed_seen c.in-Some.indexed) c.in-Some.others l in
+      let s = first_left p q ks (indexed_seen c.in-Some.indexed) c.next.new.self l in
       let shards = subst (AreShardsOf p) (sym inv.kept) are in
       s.3 (sym (c.tells.ensures.value f p file shards s.0 s.1) ∙ c.if-tells.false);
 }

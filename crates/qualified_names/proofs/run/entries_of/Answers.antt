@@ -21,7 +21,7 @@ push_entries-requires c =
     let r = c.requires in
     let inv = c.loop-indexed.invariant in
     let left = subst (Written r.program (indexed_in r.links) c.loop-indexed.entries.items) c.in-Some.ensures (inv.written r.program r.file r.shards r.links r.are) in
-    let head = head_written r.program (indexed_in r.links) c.loop-indexed.entries.items (indexed_seen c.in-Some.indexed) c.in-Some.others left in
+    let head = head_written r.program (indexed_in r.links) c.loop-indexed.entries.items (indexed_seen c.in-Some.indexed) c.next.new.self left in
     record {
       program = r.program;
       file = ap (λ (e : EntriesOf). program_of e.image.file) inv.names ∙ r.file;
@@ -39,7 +39,7 @@ loop-indexed-preserved c =
           let left = subst (Written p (indexed_in ks) c.loop-indexed.entries.items) c.in-Some.ensures (inv.written p file own ks zip) in
           let here = ap (λ (e : EntriesOf). program_of e.image.file) inv.names ∙ file in
           let shards = subst (AreShardsOf p) (sym (ap (λ (e : EntriesOf). e.shards) inv.names)) own in
-          one_written p (indexed_in ks) c.loop-indexed.entries.items (indexed_seen c.in-Some.indexed) c.in-Some.others left c.push_entries.new.entries.items (λ k one. c.in_ok-push_entries.ensures.value p here shards k one);
+          one_written p (indexed_in ks) c.loop-indexed.entries.items (indexed_seen c.in-Some.indexed) c.next.new.self left c.push_entries.new.entries.items (λ k one. c.in_ok-push_entries.ensures.value p here shards k one);
     }
 
 pub loop-indexed-smaller : goal.loop-indexed-smaller

@@ -10,26 +10,18 @@ use Rattle.shard_build.specs.Entries.{EntriesOf}
 use Rattle.parent_resolve.proofs.NodeLaws.{node_parts}
 use Rattle.parent_resolve.proofs.Outwards.{ok_here}
 use Rattle.name_forms.specs.Scoped.{parts as parts_of, joined}
-use Rattle.qualified_names.proofs.LinkLaws.{has_path, if_ok, parts}
+use Rattle.qualified_names.proofs.LinkLaws.{if_ok, parts}
 use Rattle.qualified_names.proofs.NameLaws.{scoped_by}
 use Rattle.qualified_names.proofs.names.Names.scoped.Goals as goal
-
-pub go_around-requires-clause-path : goal.go_around-requires-clause-path
-go_around-requires-clause-path c =
-    let r = c.requires in
-    let inside = ap (λ (e : EntriesOf). program_of e.image.file) c.self.view_is ∙ r.file in
-    let shards = subst (AreShardsOf r.program) (sym (ap (λ (e : EntriesOf). e.shards) c.self.view_is)) r.shards in
-    has_path _ _ c.args.entry.now r (ap (λ (e : EntriesOf). program_of e.image.file) c.in_ok-end.ensures.kept ∙ inside) c.in_ok-end.end (c.in_ok-end.ensures.value r.program inside shards r.link r.is)
 
 pub returns-clause-value : goal.returns-clause-value
 returns-clause-value c p file are k h =
     let inside = ap (λ (e : EntriesOf). program_of e.image.file) c.self.view_is ∙ file in
     let shards = subst (AreShardsOf p) (sym (ap (λ (e : EntriesOf). e.shards) c.self.view_is)) are in
-    let end = c.in_ok-end.ensures.value p inside shards k h in
+    let end = c.in_ok-go_around_end.ensures.there p inside shards k h in
     let d = chain_end k.entry k.chain in
-    let place = sym (node_parts p.sections c.in_ok-end.end d end.node).1 ∙ sym c.in_ok-go_around.ensures.there in
-    let items = c.go_around.new.around.components.items in
-    let g = ok_here (λ ms. map (option_map (λ t. t.now)) items ≡ map component ms) (scope_path p d) (c.in_ok-go_around.ensures.around p (ap (λ (e : EntriesOf). program_of e.image.file) c.in_ok-end.ensures.kept ∙ inside) d end.there place) in
+    let items = c.go_around_end.new.around.components.items in
+    let g = ok_here (λ ms. map (option_map (λ t. t.now)) items ≡ map component ms) (scope_path p d) (c.in_ok-go_around_end.ensures.around p inside d end.there (sym end.is)) in
     let path : g.0 ≡ k.path = same_ok g.0 k.path (sym g.1 ∙ (parts p c.args.entry.now k h).path) in
     let given = g.2 ∙ ap (map component) path in
     let name = c.name.result.now in
