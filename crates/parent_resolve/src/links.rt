@@ -72,8 +72,9 @@ fn links_of<'f>(
 {
     let mut entries = Vec::new(alloc);
     for k in 0..shard.nodes.len() {
-        if let Some(node) = shard.nodes.get(k) {
-            add_link(alloc, shard, languages, paths, &node, &mut entries)?;
+        // A node is read where it stands: to move it would cost as much as to make it.
+        if let Some(node) = &shard.nodes.get(k) {
+            add_link(alloc, shard, languages, paths, node, &mut entries)?;
         }
     }
     Ok(entries)

@@ -17,7 +17,9 @@ use Rattle.parent_resolve.specs.Followed.{all_entries}
 use Rattle.parent_resolve.proofs.NodeLaws.{node_parts}
 use Rattle.parent_resolve.proofs.Outwards.{no_parent, parent_found}
 use Rattle.parent_resolve.proofs.PathSteps.{at_root}
-use Rattle.qualified_names.specs.Paths.{HasPath}
+use Rattle.name_forms.specs.Scoped.{parts, joined}
+use Rattle.qualified_names.specs.Paths.{HasPath, IsFront, IsFrontAround}
+use Rattle.qualified_names.proofs.NameLaws.{is_front}
 
 -- the path goes by the scope alone
 by_scope : (p : Program) (n : ℕ) (d e : Located) → scope_around d ≡ scope_around e → path_from n p d ≡ path_from n p e
@@ -37,11 +39,11 @@ module _ (f : List ℕ) (p : Program) (file : program_of f ≡ Ok p) where
   same_path d e dc ec same = by_scope p MAX_PATH_STEPS d e (same_scope d e dc ec (parent_offset e) same refl)
 
 -- nothing is around a root
-pub around_root : (p : Program) (d : Located) → parent_offset d ≡ None → (items : List (Option (Bor (List ℕ)))) → items ≡ [] → IsOkAnd (scope_path p d) (λ ms. map (λ o. option_map (λ t. t.now) o) items ≡ map component ms)
-around_root p d top items none = subst (λ (r : Result (List Member) ℕ). IsOkAnd r (λ ms. map (λ o. option_map (λ t. t.now) o) items ≡ map component ms)) (sym (at_root p MAX_PATH_STEPS d (no_parent d top))) (ap (map (λ o. option_map (λ t. t.now) o)) none)
+pub around_root : (p : Program) (d : Located) → parent_offset d ≡ None → (front : List ℕ) → front ≡ [] → IsOkAnd (scope_path p d) (IsFront front)
+around_root p d top front none = subst (λ (r : Result (List Member) ℕ). IsOkAnd r (IsFront front)) (sym (at_root p MAX_PATH_STEPS d (no_parent d top))) (is_front [] [] front refl none)
 
 -- what is around one entry is around all entries with its lexical parent
-pub around_end : (e : EntriesOf) (end : Node) (h : HasPath e end) (items : List (Option (Bor (List ℕ)))) →
+around_end : (e : EntriesOf) (end : Node) (h : HasPath e end) (items : List (Option (Bor (List ℕ)))) →
     ((p : Program) → program_of e.image.file ≡ Ok p → (d : Located) → Contains (all_entries p) d → IsNodeOf p.sections end d → IsOkAnd (scope_path p d) (λ ms. map (λ o. option_map (λ t. t.now) o) items ≡ map component ms)) →
     (p : Program) → program_of e.image.file ≡ Ok p → (d : Located) → Contains (all_entries p) d → parent_offset d ≡ end.parent → IsOkAnd (scope_path p d) (λ ms. map (λ o. option_map (λ t. t.now) o) items ≡ map component ms)
 around_end e end h items given p file d dc place =
@@ -50,3 +52,14 @@ around_end e end h items given p file d dc place =
     let node = subst (λ (q : Program). IsNodeOf q.sections end h.entry) same h.is in
     let paths = same_path e.image.file p file h.entry d there dc (sym (node_parts p.sections end h.entry node).1 ∙ sym place) in
     subst (λ (r : Result (List Member) ℕ). IsOkAnd r (λ ms. map (λ o. option_map (λ t. t.now) o) items ≡ map component ms)) paths (given p file h.entry there node)
+
+ok_too : {A : Type 0} (P Q : A → Type 0) (r : Result A ℕ) → ((x : A) → P x → Q x) → IsOkAnd r P → IsOkAnd r Q
+ok_too P Q (Ok x) f h = f x h
+ok_too P Q (Err e) f h = absurd h
+
+-- so is what stands before its name
+pub front_around : (e : EntriesOf) (end : Node) (h : HasPath e end) (items : List (Option (Bor (List ℕ)))) →
+    ((p : Program) → program_of e.image.file ≡ Ok p → (d : Located) → Contains (all_entries p) d → IsNodeOf p.sections end d → IsOkAnd (scope_path p d) (λ ms. map (λ o. option_map (λ t. t.now) o) items ≡ map component ms)) →
+    (front : List ℕ) → front ≡ joined (parts items) [] → IsFrontAround e end.parent front
+front_around e end h items given front is p file d dc place =
+    ok_too (λ ms. map (λ o. option_map (λ t. t.now) o) items ≡ map component ms) (IsFront front) (scope_path p d) (λ ms are. is_front items ms front are is) (around_end e end h items given p file d dc place)

@@ -1,5 +1,5 @@
 -- Qualified names by their components and by their lengths.
-use Rattle.std.proofs.Common.{◌≡◌, ℕ, Bool, true, false, ◌&&◌, ◌||◌, eqb, List, [], ◌∷◌, ◌++◌, map, filter_map, reverse, length, length-append, Option, option_map, refl, sym, ap, ◌∙◌, arith}
+use Rattle.std.proofs.Common.{◌≡◌, ℕ, Bool, true, false, ◌&&◌, ◌||◌, eqb, List, [], ◌∷◌, ◌++◌, map, filter_map, reverse, length, length-append, append-nil, Option, option_map, refl, sym, ap, ◌∙◌, arith}
 use Rattle.std.specs.Prelude.{codes, bytes_eq}
 use Rattle.std.specs.Borrow.{Bor}
 use Rattle.std.specs.List.{cons_option, list_any}
@@ -26,10 +26,17 @@ abbrev text : Option (Bor (List ℕ)) → Option (List ℕ)
 text o = option_map (λ t. t.now) o
 
 -- the texts of a path's components make the scoped name
-pub scoped_by : (items : List (Option (Bor (List ℕ)))) (path : List Member) (name : List ℕ) → map text items ≡ map component path → joined (parts items) name ≡ scoped_name path name
+scoped_by : (items : List (Option (Bor (List ℕ)))) (path : List Member) (name : List ℕ) → map text items ≡ map component path → joined (parts items) name ≡ scoped_name path name
 scoped_by items path name are =
     let same : parts items ≡ filter_map component path = filter_map_by text items ∙ ap (filter_map (λ o. o)) are ∙ sym (filter_map_by component path) in
     ap (λ (ps : List (List ℕ)). joined ps name) same ∙ sym (scoped_name_is path name)
+
+-- what the components put before no name stands before each name
+pub is_front : (items : List (Option (Bor (List ℕ)))) (path : List Member) (bytes : List ℕ) → map text items ≡ map component path → bytes ≡ joined (parts items) [] → (name : List ℕ) → scoped_name path name ≡ bytes ++ name
+is_front items path bytes are is name =
+    let ps = reverse (parts items) in
+    let whole : bytes ≡ prefix ps = is ∙ joined_is ps [] ∙ append-nil (prefix ps) in
+    sym (scoped_by items path name are) ∙ joined_is ps name ∙ ap (λ (xs : List ℕ). xs ++ name) (sym whole)
 
 -- what stands before the name
 abbrev front : List Member → List ℕ

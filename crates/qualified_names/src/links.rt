@@ -5,33 +5,34 @@ ghost use Rattle.index_model.specs.Names.{scope_path};
 ghost use Rattle.parent_resolve.specs.Components.{AreComponents};
 ghost use Rattle.parent_resolve.specs.Followed.{ForEntry};
 ghost use Rattle.qualified_names.specs.Indexed.{ForLink, HasLink, IsAroundEnd, IsEnd};
-ghost use Rattle.qualified_names.specs.Paths.{AreAround, HasPath};
+ghost use Rattle.qualified_names.specs.Paths.{HasPath, IsFrontAround};
 
 use crate::indexed::Indexed;
 use index_model::Node;
 use ix_base::{NoMemory, Stop};
+use name_forms::scoped;
 use parent_resolve::References;
 use std::alloc::Global;
 
-/// What stands before C++ names around an entry with this lexical parent: what the members of its scope path give, from the
-/// inside outwards. Without a parent nothing is around an entry.
+/// What stands before the C++ names of entries with this lexical parent: what the members of their scope path give, from the
+/// outside inwards, each with `::` behind it. Without a parent nothing is around an entry.
 #[derive(Drop)]
-pub(crate) struct Around<'f> {
+pub(crate) struct Around {
     pub(crate) parent: Option<u64>,
-    pub(crate) components: Vec<Option<&'f [u8]>>,
+    pub(crate) front: Vec<u8>,
 }
 
 /// Goes to the scope around the last entry of an entry's chain.
 pub(crate) fn go_around_end<'f>(
-    around: &mut Around<'f>,
+    around: &mut Around,
     references: &mut References<'_, 'f>,
     alloc: Global,
     entry: &Indexed<'f>,
 ) -> Result<(), NoMemory>
     requires link { HasLink references.old entry.now }
-    requires around { AreAround references.old around.old.parent around.old.components }
+    requires around { IsFrontAround references.old around.old.parent around.old.front.items }
     ensures there { ForLink references.old entry.now (λ p k. OnOk result (IsAroundEnd p k around.new.parent)) }
-    ensures around { AreAround references.old around.new.parent around.new.components }
+    ensures around { IsFrontAround references.old around.new.parent around.new.front.items }
     ensures kept { references.new ≡ references.old }
 {
     match entry.node.next {
@@ -63,23 +64,24 @@ fn end_of<'f>(
 
 // Goes to the scope around an entry whose chain ends with this node. Most entries share it with the one before.
 fn go_around<'f>(
-    around: &mut Around<'f>,
+    around: &mut Around,
     references: &mut References<'_, 'f>,
     alloc: Global,
     end: &Node<'f>,
 ) -> Result<(), NoMemory>
     requires path { HasPath references.old end.now }
-    requires around { AreAround references.old around.old.parent around.old.components }
+    requires around { IsFrontAround references.old around.old.parent around.old.front.items }
     ensures there { OnOk result (around.new.parent ≡ end.now.parent) }
-    ensures around { AreAround references.old around.new.parent around.new.components }
+    ensures around { IsFrontAround references.old around.new.parent around.new.front.items }
     ensures kept { references.new ≡ references.old }
 {
     if around.parent == end.parent {
         return Ok(());
     }
     let components = components_of(references, alloc, end)?;
+    let front = scoped(alloc, components.as_slice(), &[])?;
     around.parent = end.parent;
-    around.components = components;
+    around.front = front;
     Ok(())
 }
 

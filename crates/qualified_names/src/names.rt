@@ -1,6 +1,6 @@
 //! The qualified names of indexed entries (DWARF 5, section 2.13.2).
 
-ghost use Rattle.std.specs.Prelude.{◌≡◌, map, option_map, IfOk, Some};
+ghost use Rattle.std.specs.Prelude.{◌≡◌, ◌++◌, map, option_map, IfOk, Some};
 ghost use Rattle.std.specs.Arc.{arc_value};
 ghost use Rattle.index_model.specs.ShardLanguages.{IsLanguageAt};
 ghost use Rattle.index_model.specs.Links.{name_in, qualified_of};
@@ -14,30 +14,31 @@ use entry_rules::Class;
 use file_image::Image;
 use index_model::{Shard, Text};
 use ix_base::NoMemory;
-use name_forms::{ada, scoped};
+use name_forms::ada;
 use parent_resolve::{Languages, References};
 use std::alloc::Global;
 use std::marker::Model;
 use std::sync::Arc;
 
-/// The names of a file's entries, and the languages of its units. The scope of the C++ entry that was named last is at hand.
+/// The names of a file's entries, and the languages of its units. What stands before the name of the C++ entry that was
+/// named last is at hand.
 #[derive(Drop)]
 pub(crate) struct Names<'s, 'f> {
     references: References<'s, 'f>,
     languages: Languages<'s, 'f>,
-    around: Around<'f>,
+    around: Around,
 }
 
 impl<'s, 'f> Model for Names<'s, 'f> {
     ghost use Rattle.std.specs.Prelude.{◌≡◌};
     ghost use Rattle.shard_build.specs.Entries.{EntriesOf};
-    ghost use Rattle.qualified_names.specs.Paths.{AreAround};
+    ghost use Rattle.qualified_names.specs.Paths.{IsFrontAround};
 
     ghost Value = { EntriesOf };
 
     ghost view = { λ n. n.references };
 
-    ghost invariant = { λ n. (n.languages ≡ n.references.shards) × AreAround n.references n.around.parent n.around.components };
+    ghost invariant = { λ n. (n.languages ≡ n.references.shards) × IsFrontAround n.references n.around.parent n.around.front.items };
 }
 
 impl<'s, 'f> Names<'s, 'f> {
@@ -55,7 +56,7 @@ impl<'s, 'f> Names<'s, 'f> {
             languages: Languages::new(shards),
             around: Around {
                 parent: None,
-                components: Vec::new(alloc),
+                front: Vec::new(alloc),
             },
         })
     }
@@ -98,6 +99,16 @@ impl<'s, 'f> Names<'s, 'f> {
         ensures kept { self.new ≡ self.old }
     {
         go_around_end(&mut self.around, &mut self.references, alloc, entry)?;
-        scoped(alloc, self.around.components.as_slice(), entry.name())
+        behind(alloc, self.around.front.as_slice(), entry.name())
     }
+}
+
+// The name behind what stands before it.
+fn behind(alloc: Global, front: &[u8], name: &[u8]) -> Result<Vec<u8>, NoMemory>
+    ensures { IfOk result (λ v. v.items ≡ front.now ++ name.now) }
+{
+    let mut text = Vec::with_capacity(alloc, front.len().saturating_add(name.len()))?;
+    text.extend_from_slice(front)?;
+    text.extend_from_slice(name)?;
+    Ok(text)
 }
