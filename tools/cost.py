@@ -28,7 +28,6 @@ NAMES = ["index", "--as", "names", "--workers", "1", "FILE", "OUT"]
 LOOK_GDB = ["look", "gdb", "FILE", "name", "y"]
 LOOK_NAMES = ["look", "names", "FILE", "STRINGS", "name", "zz"]
 # Why a row may grow with the square.
-AGAIN = "what isn't kept is read again for each reference"
 TABLES = "a table of abbreviations is read for each unit that has another than the one before"
 TEXTS = "names that are parts of one text are compared and hashed one by one"
 LONG = "the answer itself is that long"
@@ -37,12 +36,12 @@ IMPORTS = "the importers of a partial unit are looked for one by one"
 
 # Kind, first size, words, and why it may grow with the square.
 ROWS = [
-    (programs.references_to_the_last, 4000, ASK, AGAIN),
-    (programs.signatures_of_the_last, 4000, ASK, AGAIN),
+    (programs.references_to_the_last, 4000, ASK, None),
+    (programs.signatures_of_the_last, 4000, ASK, None),
     (programs.a_wide_root, 4000, ASK, None),
-    (programs.tables_by_turns, 8000, ASK, AGAIN),
-    (programs.chains_along_scopes, 250, ASK, AGAIN),
-    (programs.deep_scopes, 2000, ASK, AGAIN),
+    (programs.tables_by_turns, 8000, ASK, None),
+    (programs.chains_along_scopes, 250, ASK, None),
+    (programs.deep_scopes, 2000, ASK, None),
     (programs.two_tables, 8000, ASK, TABLES),
     (programs.many_tables, 8000, ASK, TABLES),
     (programs.a_wide_abbreviation, 16000, ASK, None),
