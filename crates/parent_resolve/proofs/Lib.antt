@@ -12,6 +12,7 @@ mod TracedLaws
 pub mod PathSteps
 pub mod Outwards
 mod PassedLaws
+mod EnteredLaws
 mod Steps
 mod Lengths
 mod LinkParts

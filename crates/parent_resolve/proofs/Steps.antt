@@ -77,7 +77,7 @@ root_gives_none d = by (eqb d.item.tag namespace || is_record_tag d.item.tag || 
     by false = refl
 
 module _ (p : Program) (d : Located) where
-  abbrev passed_named : Named → Passed
+  abbrev pub passed_named : Named → Passed
   passed_named n = record { member = record { entry = d; name = name_with d n.spelled }; end = Some (chain_end d n.chain) }
 
   pub followed_wrong : (code : ℕ) → followed_of p d ≡ Err code → followed_at p d ≡ Err code

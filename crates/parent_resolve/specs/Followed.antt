@@ -41,3 +41,11 @@ IsText text name = option_map (λ t. t.now) text ≡ name
 -- whatever entry of the program the node is that of
 abbrev pub ForEntry : EntriesOf → Node → (Program → Located → Type 0) → Type 0
 ForEntry e node Holds = (p : Program) → program_of e.image.file ≡ Ok p → (d : Located) → Contains (all_entries p) d → IsNodeOf p.sections node d → Holds p d
+
+-- an entry of the file has the node
+pub record HasEntry (e : EntriesOf) (node : Node) : Type 0 where
+  pub program : Program
+  pub file : program_of e.image.file ≡ Ok program
+  pub entry : Located
+  pub there : Contains (all_entries program) entry
+  pub is : IsNodeOf program.sections node entry

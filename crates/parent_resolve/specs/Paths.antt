@@ -7,6 +7,7 @@ use Rattle.index_model.specs.Parents.{parent_offset}
 use Rattle.index_model.specs.Names.{scope_path}
 use Rattle.shard_build.specs.Entries.{EntriesOf, ForProgram}
 use Rattle.parent_resolve.specs.declared.scope.Scope.{Scope}
+use Rattle.parent_resolve.specs.declared.scope.ScopeAround.{ScopeAround}
 use Rattle.parent_resolve.specs.Followed.{all_entries}
 use Rattle.parent_resolve.specs.declared.scope.PathMember.{PathMember}
 use Rattle.parent_resolve.specs.Scopes.{IsScope, greatest}
@@ -30,6 +31,10 @@ IsScopeAround e parent s = ForAround e parent (λ p d. IsOkAnd (scope_path p d) 
 -- so are all of these
 abbrev pub AreScopes : {S : Type 0} → EntriesOf → IndexMap ℕ Scope S → Type 0
 AreScopes e known = (parent : ℕ) (s : Scope) → get nat_eq known parent ≡ Some s → IsScopeAround e parent s
+
+-- and each of these, around what is in its parent
+abbrev pub AreRecent : EntriesOf → List ScopeAround → Type 0
+AreRecent e recent = (s : ScopeAround) → Contains recent s → IsScopeAround e s.parent s.scope
 
 -- ---- the members that a path passed
 

@@ -47,3 +47,11 @@ ForStanding e shard Holds = (p : Program) (run : List Walked) → program_of e.i
 -- Whatever run of the file's units the shard stands for: what holds of the entry whose node it is.
 abbrev pub ForKept : EntriesOf → Shard → Node → (Program → Located → Type 0) → Type 0
 ForKept e shard node Holds = (p : Program) (run : List Walked) → program_of e.image.file ≡ Ok p → AreShardsOf p e.shards → IsRunOf p run → StandsFor p.sections shard run → (d : Located) → Contains (kept_in run) d → IsNodeOf p.sections node d → Holds p d
+
+-- the shard stands for a run of the file's units
+pub record HasRun (e : EntriesOf) (shard : Shard) : Type 0 where
+  pub program : Program
+  pub file : program_of e.image.file ≡ Ok program
+  pub run : List Walked
+  pub part : IsRunOf program run
+  pub stands : StandsFor program.sections shard run

@@ -6,7 +6,7 @@ ghost use Rattle.index_model.specs.Links.{facts_of, link_of, name_in};
 ghost use Rattle.index_model.specs.Languages.{class_of_unit};
 ghost use Rattle.index_model.specs.Meaning.{at_place};
 ghost use Rattle.index_model.specs.Names.{Member, qualified_name};
-ghost use Rattle.parent_resolve.specs.Followed.{ForEntry};
+ghost use Rattle.parent_resolve.specs.Followed.{ForEntry, HasEntry};
 ghost use Rattle.parent_resolve.specs.EntryLinks.{link_tested, link_with, ForTraced, IsEntryOf, StandsAlways};
 ghost use Rattle.parent_resolve.specs.Scopes.{greatest, IsScope};
 
@@ -28,11 +28,13 @@ pub(crate) fn link_entry<'f>(
     node: &Node<'f>,
     class: Class,
 ) -> Result<Option<LinkedEntry<'f>>, Stop>
+    requires { HasEntry paths.old node.now }
     ensures value { ForEntry paths.old node.now (λ p d. class ≡ class_of_unit p d.home → GivesFor (IsEntryOf p) result (at_place d.item.at (link_of p d))) }
     ensures kept { paths.new ≡ paths.old }
 {
     let traced = paths.follow(alloc, node, node.offset)?;
     let scope = paths.around(alloc, traced.around, node.offset)?;
+    paths.enter(node, &traced, scope)?;
     let entry = entry_of(node, class, &traced, scope)?;
     Ok(entry)
 }

@@ -7,7 +7,8 @@ ghost use Rattle.index_model.specs.Gives.{GivesFor};
 ghost use Rattle.index_model.specs.Shards.{IsLinked};
 ghost use Rattle.index_model.specs.ShardParts.{kept_in};
 ghost use Rattle.shard_build.specs.Entries.{AreShardsOfFile};
-ghost use Rattle.parent_resolve.specs.Runs.{links_at, AddsLinks, AreLinksOf, ForKept, ForRun, ForStanding, IsLinkedNode};
+ghost use Rattle.parent_resolve.specs.Runs.{links_at, AddsLinks, AreLinksOf, ForKept, ForRun, ForStanding, HasRun, IsLinkedNode};
+ghost use Rattle.parent_resolve.specs.Followed.{HasEntry};
 
 use crate::classes::class_of;
 use crate::entry::link_entry;
@@ -50,7 +51,8 @@ fn linked<'f>(
     shards: &[Arc<Shard<'f>>],
     paths: &mut Paths<'_, 'f>,
 ) -> Result<Linked<'f>, Stop>
-    requires { paths.old.shards ≡ map arc_value shards.now }
+    requires shards { paths.old.shards ≡ map arc_value shards.now }
+    requires run { HasRun paths.old shard.now }
     ensures { ForStanding paths.old shard.now (λ p run. GivesFor (IsLinked p) result (links_at p (kept_in run))) }
 {
     let mut languages = Languages::new(shards);
@@ -67,7 +69,8 @@ fn links_of<'f>(
     languages: &mut Languages<'_, 'f>,
     paths: &mut Paths<'_, 'f>,
 ) -> Result<Vec<LinkedEntry<'f>>, Stop>
-    requires { paths.old.shards ≡ languages.old }
+    requires shards { paths.old.shards ≡ languages.old }
+    requires run { HasRun paths.old shard.now }
     ensures { ForStanding paths.old shard.now (λ p run. GivesFor (λ v. AreLinksOf p v.items) result (links_at p (kept_in run))) }
 {
     let mut entries = Vec::new(alloc);
@@ -89,7 +92,8 @@ fn add_link<'f>(
     node: &Node<'f>,
     entries: &mut Vec<LinkedEntry<'f>>,
 ) -> Result<(), Stop>
-    requires { paths.old.shards ≡ languages.old }
+    requires shards { paths.old.shards ≡ languages.old }
+    requires entry { HasEntry paths.old node.now }
     ensures value { ForKept paths.old shard.now node.now (λ p d. GivesFor (λ _. AddsLinks p entries.old.items entries.new.items) result (links_at p (d ∷ []))) }
     ensures languages { languages.new ≡ languages.old }
     ensures paths { paths.new ≡ paths.old }
@@ -108,6 +112,7 @@ fn link_node<'f>(
     paths: &mut Paths<'_, 'f>,
     node: &Node<'f>,
 ) -> Result<Option<LinkedEntry<'f>>, Stop>
+    requires { HasEntry paths.old node.now }
     ensures value { paths.old.shards ≡ languages.old → ForKept paths.old shard.now node.now (λ p d. GivesFor (IsLinkedNode p) result (links_at p (d ∷ []))) }
     ensures languages { languages.new ≡ languages.old }
     ensures paths { paths.new ≡ paths.old }

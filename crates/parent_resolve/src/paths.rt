@@ -1,9 +1,9 @@
 //! The scope paths of a file's entries (DWARF 5, section 2.13.2).
 //!
-//! Most entries share their lexical parent with others. So the scope of a path is kept by the place of its first member, for
-//! each member that is passed, and each member is passed once.
+//! Most entries stand in one that was passed before them, whose scope is at hand. The scope of any other path is kept by the
+//! place of its first member, for each member that is passed, and each member is passed once.
 
-ghost use Rattle.std.specs.Prelude.{◌≡◌, ◌+◌, ◌<◌, ◌≤◌, map, min, IfOk, IfSome, Ok, Err};
+ghost use Rattle.std.specs.Prelude.{◌≡◌, ◌+◌, ◌<◌, ◌≤◌, map, min, Contains, IfOk, IfSome, IsOkAnd, Ok, Err};
 ghost use Rattle.std.specs.Arc.{arc_value};
 ghost use Rattle.ix_base.specs.declared.code.TheConstants.{REFERENCE_CHAIN};
 ghost use Rattle.ix_base.specs.declared.fault.Stop.TheVariants as stops;
@@ -12,14 +12,15 @@ ghost use Rattle.index_model.specs.Gives.{GivesFor};
 ghost use Rattle.index_model.specs.Meaning.{at_place, fault};
 ghost use Rattle.index_model.specs.Names.{scope_path};
 ghost use Rattle.shard_build.specs.Entries.{AreShardsOfFile};
-ghost use Rattle.parent_resolve.specs.Followed.{followed_of, ForEntry};
+ghost use Rattle.parent_resolve.specs.Followed.{followed_of, ForEntry, HasEntry};
 ghost use Rattle.parent_resolve.specs.Scopes.{greatest, IsScope};
 ghost use Rattle.parent_resolve.specs.Traced.{IsTraced};
 ghost use Rattle.parent_resolve.specs.Paths.{EndIn, ForAround, ForEnd, IsScopeAround};
+ghost use Rattle.parent_resolve.specs.declared.scope.ScopeAround.{ScopeAround as ScopeAroundOf};
 
 use crate::members::{step_at, too_long};
 use crate::references::References;
-use crate::scope::{PathMember, Scope, part_length};
+use crate::scope::{PathMember, Scope, ScopeAround, component, may_hold_scopes, part_length};
 use crate::traced::Traced;
 use file_image::Image;
 use index_model::{Node, Shard};
@@ -29,32 +30,25 @@ use std::alloc::Global;
 use std::marker::Model;
 use std::sync::Arc;
 
-/// The scope of the path around entries with this lexical parent, which is the path's first member.
-#[derive(Clone, Copy)]
-struct ScopeAround {
-    parent: u64,
-    scope: Scope,
-}
-
 /// The references of a file's entries, and the scopes that are known so far, each by the joint offset of the path's first
-/// member. That which was asked last is at hand.
+/// member.
 #[derive(Drop)]
 pub(crate) struct Paths<'s, 'f> {
     references: References<'s, 'f>,
     known: IndexMap<u64, Scope>,
-    last: Option<ScopeAround>,
+    // Those that were asked of late, by rising offsets: most entries stand in one that was passed before them.
+    recent: Vec<ScopeAround>,
 }
 
 impl<'s, 'f> Model for Paths<'s, 'f> {
     ghost use Rattle.shard_build.specs.Entries.{EntriesOf};
-    ghost use Rattle.std.specs.Option.{ForSome};
-    ghost use Rattle.parent_resolve.specs.Paths.{AreScopes, IsScopeAround};
+    ghost use Rattle.parent_resolve.specs.Paths.{AreRecent, AreScopes};
 
     ghost Value = { EntriesOf };
 
     ghost view = { λ s. s.references };
 
-    ghost invariant = { λ s. AreScopes s.references s.known × ForSome s.last (λ l. IsScopeAround s.references l.parent l.scope) };
+    ghost invariant = { λ s. AreScopes s.references s.known × AreRecent s.references s.recent.items };
 }
 
 impl<'s, 'f> Paths<'s, 'f> {
@@ -70,7 +64,7 @@ impl<'s, 'f> Paths<'s, 'f> {
         Ok(Paths {
             references: References::new(alloc, image, shards)?,
             known: IndexMap::new(alloc),
-            last: None,
+            recent: Vec::new(alloc),
         })
     }
 
@@ -116,18 +110,44 @@ impl<'s, 'f> Paths<'s, 'f> {
             return Ok(scope);
         }
         let scope = self.follow_path(alloc, parent, at)?;
-        self.last = Some(ScopeAround { parent, scope });
+        self.recent.push(ScopeAround { parent, scope })?;
         Ok(scope)
     }
 
-    // The scope of the path around an entry with this lexical parent, if it is the one that was asked last.
-    fn at_hand(&self, parent: u64) -> Option<Scope>
-        ensures { IfSome result (IsScopeAround self.now parent) }
+    // The scope of the path around an entry with this lexical parent, if it was asked of late. Those behind it aren't at hand
+    // from then on.
+    fn at_hand(&mut self, parent: u64) -> Option<Scope>
+        ensures value { IfSome result (IsScopeAround self.old parent) }
+        ensures kept { self.new ≡ self.old }
     {
-        match self.last {
-            Some(last) if last.parent == parent => Some(last.scope),
-            _ => None,
+        drop_behind(&mut self.recent, parent);
+        last_around(&self.recent, parent)
+    }
+
+    /// Takes in the scope around what is in an entry that was followed, where this is the scope around the end of its chain.
+    pub(crate) fn enter(
+        &mut self,
+        node: &Node<'f>,
+        traced: &Traced<'f>,
+        scope: Scope,
+    ) -> Result<(), NoMemory>
+        requires entry { HasEntry self.old node.now }
+        requires traced { ForEntry self.old node.now (λ p d. IsOkAnd (at_place node.now.offset (followed_of p d)) (IsTraced p d traced.now)) }
+        requires scope { ForEnd self.old traced.now.around (λ p e. IsOkAnd (at_place node.now.offset (scope_path p e)) (IsScope scope)) }
+        ensures { self.new ≡ self.old }
+    {
+        if !may_hold_scopes(node) || node.parent.is_none() || traced.around.is_none() {
+            return Ok(());
         }
+        if scope.steps >= MAX_PATH_STEPS {
+            return Ok(());
+        }
+        let part = part_length(component(node, traced.spelled));
+        self.recent.push(ScopeAround {
+            parent: node.offset,
+            scope: scope.with(part),
+        })?;
+        Ok(())
     }
 
     // The scope that is known of the path around an entry with this lexical parent.
@@ -190,6 +210,26 @@ impl<'s, 'f> Paths<'s, 'f> {
         self.known.insert(member, scope)?;
         Ok(())
     }
+}
+
+// The last of these scopes, if it is that around what is in this parent.
+fn last_around(recent: &Vec<ScopeAround>, parent: u64) -> Option<Scope>
+    ensures { IfSome result (λ s. Contains recent.now.items (record { parent = parent; scope = s })) }
+{
+    let last = recent.last()?;
+    if last.parent == parent {
+        Some(last.scope)
+    } else {
+        None
+    }
+}
+
+// Takes away the scopes whose parents stand behind this one.
+fn drop_behind(recent: &mut Vec<ScopeAround>, parent: u64)
+    ensures { (s : ScopeAroundOf) → Contains recent.new.items s → Contains recent.old.items s }
+{
+    let kept = recent.partition_point(|around| around.parent <= parent);
+    recent.truncate(kept);
 }
 
 // The scope with the path around its last member, if both together don't have too many steps.

@@ -69,6 +69,13 @@ impl Scope {
     }
 }
 
+/// The scope of the path around entries with this lexical parent, which is the path's first member.
+#[derive(Clone, Copy)]
+pub(crate) struct ScopeAround {
+    pub(crate) parent: u64,
+    pub(crate) scope: Scope,
+}
+
 /// A member of a scope path by its joint offset, and the length of what it puts before a name, or the greatest `usize` where
 /// it is greater.
 #[derive(Clone, Copy)]
@@ -86,6 +93,11 @@ pub(crate) fn name_with<'f>(node: &Node<'f>, spelled: Option<&'f [u8]>) -> Optio
         return Some(ANONYMOUS);
     }
     spelled
+}
+
+/// Whether entries inside this one may have names of their own scope.
+pub(crate) fn may_hold_scopes(node: &Node<'_>) -> bool {
+    names_its_members(node) || node.tag == ENUMERATION_TYPE
 }
 
 // Whether the entry's name is a component of the names inside it. The enumerators of an unscoped enumeration take its scope.

@@ -10,6 +10,7 @@ use Rattle.index_model.specs.NodeSeen.{NodeSeen, node_seen}
 use Rattle.index_model.specs.Shards.{AreShardsOf}
 use Rattle.index_model.specs.ShardParts.{kept_in, IsNodeOf, IsSeenOf}
 use Rattle.shard_build.specs.Entries.{EntriesOf}
+use Rattle.parent_resolve.proofs.NodeLinks.{kept_there}
 use Rattle.parent_resolve.proofs.RunLinks.{all_taken, paired, stops_here, take_whole, takes_more}
 use Rattle.parent_resolve.specs.Runs.{links_at, AddsLinks}
 use Rattle.parent_resolve.proofs.PlaceLaws.{past}
@@ -32,6 +33,23 @@ returns-in_err-add_link c p run file are is_run stands =
     let one = c.in_err-add_link.ensures.value p run here shards is_run stands pair.at pair.member own in
     let q = err_from_is_err_and c.from_residual.result c.from_residual.ensures.1 in
     rw (q.1, q.2) (stops_here p run k c.loop-k.entries.items (inv.taken p run file are is_run stands) pair.at pair.rest pair.whole stop one)
+
+pub add_link-requires-clause-entry : goal.add_link-requires-clause-entry
+add_link-requires-clause-entry c =
+    let h = c.requires.run in
+    let s = c.args.shard.now in
+    let k = c.loop-k.k in
+    let node : Node = c.in-Some.node in
+    let within : k < length s.nodes = omega (arith, c.loop-k-test.true, c.len-k-end.ensures) in
+    let there : slice_get s.nodes k ≡ Some (node_seen node) = sym c.get.ensures ∙ ap (option_map node_seen) c.in-Some.is in
+    let pair = paired (IsSeenOf h.program.sections) s.nodes (kept_in h.run) k (node_seen node) h.stands.nodes within in
+    record {
+      program = h.program;
+      file = ap (λ (e : EntriesOf). program_of e.image.file) c.loop-k.invariant.paths ∙ h.file;
+      entry = pair.at;
+      there = (kept_there h.program h.run h.part pair.at pair.member).2;
+      is = subst (λ (n : NodeSeen). IsSeenOf h.program.sections n pair.at) (get_or_from_slice_get s.nodes k (node_seen node) (node_seen node) there) pair.holds;
+    }
 
 pub loop-k-preserved : goal.loop-k-preserved
 loop-k-preserved c =
