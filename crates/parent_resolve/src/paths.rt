@@ -120,6 +120,9 @@ impl<'s, 'f> Paths<'s, 'f> {
         ensures value { IfSome result (IsScopeAround self.old parent) }
         ensures kept { self.new ≡ self.old }
     {
+        if let Some(scope) = last_around(&self.recent, parent) {
+            return Some(scope);
+        }
         drop_behind(&mut self.recent, parent);
         last_around(&self.recent, parent)
     }

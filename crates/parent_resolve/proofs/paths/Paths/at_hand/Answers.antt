@@ -10,8 +10,8 @@ use Rattle.parent_resolve.proofs.paths.Paths.at_hand.Goals as goal
 pub returns-clause-value : goal.returns-clause-value
 returns-clause-value c =
     let parent = c.args.parent in
-    if_some (λ (s : Scope). Contains c.drop_behind.new.recent.items (record { parent = parent; scope = s })) (IsScopeAround c.args.self.now parent) c.last_around.result
+    if_some (λ (s : Scope). Contains c.drop_behind.new.recent.items (record { parent = parent; scope = s })) (IsScopeAround c.args.self.now parent) c.last_around-2.result
     (λ s k.
     let here : ScopeAround = record { parent = parent; scope = s } in
     subst (λ (e : EntriesOf). IsScopeAround e parent s) c.self.view_is (c.self.invariant.1 here (c.drop_behind.ensures here k)))
-    c.last_around.ensures
+    c.last_around-2.ensures
