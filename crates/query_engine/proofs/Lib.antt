@@ -5,6 +5,8 @@ mod SortLaws
 mod SeenLaws
 mod PairLaws
 mod MarkLaws
+mod SimpleLaws
+mod JoinLaws
 mod GroupLaws
 pub mod NamesLaws
 pub mod OrderLaws

@@ -10,9 +10,9 @@ use Rattle.index_model.specs.declared.entry.Entry.{Entry}
 use Rattle.index_model.specs.Answers.{places}
 use Rattle.query_engine.specs.declared.way.Way.{Way}
 use Rattle.query_engine.specs.Asked.{is_counted, text_of, is_asked}
-use Rattle.query_engine.specs.Pairs.{Pair, pairs_in, has_text}
+use Rattle.query_engine.specs.Pairs.{Pair, pairs_from, pairs_in, has_text}
 use Rattle.query_engine.specs.Sorted.{text_of_place}
-use Rattle.query_engine.proofs.SeenLaws.{enumerate_push}
+use Rattle.query_engine.proofs.SeenLaws.{enumerate_append}
 
 abbrev Placed : Type 0
 Placed = ℕ × Entry
@@ -24,23 +24,24 @@ module _ (way : Way) where
   abbrev counted : Placed → Bool
   counted e = is_counted way e.1
 
-  -- ---- one entry more
+  -- ---- entries behind entries
 
-  one : (k : ℕ) (e : Entry) → List Pair
-  one k e = map pair (filter counted ((k, e) ∷ []))
+  pub pairs_append : (n : ℕ) (es fs : List Entry) → pairs_from n way (es ++ fs) ≡ pairs_from n way es ++ pairs_from (n + length es) way fs
+  pairs_append n es fs =
+      ap (λ w. map pair (filter counted w)) (enumerate_append n es fs) ∙ ap (map pair) (filter-append counted (enumerate_from n es) (enumerate_from (n + length es) fs))
+      ∙ map-append pair (filter counted (enumerate_from n es)) (filter counted (enumerate_from (n + length es) fs))
 
-  more : (es : List Entry) (i : ℕ) (e : Entry) → i < length es → e ≡ get_or es i e → pairs_in way (take (i + 1) es) ≡ pairs_in way (take i es) ++ map pair (filter counted ((i, e) ∷ []))
-  more es i e lt is =
+  more : (n : ℕ) (es : List Entry) (i : ℕ) (e : Entry) → i < length es → e ≡ get_or es i e → pairs_from n way (take (i + 1) es) ≡ pairs_from n way (take i es) ++ pairs_from (n + i) way (e ∷ [])
+  more n es i e lt is =
       let front : take (i + 1) es ≡ take i es ++ e ∷ [] = rw (take_more es i e lt, ← is) refl in
-      let size : 0 + length (take i es) ≡ i = omega (arith, length-take i es) in
-      let listed : enumerate_from 0 (take (i + 1) es) ≡ enumerate_from 0 (take i es) ++ (i, e) ∷ [] = rw front (enumerate_push 0 (take i es) e ∙ ap (λ (k : ℕ). enumerate_from 0 (take i es) ++ (k, e) ∷ []) size) in
-      ap (λ w. map pair (filter counted w)) listed ∙ ap (map pair) (filter-append counted (enumerate_from 0 (take i es)) ((i, e) ∷ [])) ∙ map-append pair (filter counted (enumerate_from 0 (take i es))) (filter counted ((i, e) ∷ []))
+      let size : length (take i es) ≡ i = omega (arith, length-take i es) in
+      ap (pairs_from n way) front ∙ pairs_append n (take i es) (e ∷ []) ∙ ap (λ (k : ℕ). pairs_from n way (take i es) ++ pairs_from (n + k) way (e ∷ [])) size
 
-  pub pairs_push : (es : List Entry) (i : ℕ) (e : Entry) → i < length es → e ≡ get_or es i e → is_counted way e ≡ true → pairs_in way (take (i + 1) es) ≡ pairs_in way (take i es) ++ (i, text_of way e) ∷ []
-  pairs_push es i e lt is is_one = more es i e lt is ∙ ap (λ (b : Bool). pairs_in way (take i es) ++ map pair (cond b ((i, e) ∷ []) [])) is_one
+  pub pairs_push : (n : ℕ) (es : List Entry) (i : ℕ) (e : Entry) → i < length es → e ≡ get_or es i e → is_counted way e ≡ true → pairs_from n way (take (i + 1) es) ≡ pairs_from n way (take i es) ++ (n + i, text_of way e) ∷ []
+  pairs_push n es i e lt is is_one = more n es i e lt is ∙ ap (λ (b : Bool). pairs_from n way (take i es) ++ map pair (cond b ((n + i, e) ∷ []) [])) is_one
 
-  pub pairs_keep : (es : List Entry) (i : ℕ) (e : Entry) → i < length es → e ≡ get_or es i e → is_counted way e ≡ false → pairs_in way (take (i + 1) es) ≡ pairs_in way (take i es)
-  pairs_keep es i e lt is isnt = more es i e lt is ∙ ap (λ (b : Bool). pairs_in way (take i es) ++ map pair (cond b ((i, e) ∷ []) [])) isnt ∙ append-nil (pairs_in way (take i es))
+  pub pairs_keep : (n : ℕ) (es : List Entry) (i : ℕ) (e : Entry) → i < length es → e ≡ get_or es i e → is_counted way e ≡ false → pairs_from n way (take (i + 1) es) ≡ pairs_from n way (take i es)
+  pairs_keep n es i e lt is isnt = more n es i e lt is ∙ ap (λ (b : Bool). pairs_from n way (take i es) ++ map pair (cond b ((n + i, e) ∷ []) [])) isnt ∙ append-nil (pairs_from n way (take i es))
 
   filter_few : (xs : List Placed) → length (filter counted xs) ≤ length xs
   filter_few [] = omega arith

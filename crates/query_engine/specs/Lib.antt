@@ -4,11 +4,13 @@ pub mod Counts
 pub mod Front
 pub mod Groups
 pub mod Halving
+pub mod Marked
 pub mod Marks
 pub mod Orders
 pub mod Pairs
 pub mod Ranks
 pub mod Seen
+pub mod Simple
 pub mod Sorted
 pub mod Tables
 pub mod Texts

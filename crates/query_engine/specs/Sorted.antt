@@ -35,3 +35,8 @@ pub record AreNamesOf (es : List Entry) (n : Names) : Type 0 where
   pub each : (k : ℕ) → k < length n.groups.items → IsGroup es n (group_at n.groups.items k)
   pub ascending : (i j : ℕ) → i < j → j < length n.groups.items → ComesBefore (name_at es n i) (name_at es n j)
   pub all : (text : List ℕ) → ((k : ℕ) → k < length n.groups.items → name_at es n k ≢ text) → places (is_asked n.way text) es ≡ []
+
+-- they are asked for this way
+pub record AreNamesBy (way : Way) (es : List Entry) (n : Names) : Type 0 where
+  pub way_is : n.way ≡ way
+  pub own : AreNamesOf es n

@@ -6,12 +6,15 @@
 
 mod counting;
 mod groups;
+mod halves;
 mod key;
 mod marks;
 mod names;
 mod order;
+mod orders;
 mod ranks;
 mod search;
+mod simple;
 mod spelling;
 mod table;
 mod texts;

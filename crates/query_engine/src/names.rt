@@ -8,12 +8,10 @@ ghost use Rattle.index_model.specs.Answers.{places as places_with};
 ghost use Rattle.query_engine.specs.Asked.{TailsFit, is_asked};
 ghost use Rattle.query_engine.specs.Counts.{name_count, without_linkage, is_plain};
 ghost use Rattle.query_engine.specs.declared.way.Way.TheVariants.{ByName};
-ghost use Rattle.query_engine.specs.Sorted.{AreNamesOf, name_at, group_text};
+ghost use Rattle.query_engine.specs.Sorted.{AreNamesBy, AreNamesOf, name_at, group_text};
 
-use crate::counting::places_of;
 use crate::groups::{Group, groups_of};
-use crate::marks::{marks_of, rank_marks};
-use crate::ranks::ranks_of;
+use crate::order::order_of;
 use crate::spelling::Spelling;
 use crate::way::Way;
 use index_model::{Entry, Steps};
@@ -33,27 +31,24 @@ pub(crate) struct Names {
 }
 
 impl Names {
-    /// The texts of these entries.
+    /// The texts of these entries, which are halved so often for threads.
     pub fn sorted<R: Threads + Sync>(
         rt: &R,
         alloc: Global,
         way: Way,
+        halvings: u32,
         entries: &[Entry<'_>],
     ) -> Result<Names, AllocError>
         requires few { length entries.now < 2 ^ 32 }
         requires tails { TailsFit entries.now }
-        ensures way { IfOk result (λ n. n.way ≡ way) }
-        ensures names { IfOk result (AreNamesOf entries.now) }
+        ensures { IfOk result (AreNamesBy way entries.now) }
     {
-        let mut marked = marks_of(alloc, way, entries)?;
-        let ranks = ranks_of(rt, alloc, &marked.texts.list)?;
-        rank_marks(&mut marked.marks, &ranks.ranks);
-        let placed = places_of(alloc, &marked.marks, ranks.distinct.len())?;
-        let groups = groups_of(alloc, &ranks.distinct, &placed.ends)?;
+        let order = order_of(rt, alloc, way, halvings, entries)?;
+        let groups = groups_of(alloc, &order.texts, &order.ends)?;
         Ok(Names {
             way,
             groups,
-            places: placed.places,
+            places: order.places,
         })
     }
 

@@ -11,8 +11,10 @@ ghost use Rattle.query_engine.specs.declared.way.Way.TheVariants.{ByListed};
 ghost use Rattle.query_engine.specs.Texts.{table_names};
 
 use crate::names::Names;
-use crate::order::places_by_text;
+use crate::order::order_alone;
+use crate::orders::Orders;
 use crate::search::find;
+use crate::simple::SimpleNames;
 use crate::way::Way;
 use index_model::{Entry, Run, Steps};
 use ix_base::NoMemory;
@@ -21,13 +23,18 @@ use std::marker::Model;
 use std::sync::ledger::Ledger;
 use std::thread::Threads;
 
+// So many runs are worth a thread.
+const RUNS_PER_THREAD: usize = 4;
+
+const MOST_THREADS: usize = 32;
+
 /// The entries of a program in section order, found by name (DWARF 5, section 6.1.1). Contracts see the list of entries. A
 /// place is that of an entry in this list, counted from 0.
 #[derive(Drop)]
 pub struct Table<'f> {
     entries: Vec<Entry<'f>>,
     by_name: Names,
-    by_simple: Names,
+    by_simple: SimpleNames,
     distinct: u64,
 }
 
@@ -46,8 +53,8 @@ impl<'f> Model for Table<'f> {
 
 impl<'f> Table<'f> {
     /// The table of the entries of the runs, one run after the other. The runs have fewer than 4,294,967,296 entries together,
-    /// and no entry's tail is above the length of its name. Threads share the sort; the table is the same for any number of
-    /// them.
+    /// and no entry's tail is above the length of its name. Threads share the work, one for every four runs, and of fewer than
+    /// eight runs the caller's does all; the table is the same for any number of them.
     ///
     /// # Errors
     ///
@@ -61,9 +68,9 @@ impl<'f> Table<'f> {
         requires tails { TailsFit (flat_map (λ run. run) runs.items) }
         ensures { IfOk result (λ t. t ≡ flat_map (λ run. run) runs.entry.items) }
     {
+        let halvings = halvings_for(runs.len());
         let entries = joined(alloc, runs)?;
-        let by_name = Names::sorted(rt, alloc, Way::ByName, &entries)?;
-        let by_simple = Names::sorted(rt, alloc, Way::BySimple, &entries)?;
+        let Orders { by_name, by_simple } = Orders::of(rt, alloc, halvings, &entries)?;
         let distinct = by_name.count_plain(&entries);
         Ok(Table {
             entries,
@@ -96,7 +103,10 @@ impl<'f> Table<'f> {
         ensures places { result.now ≡ places (is_simply_named name.now) self.now }
         ensures steps { AddsHalvings (simple_count (without_linkage self.now)) steps.old steps.new }
     {
-        places_of(&self.by_simple, &self.entries, name, steps)
+        match &self.by_simple {
+            SimpleNames::Shared => places_of(&self.by_name, &self.entries, name, steps),
+            SimpleNames::Own(names) => places_of(names, &self.entries, name, steps),
+        }
     }
 
     /// How many distinct names the entries have, those of linkage entries too. Takes no memory.
@@ -131,7 +141,7 @@ impl<'f> Table<'f> {
     pub fn places_as_listed(&self, alloc: Global) -> Result<Vec<u32>, NoMemory>
         ensures { IfOk result (λ v. AreByText ByListed self.now v.items) }
     {
-        Ok(places_by_text(alloc, Way::ByListed, &self.entries)?)
+        Ok(order_alone(alloc, Way::ByListed, &self.entries)?.places)
     }
 
     /// How many distinct names the entries have that aren't linkage entries. Takes no memory.
@@ -158,6 +168,11 @@ fn places_of<'r, L: Ledger>(
         Some(index) => names.places_at(entries, index),
         None => &[],
     }
+}
+
+// How often to halve entries for threads: so that there is one for every few runs, since a crew cuts as many for each of its workers.
+fn halvings_for(runs: usize) -> u32 {
+    (runs / RUNS_PER_THREAD).clamp(1, MOST_THREADS).ilog2()
 }
 
 // The entries of the runs, one run after the other.

@@ -1,7 +1,7 @@
 //! Texts, numbered in the order of their first uses.
 
-ghost use Rattle.std.specs.Prelude.{◌≡◌, ◌<◌, ◌≤◌, ◌^◌, length, IsTrue, IfOk, OnOk};
-ghost use Rattle.query_engine.specs.Marks.{IsAt, IsNumberOf, Numbers};
+ghost use Rattle.std.specs.Prelude.{◌≡◌, ◌<◌, ◌≤◌, ◌^◌, ◌+◌, length, IsTrue, IfOk, OnOk};
+ghost use Rattle.query_engine.specs.Marks.{AreNumbered, IsAt, IsNumberOf, Numbers};
 ghost use Rattle.query_engine.specs.Seen.{texts_seen};
 
 use crate::spelling::Spelling;
@@ -76,6 +76,22 @@ impl<'r> Texts<'r> {
             self.widen(alloc)?;
         }
         Ok(number)
+    }
+
+    /// The numbers of these texts, one after the other.
+    pub fn numbers_of(
+        &mut self,
+        alloc: Global,
+        texts: &[Spelling<'r>],
+    ) -> Result<Vec<u32>, AllocError>
+        requires { length self.now.list.items + length texts.now ≤ 2 ^ 32 }
+        ensures { IfOk result (λ v. AreNumbered (texts_seen self.old.list.items) (texts_seen texts.now) (texts_seen self.new.list.items) v.items) }
+    {
+        let mut numbers = Vec::with_capacity(alloc, texts.len())?;
+        for text in texts {
+            numbers.push(self.number(alloc, text.bytes)?)?;
+        }
+        Ok(numbers)
     }
 
     // Where a text with this hash stands.

@@ -1,54 +1,20 @@
-use Rattle.std.proofs.Common.{◌≡◌, ℕ, List, length, map, ap, ◌∙◌, arith}
+use Rattle.std.proofs.Common.{refl, arith}
 use Rattle.std.proofs.lemmas.List.{length-map}
 use Rattle.query_engine.specs.declared.spelling.Spelling.{Spelling}
-use Rattle.query_engine.specs.Counting.{ArePut}
 use Rattle.query_engine.specs.Groups.{AreGroupsOf}
-use Rattle.query_engine.specs.Marks.{ranked}
-use Rattle.query_engine.specs.Ranks.{AreRanksOf}
 use Rattle.query_engine.specs.Seen.{texts_seen}
-use Rattle.query_engine.proofs.NamesLaws.{marks_are, marks_few, are_names}
+use Rattle.query_engine.proofs.NamesLaws.{are_names}
 use Rattle.query_engine.proofs.names.Names.sorted.Goals as goal
 
-pub ranks_of-requires-clause-few : goal.ranks_of-requires-clause-few
-ranks_of-requires-clause-few g c κs within = rw c.deref.ensures.value (omega (arith, c.in_ok-marked.ensures.few, c.requires.few))
+pub groups_of-requires : goal.groups_of-requires
+groups_of-requires g c =
+    let o = c.in_ok-order.order in
+    let h = c.in_ok-order.ensures in
+    rw (c.deref.ensures.value, c.deref-2.ensures.value) (omega (arith, h.put.size, length-map o.texts.items (λ (s : Spelling). s.bytes.now)))
 
-pub places_of-requires-clause-few : goal.places_of-requires-clause-few
-places_of-requires-clause-few g c =
-    let way = c.args.way in
-    let es = c.args.entries.now in
-    let ts = texts_seen c.in_ok-marked.marked.texts.list.items in
-    let ds = texts_seen c.in_ok-ranks.ranks.distinct.items in
-    let rs = c.in_ok-ranks.ranks.ranks.items in
-    let ms = c.in_ok-marked.marked.marks.items in
-    let made = c.deref-3.ensures.value ∙ c.rank_marks.ensures ∙ ap (λ (w : List ℕ). map (ranked w) ms) c.deref-2.ensures.value in
-    let ranks : AreRanksOf ts ds rs = rw (← c.deref.ensures.value) c.in_ok-ranks.ensures in
-    omega (arith, marks_few way es ds c.deref-3.result.now (marks_are way es ts ds ms c.deref-3.result.now rs c.in_ok-marked.ensures.marks ranks made), c.requires.few)
-
-pub places_of-requires-clause-numbers : goal.places_of-requires-clause-numbers
-places_of-requires-clause-numbers g c =
-    let way = c.args.way in
-    let es = c.args.entries.now in
-    let ts = texts_seen c.in_ok-marked.marked.texts.list.items in
-    let ds = texts_seen c.in_ok-ranks.ranks.distinct.items in
-    let rs = c.in_ok-ranks.ranks.ranks.items in
-    let ms = c.in_ok-marked.marked.marks.items in
-    let made = c.deref-3.ensures.value ∙ c.rank_marks.ensures ∙ ap (λ (w : List ℕ). map (ranked w) ms) c.deref-2.ensures.value in
-    let ranks : AreRanksOf ts ds rs = rw (← c.deref.ensures.value) c.in_ok-ranks.ensures in
-    let marks = marks_are way es ts ds ms c.deref-3.result.now rs c.in_ok-marked.ensures.marks ranks made in
-    λ k d lt. omega (arith, marks.within k d lt, c.len.ensures, length-map c.in_ok-ranks.ranks.distinct.items (λ (s : Spelling). s.bytes.now))
-
-pub returns-clause-names : goal.returns-clause-names
-returns-clause-names g c =
-    let way = c.args.way in
-    let es = c.args.entries.now in
-    let ts = texts_seen c.in_ok-marked.marked.texts.list.items in
-    let ds = texts_seen c.in_ok-ranks.ranks.distinct.items in
-    let rs = c.in_ok-ranks.ranks.ranks.items in
-    let ms = c.in_ok-marked.marked.marks.items in
-    let made = c.deref-3.ensures.value ∙ c.rank_marks.ensures ∙ ap (λ (w : List ℕ). map (ranked w) ms) c.deref-2.ensures.value in
-    let ranks : AreRanksOf ts ds rs = rw (← c.deref.ensures.value) c.in_ok-ranks.ensures in
-    let marks = marks_are way es ts ds ms c.deref-3.result.now rs c.in_ok-marked.ensures.marks ranks made in
-    let size : c.len.result ≡ length ds = omega (arith, c.len.ensures, length-map c.in_ok-ranks.ranks.distinct.items (λ (s : Spelling). s.bytes.now)) in
-    let put : ArePut (length ds) c.deref-3.result.now c.in_ok-placed.placed.places.items c.in_ok-placed.placed.ends.items = rw (← size) c.in_ok-placed.ensures in
-    let groups : AreGroupsOf ds c.in_ok-placed.placed.ends.items c.in_ok-groups.groups.items = rw (← c.deref-4.ensures.value, ← c.deref-5.ensures.value) c.in_ok-groups.ensures in
-    are_names es _ ds c.deref-3.result.now c.in_ok-placed.placed.ends.items ranks.ascending marks put groups
+pub returns : goal.returns
+returns g c =
+    let o = c.in_ok-order.order in
+    let h = c.in_ok-order.ensures in
+    let groups : AreGroupsOf (texts_seen o.texts.items) o.ends.items c.in_ok-groups.groups.items = rw (← c.deref.ensures.value, ← c.deref-2.ensures.value) c.in_ok-groups.ensures in
+    record { way_is = refl; own = are_names c.args.entries.now _ (texts_seen o.texts.items) h.marks o.ends.items h.ascending h.say h.put groups }
