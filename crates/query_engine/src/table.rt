@@ -26,7 +26,7 @@ use std::thread::Threads;
 // So many runs are worth a thread.
 const RUNS_PER_THREAD: usize = 4;
 
-const MOST_THREADS: usize = 32;
+const MOST_THREADS: usize = 16;
 
 /// The entries of a program in section order, found by name (DWARF 5, section 6.1.1). Contracts see the list of entries. A
 /// place is that of an entry in this list, counted from 0.
