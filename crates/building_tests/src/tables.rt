@@ -1,4 +1,4 @@
-//! query_engine. Two threads sort the names of a large table.
+//! query_engine. Four threads share the work of a large table.
 
 ghost use Rattle.std.specs.Prelude.{◌≡◌, ◌<◌, ◌≤◌, length, IfOk};
 ghost use Rattle.query_engine.specs.Asked.{TailsFit};
@@ -51,11 +51,12 @@ fn found<L: Ledger>(table: &Table<'_>, name: &[u8], simple: &[u8], blank: Blank)
     (named, table.by_simple(simple, &mut steps).len())
 }
 
-// A table of two runs, in which each name stands 20,000 times.
+// A table of sixteen runs, in which each name stands 20,000 times.
 fn merged<R: Threads + Sync>(rt: &R, alloc: Global) -> Result<Table<'static>, Fail> {
     let mut runs = Vec::new(alloc);
-    runs.push(run(alloc, 30_000)?)?;
-    runs.push(run(alloc, 30_000)?)?;
+    for _step in 0..16u32 {
+        runs.push(run(alloc, 3_750)?)?;
+    }
     Table::merge(rt, alloc, runs).map_err(|_| "memory".into())
 }
 
