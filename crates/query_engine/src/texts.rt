@@ -7,6 +7,7 @@ ghost use Rattle.query_engine.specs.Seen.{texts_seen};
 use crate::spelling::Spelling;
 use std::alloc::{AllocError, Global};
 use std::hash::{FoldHasher, Hasher};
+use std::mem::replace;
 
 // A text has one of so many slots, from the one of its hash on.
 const PROBES: usize = 32;
@@ -130,9 +131,8 @@ impl<'r> Texts<'r> {
         }
     }
 
-    // Doubles the slots, and enters the texts anew.
+    // Doubles the slots.
     fn widen(&mut self, alloc: Global) -> Result<(), AllocError>
-        requires { length self.now.list.items ≤ 2 ^ 32 }
         ensures { OnOk result (self.new.list ≡ self.old.list) }
     {
         let mask = if self.mask < LAST_MASK {
@@ -140,25 +140,34 @@ impl<'r> Texts<'r> {
         } else {
             LAST_MASK
         };
-        self.slots = free_slots(alloc, mask)?;
+        let narrow = replace(&mut self.slots, free_slots(alloc, mask)?);
         self.mask = mask;
-        self.enter_all();
+        self.enter_all(&narrow);
         Ok(())
     }
 
-    // Enters all texts.
-    fn enter_all(&mut self)
-        requires { length self.now.list.items ≤ 2 ^ 32 }
+    // Fills slots as these are filled. The hashes stand there, so no text is read.
+    fn enter_all(&mut self, slots: &[Option<Slot>])
         ensures { self.new.list ≡ self.old.list }
     {
-        for number in 0..self.list.len() {
-            let text = self.list[number].bytes;
-            let hash = hash_of(text);
-            if let Place::Free(at) = self.place_of(text, hash) {
-                let number = number as u32;
-                self.enter(at, Slot { hash, number });
+        for slot in slots {
+            if let Some(slot) = *slot
+                && let Some(at) = self.free_place(slot.hash)
+            {
+                self.enter(at, slot);
             }
         }
+    }
+
+    // The first free slot for a text with this hash.
+    fn free_place(&self, hash: u32) -> Option<usize> {
+        let start = (hash & self.mask) as usize;
+        for at in start..start + PROBES {
+            if let Some(None) = self.slots.get(at) {
+                return Some(at);
+            }
+        }
+        None
     }
 }
 
