@@ -8,6 +8,7 @@ ghost use Rattle.index_model.specs.Answers.{places as places_with};
 ghost use Rattle.query_engine.specs.Asked.{TailsFit, is_asked};
 ghost use Rattle.query_engine.specs.Counts.{name_count, without_linkage, is_plain};
 ghost use Rattle.query_engine.specs.declared.way.Way.TheVariants.{ByName};
+ghost use Rattle.query_engine.specs.Orders.{AreByText};
 ghost use Rattle.query_engine.specs.Sorted.{AreNamesBy, AreNamesOf, name_at, group_text};
 
 use crate::groups::{Group, groups_of};
@@ -100,6 +101,18 @@ impl Names {
     {
         let group = self.groups[index];
         &self.places[group.start as usize..group.end as usize]
+    }
+
+    /// The places of all entries, of one text after the other, and ascending within a text.
+    pub fn all_places(&self, alloc: Global, entries: &[Entry<'_>]) -> Result<Vec<u32>, AllocError>
+        requires { AreNamesOf entries.now self.now }
+        ensures { IfOk result (λ v. AreByText self.now.way entries.now v.items) }
+    {
+        let mut places = Vec::with_capacity(alloc, entries.len())?;
+        for index in 0..self.len() {
+            places.extend_from_slice(self.places_at(entries, index))?;
+        }
+        Ok(places)
     }
 
     /// How many texts have an entry that isn't a linkage entry.

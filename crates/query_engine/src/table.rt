@@ -141,7 +141,10 @@ impl<'f> Table<'f> {
     pub fn places_as_listed(&self, alloc: Global) -> Result<Vec<u32>, NoMemory>
         ensures { IfOk result (λ v. AreByText ByListed self.now v.items) }
     {
-        Ok(order_alone(alloc, Way::ByListed, &self.entries)?.places)
+        match &self.by_simple {
+            SimpleNames::Shared => Ok(self.by_name.all_places(alloc, &self.entries)?),
+            SimpleNames::Own(_) => Ok(order_alone(alloc, Way::ByListed, &self.entries)?.places),
+        }
     }
 
     /// How many distinct names the entries have that aren't linkage entries. Takes no memory.
