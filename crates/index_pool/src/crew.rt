@@ -18,7 +18,7 @@ use std::alloc::Global;
 use std::sync::Wait;
 use std::thread::Threads;
 
-// Each worker has so many shards, so that long ones even out.
+// Each worker has so many shards, so that long ones even out. By as many runs a table takes a thread.
 const SHARDS_PER_WORKER: u32 = 4;
 
 /// So many workers, and what they build with.
