@@ -173,7 +173,7 @@ fn places_of<'r, L: Ledger>(
     }
 }
 
-// How often to halve entries for threads: so that there is one for every few runs, since a crew cuts as many for each of its workers.
+// How often to halve entries for threads. There is one for every few runs, since a crew cuts as many for each of its workers.
 fn halvings_for(runs: usize) -> u32 {
     (runs / RUNS_PER_THREAD).clamp(1, MOST_THREADS).ilog2()
 }
