@@ -3,7 +3,7 @@
 
 Makes files that cost more than their length (tools/costly), each at three sizes that double, and measures PROGRAM over them: processor
 seconds and greatest memory with one worker. From size to size both may double and grow by a logarithm; where they grow faster the row
-fails, unless its kind is told below as one that does, with the reason. --times multiplies the sizes. The last line is
+fails, if it does so twice, unless its kind is told below as one that does, with the reason. --times multiplies the sizes. The last line is
 'cost: N passed, M failed'."""
 import argparse
 import math
@@ -136,6 +136,14 @@ def growth(runs):
     return max(found, default=None)
 
 
+def is_cheap(runs):
+    """Whether the runs of a row ended, and neither seconds nor memory grew faster than they may."""
+    if runs[-1][1].status is None:
+        return False
+    grew = growth(runs) if len(runs) > 1 else None
+    return grew is None or grew <= MOST_GROWTH
+
+
 def main():
     parser = argparse.ArgumentParser()
     parser.add_argument("program")
@@ -150,10 +158,12 @@ def main():
         name = "%s.%s" % (kind.__module__.rpartition(".")[2], kind.__name__)
         if options.match not in name:
             continue
-        runs = list(runs_of(row, program, options))
-        ended = runs[-1][1].status is not None
-        grew = growth(runs) if ended and len(runs) > 1 else None
-        cheap = ended and (grew is None or grew <= MOST_GROWTH)
+        # What other work on the machine makes dear isn't dear twice.
+        for _ in range(1 if why else 2):
+            runs = list(runs_of(row, program, options))
+            cheap = is_cheap(runs)
+            if cheap:
+                break
         if cheap or why:
             passed += 1
         else:
