@@ -92,7 +92,7 @@ def try_case(work):
     passed, wrong = 0, []
     with tempfile.TemporaryDirectory(dir="/dev/shm") as folder:
         os.chdir(folder)
-        runner = Spawner(made, program)
+        runner = Spawner(made, program, copies=True)
         for batch in batches_of(changes_of(case.files[case.name])):
             runs = [(case.words, {**case.files, case.name: data}) for _, data in batch]
             for (done, _), (words, files), got in zip(batch, runs, runner.answers(runs)):

@@ -73,12 +73,13 @@ UNENDED = 0x7FFFFFFF
 
 
 def compiled(folder):
-    """The program of spawning.c, compiled into a folder; None where there is no gcc."""
+    """The words that start spawning.c, compiled into a folder with the library of forking.c; None where there is no gcc."""
     if shutil.which("gcc") is None:
         return None
-    made = os.path.join(folder, "spawning")
-    source = os.path.join(os.path.dirname(os.path.abspath(__file__)), "spawning.c")
-    subprocess.run(["gcc", "-O2", "-o", made, source], check=True)
+    made = os.path.join(folder, "spawning"), os.path.join(folder, "forking.so")
+    for name, words, out in ("spawning.c", [], made[0]), ("forking.c", ["-shared", "-fPIC"], made[1]):
+        source = os.path.join(os.path.dirname(os.path.abspath(__file__)), name)
+        subprocess.run(["gcc", "-O2", *words, "-o", out, source, "-ldl"], check=True)
     return made
 
 
@@ -106,9 +107,11 @@ class Taken:
 class Spawner:
     """Runs of a program over files, many at once, in the current folder, which is empty."""
 
-    def __init__(self, made, path, seconds=SECONDS):
+    def __init__(self, made, path, seconds=SECONDS, copies=False):
+        """With copies, runs with the same words one after the other are copies of one process, which cost less still."""
         self.program = Program(path, seconds)
-        self.driver = made and subprocess.Popen([made, self.program.path, str(seconds)], stdin=subprocess.PIPE, stdout=subprocess.PIPE)
+        words = made and [made[0], self.program.path, str(seconds)] + [made[1]] * copies
+        self.driver = words and subprocess.Popen(words, stdin=subprocess.PIPE, stdout=subprocess.PIPE)
 
     def end(self):
         self.program.end()

@@ -1,11 +1,11 @@
 /* Runs a program many times at little cost, for tools/spawned.py.
 
-   spawning PROGRAM SECONDS: reads batches of runs from standard input and writes what came of them to standard output. All numbers
+   spawning PROGRAM SECONDS [LIBRARY]: reads batches of runs from standard input and writes what came of them to standard output. All numbers
    have 4 bytes, in this machine's order. A batch is its length and then, for each run, the count of its words, each with its length,
    and the count of its files, each a name and bytes with their lengths. Each run is over its files in the current folder, which is
    empty before and behind it. What is written for a batch is its length and then, for each run, the status (below 0 a signal,
    UNENDED where it didn't end), the output with its length, and the files that hold something else than they did before, as in a
-   batch. */
+   batch. With LIBRARY, tools/forking.c compiled, runs with the same words one after the other are copies of one process. */
 
 #define _GNU_SOURCE
 #include <dirent.h>
@@ -175,6 +175,90 @@ static int32_t run(const char *program, char **words, long seconds, int nothing,
     return status_of(child, in_time, &end);
 }
 
+/* The process that is copied, and the words that it was started with. */
+static struct { pid_t number; int orders, news, text; char *words[MOST_WORDS + 2]; } server;
+
+enum { ORDERS = 198, NEWS = 199 };
+
+static int has_words(char **words)
+{
+    int i = 0;
+    for (; server.words[i] && words[i]; i++)
+        if (strcmp(server.words[i], words[i])) return 0;
+    return !server.words[i] && !words[i];
+}
+
+static void end_server(void)
+{
+    if (!server.number) return;
+    close(server.orders);
+    close(server.news);
+    close(server.text);
+    waitpid(server.number, 0, 0);
+    for (int i = 0; server.words[i]; i++) free(server.words[i]);
+    server.number = 0;
+}
+
+static void start_server(const char *program, char **words, int nothing, const char *library)
+{
+    int orders[2], news[2], text[2];
+    if (pipe2(orders, O_CLOEXEC) || pipe2(news, O_CLOEXEC) || pipe2(text, O_CLOEXEC)) fail("spawning: pipe");
+    posix_spawn_file_actions_t actions;
+    posix_spawn_file_actions_init(&actions);
+    posix_spawn_file_actions_adddup2(&actions, nothing, 0);
+    posix_spawn_file_actions_adddup2(&actions, text[1], 1);
+    posix_spawn_file_actions_adddup2(&actions, nothing, 2);
+    posix_spawn_file_actions_adddup2(&actions, orders[0], ORDERS);
+    posix_spawn_file_actions_adddup2(&actions, news[1], NEWS);
+    setenv("LD_PRELOAD", library, 1);
+    int wrong = posix_spawn(&server.number, program, &actions, 0, words, environ);
+    unsetenv("LD_PRELOAD");
+    posix_spawn_file_actions_destroy(&actions);
+    if (wrong) {
+        errno = wrong;
+        fail(program);
+    }
+    close(orders[0]);
+    close(news[1]);
+    close(text[1]);
+    server.orders = orders[1], server.news = news[0], server.text = text[0];
+    fcntl(server.text, F_SETFL, O_NONBLOCK);
+    int i = 0;
+    for (; words[i]; i++)
+        if (!(server.words[i] = strdup(words[i]))) fail("spawning: memory");
+    server.words[i] = 0;
+}
+
+/* What the copy has written so far. */
+static void take_written(struct buffer *text)
+{
+    char piece[PIECE];
+    for (ssize_t count; (count = read(server.text, piece, sizeof piece)) > 0;) append(text, piece, (size_t)count);
+}
+
+/* As `run`, by a copy of the process. */
+static int32_t run_copy(long seconds, struct buffer *text)
+{
+    uint32_t copy, status;
+    write_all(server.orders, "r", 1);
+    if (!read_all(server.news, &copy, 4)) fail("spawning: no copy");
+    struct timespec end;
+    clock_gettime(CLOCK_MONOTONIC, &end);
+    end.tv_sec += seconds;
+    int in_time = 1;
+    for (;;) {
+        struct pollfd ready[2] = { { server.news, POLLIN, 0 }, { server.text, POLLIN, 0 } };
+        in_time = poll(ready, 2, left(&end)) > 0;
+        if (!in_time) kill((pid_t)copy, SIGKILL);
+        take_written(text);
+        if (!in_time || ready[0].revents & POLLIN) break;
+    }
+    if (!read_all(server.news, &status, 4)) fail("spawning: no status");
+    take_written(text);
+    if (!in_time) return UNENDED;
+    return WIFSIGNALED(status) ? -WTERMSIG(status) : WEXITSTATUS(status);
+}
+
 /* Takes a file away; what it holds is appended unless it is what it held before. Says whether it was. */
 static int take_away(const char *name, const struct file *files, uint32_t count, struct buffer *to, struct buffer *room)
 {
@@ -211,10 +295,11 @@ static void take_files(DIR *folder, const struct file *files, uint32_t count, st
     memcpy(to->at + place, &found, 4);
 }
 
-static void one_run(char **at, const char *program, long seconds, int nothing, DIR *folder, struct buffer *to)
+static void one_run(char **at, char **own, long seconds, int nothing, DIR *folder, struct buffer *to)
 {
     static struct buffer text;
-    char *words[MOST_WORDS + 2] = { (char *)program };
+    const char *program = own[1], *library = own[3];
+    char *words[MOST_WORDS + 2] = { own[1] };
     struct file files[MOST_FILES];
     uint32_t word_count = take_number(at);
     if (word_count > MOST_WORDS) exit(2);
@@ -227,7 +312,11 @@ static void one_run(char **at, const char *program, long seconds, int nothing, D
         write_file(&files[i]);
     }
     text.length = 0;
-    int32_t status = run(program, words, seconds, nothing, &text);
+    if (library && !(server.number && has_words(words))) {
+        end_server();
+        start_server(program, words, nothing, library);
+    }
+    int32_t status = library ? run_copy(seconds, &text) : run(program, words, seconds, nothing, &text);
     append_number(to, (uint32_t)status);
     append_bytes(to, text.at, text.length);
     take_files(folder, files, file_count, to);
@@ -237,7 +326,7 @@ static void one_run(char **at, const char *program, long seconds, int nothing, D
 
 int main(int count, char **words)
 {
-    if (count != 3) return 2;
+    if (count != 3 && count != 4) return 2;
     long seconds = atol(words[2]);
     int nothing = open("/dev/null", O_RDWR | O_CLOEXEC);
     DIR *folder = opendir(".");
@@ -253,10 +342,11 @@ int main(int count, char **words)
         }
         if (!read_all(0, batch.at, length)) return 1;
         results.length = 0;
-        for (char *at = batch.at; at < batch.at + length;) one_run(&at, words[1], seconds, nothing, folder, &results);
+        for (char *at = batch.at; at < batch.at + length;) one_run(&at, words, seconds, nothing, folder, &results);
         uint32_t written = (uint32_t)results.length;
         write_all(1, (char *)&written, 4);
         write_all(1, results.at, results.length);
     }
+    end_server();
     return 0;
 }
