@@ -2,6 +2,7 @@
 use Rattle.std.proofs.Common.{◌≡◌, ◌<◌, ◌^◌, ℕ, false, List, length, bytes_eq, codes, Option, Some, None, refl, sym, subst, rules}
 use Rattle.std.specs.Prelude.{is_some}
 use Rattle.std.specs.List.{AllByRecursion as AllOf}
+use Rattle.common_laws.proofs.Options.{none_from}
 use Rattle.index_model.specs.declared.job.CacheKind.{CacheKind}
 use Rattle.index_model.specs.declared.job.CacheKind.TheVariants.{Gdb8, Gdb9, Names}
 use Rattle.index_model.specs.Sections.{Section, index_named}
@@ -32,10 +33,6 @@ isnt_types Names = refl
 
 -- ---- what is added fits
 
-none_of : (o : Option ℕ) → is_some o ≡ false → o ≡ None
-none_of (Some i) is = absurd cc
-none_of None is = refl
-
 -- one section of such a name, and strings
 module _ (file : List ℕ) (sections : List Section) (kind : CacheKind) (none : index_named sections (index_section kind) ≡ None) (bytes : List ℕ) (strings : Option (List ℕ)) where
   abbrev index : Addition
@@ -61,7 +58,7 @@ pub indexed_means_the_same : IndexedProgramsMeanTheSame
 indexed_means_the_same file b kind addition bytes small is clear apart new add size =
     let sections = b.program.sections in
     let own = index_of kind b addition add in
-    let none = none_of (index_named sections (index_section kind)) new in
+    let none = none_from (index_named sections (index_section kind)) new in
     let places = subst (HasPlaces file sections) own.is (places_fit file b kind addition small is add) in
     let short = subst (λ (a : Addition). length (added file sections a) < 2 ^ 64) own.is size in
     let index_then = index_as (index_section kind) own.bytes own.strings in

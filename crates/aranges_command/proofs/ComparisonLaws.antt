@@ -4,7 +4,7 @@ use Rattle.std.specs.Prelude.{IsOkAnd, IfSome}
 use Rattle.std.specs.Option.{ForSome}
 use Rattle.ix_base.specs.declared.fault.Fault.{Fault}
 use Rattle.file_image.specs.Images.{Image, image_of}
-use Rattle.file_image.proofs.Images.{parts_of}
+use Rattle.file_image.proofs.Images.{image_file, parts_of}
 use Rattle.index_model.specs.declared.job.Job.TheVariants.{Main}
 use Rattle.index_model.specs.declared.range.UnitRange.{UnitRange}
 use Rattle.index_model.specs.Answers.{Refused as Refuses}
@@ -32,10 +32,6 @@ use Rattle.aranges_command.specs.Compared.{SaysComparison, SaysFault}
 use Rattle.aranges_command.specs.Comparisons.{IsMapOf, SaysAranges, sets_of}
 
 -- ---- the table of a file
-
--- an image has its file
-pub image_file : (file : List ℕ) (image : Image) → image_of file ≡ Ok image → image.file ≡ file
-image_file file image is = (parts_of file image is).file
 
 module _ (image : Image) (is : image_of image.file ≡ Ok image) where
   -- what is read of the image is read of what is built of its file

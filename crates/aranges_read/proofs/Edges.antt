@@ -5,6 +5,7 @@ use Rattle.std.proofs.lemmas.Bool.{eqb-true, eq-eqb}
 use Rattle.std.proofs.lemmas.List.Elements.{Contains-append_left, Contains-append_right}
 use Rattle.std.proofs.lemmas.List.{take_all, take_more}
 use Rattle.std.proofs.lemmas.List.Concat.{flat_map-append}
+use Rattle.common_laws.proofs.Booleans.{both_on}
 use Rattle.index_model.specs.declared.range.UnitRange.{UnitRange}
 use Rattle.index_model.specs.Pieces.{edges_of}
 use Rattle.index_model.specs.Ranges.{unit_at}
@@ -68,17 +69,13 @@ module _ (table own : List UnitRange) where
 abbrev are_equal : UnitRange → UnitRange → Bool
 are_equal p q = eqb p.unit q.unit && (eqb p.range.low q.range.low && eqb p.range.end q.range.end)
 
-both : (b c : Bool) → (b && c) ≡ true → (b ≡ true) × (c ≡ true)
-both true c e = (refl, e)
-both false c e = absurd cc
-
 pub equal_pieces : (p q : UnitRange) → (are_equal p q ≡ true → p ≡ q) × (p ≡ q → are_equal p q ≡ true)
 equal_pieces p q = (to, from)
   where
     to : are_equal p q ≡ true → p ≡ q
     to e =
-        let a = both (eqb p.unit q.unit) (eqb p.range.low q.range.low && eqb p.range.end q.range.end) e in
-        let b = both (eqb p.range.low q.range.low) (eqb p.range.end q.range.end) a.1 in
+        let a = both_on (eqb p.unit q.unit) (eqb p.range.low q.range.low && eqb p.range.end q.range.end) e in
+        let b = both_on (eqb p.range.low q.range.low) (eqb p.range.end q.range.end) a.1 in
         let unit = eqb-true p.unit q.unit a.0 in
         let low = eqb-true p.range.low q.range.low b.0 in
         let end = eqb-true p.range.end q.range.end b.1 in

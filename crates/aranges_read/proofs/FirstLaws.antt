@@ -6,6 +6,7 @@ use Rattle.std.proofs.lemmas.Bool.{cases_lt, eqb-true, eq-eqb}
 use Rattle.std.proofs.lemmas.List.Elements.{Contains-append_left, Contains-append_right}
 use mathlib.Core.Logic.{◌⊎◌}
 use Rattle.common_laws.proofs.Members.{of_filter, to_filter}
+use Rattle.common_laws.proofs.Booleans.{not_both_ways}
 use Rattle.index_model.specs.declared.range.UnitRange.{UnitRange}
 use Rattle.index_model.specs.Pieces.{edges_of}
 use Rattle.index_model.specs.Ranges.{unit_at}
@@ -30,11 +31,7 @@ is_same_self None = refl
 is_same_self (Some u) = eq-eqb u u refl
 
 others : (x y : Option ℕ) → not (is_same x y) ≡ true → x ≢ y
-others x y e same = clash (is_same x y) e (subst (λ (z : Option ℕ). is_same x z ≡ true) same (is_same_self x))
-  where
-    clash : (b : Bool) → not b ≡ true → b ≡ true → ⊥
-    clash true f g = cc
-    clash false f g = cc
+others x y e same = not_both_ways (is_same x y) e (subst (λ (z : Option ℕ). is_same x z ≡ true) same (is_same_self x))
 
 -- ---- the least address with two answers
 

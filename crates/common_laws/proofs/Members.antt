@@ -1,5 +1,6 @@
 -- The members of lists.
-use Rattle.std.proofs.Common.{◌≡◌, zero, suc, Bool, true, false, cond, List, [], ◌∷◌, find, Some, refl, sym, ap, subst, ◌∙◌, arith, inl, inr, ⊎_elim}
+use Rattle.std.proofs.Common.{◌≡◌, zero, suc, Bool, true, false, cond, List, [], ◌∷◌, find, Option, Some, refl, sym, ap, subst, ◌∙◌, arith, inl, inr, ⊎_elim}
+use Rattle.std.specs.List.{last_or}
 use Rattle.std.specs.Prelude.{Contains, map, filter, flat_map}
 use Rattle.std.proofs.lemmas.Bool.{true≢false}
 use Rattle.std.proofs.lemmas.Option.{same_Some}
@@ -63,3 +64,11 @@ of_find {A = A} p (x ∷ xs) y is =
       | true ↦ λ on e. let s = same_Some x y e in (subst (Contains (x ∷ xs)) s (contains_here x xs), ap p (sym s) ∙ on)
       | false ↦ λ off e. let r = of_find p xs y e in (contains_later x xs y r.0, r.1)
     ] refl is
+
+-- the last member, or what it was before any
+pub last_member : {A : Type 0} (o : Option A) (xs : List A) (x : A) → last_or o xs ≡ Some x → (o ≡ Some x) ⊎ Contains xs x
+last_member o [] x e = inl e
+last_member o (y ∷ ys) x e = ⊎_elim
+    (λ (own : Some y ≡ Some x). inr (subst (Contains (y ∷ ys)) (same_Some y x own) (contains_here y ys)))
+    (λ (l : Contains ys x). inr (contains_later y ys x l))
+    (last_member (Some y) ys x e)

@@ -6,6 +6,7 @@ use Rattle.std.proofs.lemmas.Bool.{eq-eqb, eqb-true, leb-true, ltb-true, ltb-fal
 use Rattle.std.proofs.lemmas.List.{length-drop}
 use Rattle.std.proofs.lemmas.Slice.Eq.{bytes_eq-Decides}
 use Rattle.common_laws.proofs.Ranges.{up_to_more, up_to_none}
+use Rattle.common_laws.proofs.Booleans.{not_both_ways}
 use Rattle.ix_base.specs.declared.fault.Fault.{Fault}
 use Rattle.ix_base.specs.Reading.{Input, past, ◌>>=◌ as ◌>>=?◌}
 use Rattle.index_model.specs.declared.index_code.TheConstants.{NAMES_BUCKET}
@@ -260,11 +261,7 @@ module _ (n : Names) (opened : IsOpened n) where
       by : (o : Option ℕ) → IfSome o (λ h. (h ≡ name_hash s.name.now) × (list_any (λ c. leb 0x80 c) s.name.now ≡ false) × (0 < t.counts.buckets)) → is_other_hash t k o ≡ true → (b : Bool) → is_named n s.name.now k ≡ b → b ≡ false
       by None hash other b is = absurd cc
       by (Some h) hash other false is = refl
-      by (Some h) hash other true is = absurd (clash (eqb (nth t.hashes.numbers k) h) other (eq-eqb (nth t.hashes.numbers k) h (named_hash s.name.now h k hash.0 hash.1 hash.2 lt is)))
-        where
-          clash : (b : Bool) → not b ≡ true → b ≡ true → ⊥
-          clash true x y = cc
-          clash false x y = cc
+      by (Some h) hash other true is = absurd (not_both_ways (eqb (nth t.hashes.numbers k) h) other (eq-eqb (nth t.hashes.numbers k) h (named_hash s.name.now h k hash.0 hash.1 hash.2 lt is)))
 
   -- a name of an index without a fault has a string
   pub has_text : (k : ℕ) → k < t.counts.names → None ≡ string_at t n.strings.now n.base k → ⊥

@@ -3,7 +3,7 @@ use Rattle.std.proofs.Common.{◌≡◌, inl, inr, ℕ, Bool, true, false, cond,
 use Rattle.std.specs.Prelude.{IsOkAnd, IfSome, ⊤}
 use Rattle.ix_base.specs.declared.fault.Fault.{Fault}
 use Rattle.file_image.specs.Images.{Image, image_of}
-use Rattle.file_image.proofs.Images.{parts_of}
+use Rattle.file_image.proofs.Images.{image_file}
 use Rattle.index_model.specs.declared.entry.Entry.{Entry}
 use Rattle.index_model.specs.declared.job.CacheKind.{CacheKind}
 use Rattle.index_model.specs.declared.job.CacheKind.TheVariants.{Gdb8, Names}
@@ -131,10 +131,6 @@ module _ (image : Image) (parts : Parts) (is : AreBuiltOf image.file parts) wher
         map = b.2.1;
         entries_are = at_ok (built_of is.subject.file) b.0 (λ b. es ≡ entries_in b) b.1 table;
       }
-
--- an image has its file
-pub image_file : (file : List ℕ) (image : Image) → image_of file ≡ Ok image → image.file ≡ file
-image_file file image is = (parts_of file image is).file
 
 -- a reader of a board keeps the parts of its file
 pub built_parts : (r : Reader) → r.board.subject.cache ≡ Gdb8 → (image : Image) → image_of r.board.subject.file ≡ Ok image → AreOf r.board.subject r.kept → (parts : Parts) → parts ≡ r.kept → AreBuiltOf image.file parts

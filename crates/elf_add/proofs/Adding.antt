@@ -4,6 +4,7 @@ use Rattle.std.specs.Prelude.{bytes_eq, is_some, not, ◌&&◌, ◌||◌}
 use Rattle.std.specs.List.{list_any}
 use Rattle.std.proofs.lemmas.Bool.{ltb-false}
 use Rattle.std.proofs.lemmas.List.{append-nil, length-append, length-map, map-append}
+use Rattle.common_laws.proofs.Options.{some_of_map}
 use Rattle.index_model.specs.Sections.{Section, index_named, section_count}
 use Rattle.reach_model.specs.Added.{debug_str, new_sections, strings_alone, strings_index}
 use Rattle.elf_add.specs.declared.pieces.NewSection.{NewSection}
@@ -26,10 +27,6 @@ right_decides q r false b e h same = same
 pub any_of_views : (name : List ℕ) (ss : List NewSection) → list_any (λ s. bytes_eq s.name name) (map section_of ss) ≡ list_any (λ s. bytes_eq s.name.now name) ss
 any_of_views name [] = refl
 any_of_views name (s ∷ ss) = ap (λ b. bytes_eq s.name.now name || b) (any_of_views name ss)
-
-pub some_of_map : {A B : Type 0} (f : A → B) (o : Option A) → is_some (option_map f o) ≡ is_some o
-some_of_map f None = refl
-some_of_map f (Some x) = refl
 
 pub not_not : (b : Bool) → not (not b) ≡ b
 not_not true = refl

@@ -49,3 +49,7 @@ parts_of file i is =
     let e = same_image made i u.2 in
     let of_made : Parts file made = record { file = refl; sections = s.1; units = u.1 } in
     subst (Parts file) e of_made
+
+-- an image is that of its own file
+pub image_file : (file : List ℕ) (i : Image) → image_of file ≡ Ok i → i.file ≡ file
+image_file file i is = (parts_of file i is).file

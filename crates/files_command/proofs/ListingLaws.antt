@@ -3,7 +3,6 @@ use Rattle.std.proofs.Common.{◌≡◌, ℕ, List, Option, Some, None, Result, 
 use Rattle.std.specs.Prelude.{IfSome}
 use Rattle.ix_base.specs.declared.fault.Fault.{Fault}
 use Rattle.file_image.specs.Images.{Image, image_of}
-use Rattle.file_image.proofs.Images.{parts_of}
 use Rattle.index_model.specs.declared.job.Job.TheVariants.{Main}
 use Rattle.index_model.specs.Answers.{Refused as Refuses}
 use Rattle.index_model.specs.Faults.{Built, built_of, first_fault, IsAccepted}
@@ -24,10 +23,6 @@ use Rattle.files_command.specs.Listed.{SaysFault, SaysHits}
 use Rattle.files_command.specs.Listings.{SaysFiles, found_by}
 
 -- ---- a file without a fault
-
--- an image has its file
-pub image_file : (file : List ℕ) (image : Image) → image_of file ≡ Ok image → image.file ≡ file
-image_file file image is = (parts_of file image is).file
 
 accepted : (file : List ℕ) (b : Built) → built_of file ≡ Ok b → IsAccepted file
 accepted file b is = ap wrong_in is

@@ -6,6 +6,7 @@ use Rattle.std.proofs.lemmas.List.{drop-append-le, take-append-le, get_or_append
 use Rattle.std.proofs.lemmas.List.Quantifiers.{position-Some}
 use Rattle.std.proofs.lemmas.List.Sums.{position_or_len_is}
 use Rattle.std.proofs.lemmas.Option.{cond_some}
+use Rattle.index_model.proofs.GrownTexts.{before_stays}
 use Rattle.byteorder.specs.Endian.{little_number, little_from}
 use Rattle.ix_base.specs.Reading.{Input, past, number, before_zero, offset, input}
 use Rattle.index_model.proofs.Meanings.{bind_some}
@@ -54,17 +55,6 @@ pub offset_stays : (wide : Bool) (more : List ℕ) (i : Input) → SomeStays (on
 offset_stays wide = number_stays (cond wide 8 4)
 
 -- ---- texts
-
-before_stays : (more bs text : List ℕ) → before_zero bs ≡ Some text → before_zero (bs ++ more) ≡ Some text
-before_stays more bs text is =
-    let b = bind_some (position (λ c. eqb c 0) bs) (λ k. Some (take k bs)) text is in
-    let f = position-Some (λ c. eqb c 0) bs b.0 0 b.1 in
-    let longer = length-append bs more in
-    let there : position_or_len (λ c. eqb c 0) (bs ++ more) ≡ b.0 = position_or_len_is (λ c. eqb c 0) (bs ++ more) b.0 0 (omega (arith, f.0, longer))
-    (λ k lt. ap (λ (c : ℕ). eqb c 0) (get_or_append_left bs more 0 k (omega (arith, lt, f.0))) ∙ f.2 k lt)
-    (λ lt. ap (λ (c : ℕ). eqb c 0) (get_or_append_left bs more 0 b.0 f.0) ∙ f.1) in
-    let within : ltb b.0 (length (bs ++ more)) ≡ true = lt-ltb b.0 (length (bs ++ more)) (omega (arith, f.0, longer)) in
-    rw (there, within, take-append-le b.0 bs more (omega (arith, f.0))) b.2
 
 -- a text that stands in some bytes from a place on stands there in grown bytes
 pub text_stays : (bytes more : List ℕ) (place : ℕ) → SomeStays (λ (text : List ℕ). text) (before_zero (drop place bytes)) (before_zero (drop place (bytes ++ more)))

@@ -4,7 +4,7 @@ use Rattle.std.specs.Prelude.{Contains, option_map, option_and_then}
 use Rattle.std.specs.List.{last_or}
 use mathlib.Core.Logic.{◌⊎◌}
 use Rattle.std.proofs.lemmas.Option.{same_Some}
-use Rattle.common_laws.proofs.Members.{contains_here, contains_later, of_find, of_filter, of_flat_map, to_flat_map, to_map}
+use Rattle.common_laws.proofs.Members.{contains_here, contains_later, of_find, of_filter, of_flat_map, to_flat_map, to_map, last_member}
 use Rattle.ix_base.specs.declared.code.TheConstants.{BAD_REFERENCE, REFERENCE_CHAIN}
 use Rattle.ix_base.specs.declared.limits.TheConstants.{MAX_CHAIN_HOPS}
 use Rattle.index_model.specs.Meaning.{◌>>=◌, some_or, if_some}
@@ -98,20 +98,13 @@ module _ (p : Program) where
 
   -- ---- scopes
 
-  last_known : {A : Type 0} (o : Option A) (xs : List A) (x : A) → last_or o xs ≡ Some x → (o ≡ Some x) ⊎ Contains xs x
-  last_known o [] x e = inl e
-  last_known o (y ∷ ys) x e = ⊎_elim
-      (λ (own : Some y ≡ Some x). inr (subst (Contains (y ∷ ys)) (same_Some y x own) (contains_here y ys)))
-      (λ (l : Contains ys x). inr (contains_later y ys x l))
-      (last_known (Some y) ys x e)
-
   parent_known : (ds : List Item) (d e : Item) → parent_of ds d ≡ Some e → Contains ds e
   parent_known ds d e is =
       let above : Item → Bool = λ (x : Item). ltb x.at d.at && eqb (x.depth + 1) d.depth in
       ⊎_elim
       (λ (none : None ≡ Some e). absurd cc)
       (λ (c : Contains (filter above ds) e). (of_filter above ds e c).0)
-      (last_known None (filter above ds) e is)
+      (last_member None (filter above ds) e is)
 
   pub scope_known : (e m : Located) → known e → scope_around e ≡ Some m → known m
   scope_known e m k is = by (parent_of (items_of e.home) e.item) refl is

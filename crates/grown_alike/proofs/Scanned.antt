@@ -11,7 +11,7 @@ use Rattle.index_model.specs.Attributes.{name_value, linkage_value}
 use Rattle.index_model.specs.Program.{Walked, Located, walked, located}
 use Rattle.index_model.specs.Strings.{Texts, texts_of, text_in, some_text, own_name, own_linkage_name}
 use Rattle.index_model.specs.Faults.{none_or, scanned, scan_of}
-use Rattle.index_model.proofs.Meanings.{bind_ok, then_ok, same_ok, at_place_ok}
+use Rattle.index_model.proofs.Meanings.{bind_ok, then_ok, same_ok, at_place_ok, first_ok}
 use Rattle.grown_alike.specs.Grown.{Grows}
 use Rattle.grown_alike.proofs.Kept.{Keeps, keeps_itself, keeps_then, keeps_next, keeps_each, keeps_place}
 use Rattle.grown_alike.proofs.Gathered.{each_gave, each_given}
@@ -20,11 +20,6 @@ use Rattle.grown_alike.proofs.Texts.{in_unit_keeps, texts_keep}
 
 abbrev texts : List Section → Walked → Result (List Texts) Fault
 texts ss w = each (λ d. at_place d.item.at (texts_of ss d)) (located w)
-
--- what comes before a value was without a fault
-first_ok : {A B E : Type 0} (r : Result A E) (s : Result B E) (y : B) → (r >> s) ≡ Ok y → (x : A) × (r ≡ Ok x)
-first_ok (Ok x) s y is = (x, refl)
-first_ok (Err e) s y is = absurd cc
 
 -- an entry of one of these walks
 abbrev pub IsKnown : List Walked → Located → Type 0

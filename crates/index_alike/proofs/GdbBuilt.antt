@@ -250,7 +250,7 @@ module _ (b : Built) (made : IsMade b) where
 
 -- ---- the bytes that fit
 
-cache_fits : (x bytes : List ℕ) → gdb_cache x ≡ GdbBytes bytes → (length x < 2 ^ 32) × (x ≡ bytes)
+pub cache_fits : (x bytes : List ℕ) → gdb_cache x ≡ GdbBytes bytes → (length x < 2 ^ 32) × (x ≡ bytes)
 cache_fits x bytes is = by (leb (length x) 4294967295) refl is
   where
     by : (c : Bool) → leb (length x) 4294967295 ≡ c → cond c (GdbBytes x) DoesNotFit ≡ GdbBytes bytes → (length x < 2 ^ 32) × (x ≡ bytes)

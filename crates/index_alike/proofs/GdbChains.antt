@@ -4,7 +4,7 @@ use mathlib.Core.Logic.{◌⊎◌}
 use Rattle.std.specs.Prelude.{Contains, filter, filter_map, flat_map, codes, option_map, option_and_then, nat_le, nat_lt, ⊤, ◌==◌}
 use Rattle.std.specs.List.{cons_option, last_or}
 use Rattle.std.proofs.lemmas.Option.{option_and_then_some, same_Some}
-use Rattle.common_laws.proofs.Members.{contains_here, contains_later, of_map, of_filter, of_flat_map}
+use Rattle.common_laws.proofs.Members.{contains_here, contains_later, of_map, of_filter, of_flat_map, last_member}
 use Rattle.ix_base.specs.declared.code.TheConstants.{BAD_STRING, NAME_TOO_LONG, BAD_REFERENCE, REFERENCE_CHAIN}
 use Rattle.ix_base.specs.declared.limits.TheConstants.{MAX_STRING, MAX_CHAIN_HOPS}
 use Rattle.ix_base.specs.Reading.{before_zero}
@@ -103,10 +103,6 @@ find_member {A = A} p (y ∷ ys) x e = elim (p y) as (λ b. cond b (Some y) (fin
   | true ↦ λ here. subst (Contains (y ∷ ys)) (same_Some y x here) (contains_here y ys)
   | false ↦ λ more. contains_later y ys x (find_member p ys x more)
 ] e
-
-last_member : {A : Type 0} (o : Option A) (xs : List A) (x : A) → last_or o xs ≡ Some x → (o ≡ Some x) ⊎ Contains xs x
-last_member o [] x e = inl e
-last_member o (y ∷ ys) x e = ⊎_elim (λ (own : Some y ≡ Some x). inr (subst (Contains (y ∷ ys)) (same_Some y x own) (contains_here y ys))) (λ (l : Contains ys x). inr (contains_later y ys x l)) (last_member (Some y) ys x e)
 
 -- an item of a walk of the program
 module _ (p : Program) where

@@ -27,8 +27,12 @@ use Rattle.index_alike.proofs.GdbPositions.{HasNoZero}
 use Rattle.index_alike.proofs.GdbSteps.{then_is, some_is}
 
 -- eight bytes are zero only where the first four are
-wide_zero : (xs : List ℕ) → little_number 8 xs ≡ 0 → little_number 4 xs ≡ 0
+pub wide_zero : (xs : List ℕ) → little_number 8 xs ≡ 0 → little_number 4 xs ≡ 0
 wide_zero xs e = omega (arith, e)
+
+-- a place behind the first four bytes isn't 0
+pub none_there : (n place : ℕ) → n ≡ 0 → n ≡ place → 4 ≤ place → ⊥
+none_there n place none is le = omega (arith, none, is, le)
 
 module _ (units : List UnitHeader) (entries : List Entry) where
   abbrev pool : Pool
@@ -70,7 +74,7 @@ module _ (units : List UnitHeader) (entries : List Entry) where
         let stands = vector_stands pool v has in
         let first : field 4 0 bytes ≡ name_place pool name = field_is 4 (name_place pool name) 0 (stands_first (u32_bytes (name_place pool name)) (u32_bytes (vector_place pool v))) (omega (arith, name_low name c)) in
         let second : field 4 4 bytes ≡ vector_place pool v = field_is 4 (vector_place pool v) 4 (stands_at (size_4 (name_place pool name)) (stands_last (u32_bytes (name_place pool name)) (u32_bytes (vector_place pool v)))) (omega (arith, is_within stands, small)) in
-        let full : eqb (field 8 0 bytes) 0 ≡ false = ne_eqb (field 8 0 bytes) 0 (λ none. absurd (not_none (field 4 0 bytes) (wide_zero bytes none) first (name_behind pool name v has))) in
+        let full : eqb (field 8 0 bytes) 0 ≡ false = ne_eqb (field 8 0 bytes) 0 (λ none. absurd (none_there (field 4 0 bytes) (name_place pool name) (wide_zero bytes none) first (name_behind pool name v has))) in
         let text : string_at a (field 4 0 bytes) ≡ Some name = ap (string_at a) first ∙ name_reads name c in
         let elements : vector_at a (field 4 4 bytes) ≡ Some v = ap (vector_at a) second ∙ vector_is a (pool_bytes pool) is small (vector_place pool v) v (vector_low units few some entries name) stands in
         let known = vector_known units few some (unit_count a) (count_is units a cus types) entries name in
@@ -79,9 +83,6 @@ module _ (units : List UnitHeader) (entries : List Entry) where
         (some_is (vector_at a (field 4 4 bytes)) (fault GDB_BAD_VECTOR at) (behind_vector at name) v (Ok (Some (slot_of at name))) elements
         (then_is (list_all (λ e. ltb (unit_in e) (unit_count a)) v) (fault GDB_BAD_VECTOR at) (Ok (Some (slot_of at name))) (Ok (Some (slot_of at name))) known refl))
       where
-        not_none : (n : ℕ) → n ≡ 0 → n ≡ name_place pool name → 4 ≤ name_place pool name → ⊥
-        not_none n none is le = omega (arith, none, is, le)
-
         behind_vector : ℕ → List ℕ → List ℕ → Result (Option Slot) Fault
         behind_vector at name elements = holds_or (list_all (λ e. ltb (unit_in e) (unit_count a)) elements) (fault GDB_BAD_VECTOR at) >> Ok (Some (record { at = at; name = name; elements = elements }))
 

@@ -95,6 +95,11 @@ AreMain pool (Some m) = IsMain pool m
 
 -- ---- the whole index
 
+-- names with their zeros have a byte each at least
+pub names_low : (names : List (List ℕ)) → length names ≤ length (flat_map ended names)
+names_low [] = omega arith
+names_low (n ∷ ns) = omega (arith, length-append (ended n) (flat_map ended ns), length-append n (0 ∷ []), names_low ns)
+
 module _ (units : List UnitHeader) (entries : List Entry) (pieces : List UnitRange) (some : 0 < length units) (wide : All IsWide pieces) (clean : (name : List ℕ) → Contains (pool_of units entries).names name → HasNoZero name)
     (bytes short : List ℕ) (laid : Laid bytes (cu_list units) (types_list units) (address_area units pieces) (symbol_table units entries (pool_of units entries)) short (pool_bytes (pool_of units entries)))
     (small : length (cu_list units) + length (types_list units) + length (symbol_table units entries (pool_of units entries)) + length (pool_bytes (pool_of units entries)) < 2 ^ 32) where
@@ -106,10 +111,6 @@ module _ (units : List UnitHeader) (entries : List Entry) (pieces : List UnitRan
 
   few : length units < 2 ^ 28
   few = omega (arith, few_units units, small)
-
-  names_low : (names : List (List ℕ)) → length names ≤ length (flat_map ended names)
-  names_low [] = omega arith
-  names_low (n ∷ ns) = omega (arith, length-append (ended n) (flat_map ended ns), length-append n (0 ∷ []), names_low ns)
 
   pub few_names : length pool.names < 2 ^ 60
   few_names = omega (arith, names_low pool.names, length-append (flat_map vector_bytes pool.vectors) (flat_map ended pool.names), small)

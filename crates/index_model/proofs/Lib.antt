@@ -53,3 +53,4 @@ mod LevelSteps
 pub mod CoreRight
 pub mod LeafLaws
 pub mod SpanLeafLaws
+pub mod GrownTexts

@@ -2,10 +2,11 @@
 use Rattle.std.proofs.Common.{◌≡◌, ℕ, zero, suc, ◌-◌, ◌<◌, ◌≤◌, true, false, cond, ltb, leb, List, [], ◌∷◌, length, get_or, Option, Some, None, ◌⊎◌, inl, inr, Contains, refl, arith, ap, sym, subst, ◌∙◌}
 use Rattle.std.specs.Prelude.{◌↔◌}
 use Rattle.std.proofs.lemmas.Bool.{cases_lt, leb-true, ltb-true}
+use Rattle.common_laws.proofs.Booleans.{both_on}
 use Rattle.index_model.specs.declared.range.UnitRange.{UnitRange}
 use Rattle.index_model.specs.Ranges.{contains, unit_at}
 use Rattle.index_model.specs.Pieces.{AreApart, IsMaximal, pieces}
-use Rattle.index_model.proofs.PieceLaws.{First, behind_first, none_below, as_find, within, behind_end, nothing, equal_from, same_piece, pair, pieces_are}
+use Rattle.index_model.proofs.PieceLaws.{First, behind_first, none_below, as_find, within, behind_end, nothing, equal_from, same_piece, pieces_are}
 
 -- the first of the pieces, or one of the others
 abbrev Among : List UnitRange → UnitRange → Type 0
@@ -96,7 +97,7 @@ unfolding unit_at
 found [] a u is = absurd cc
 found (p ∷ ps) a u is = elim (contains a p.range) as (λ b. contains a p.range ≡ b → cond b (Some p.unit) (unit_at ps a) ≡ Some u → Found (p ∷ ps) a u) [
   | true ↦ λ here same.
-      let t = pair (leb p.range.low a) (ltb a p.range.end) here in
+      let t = both_on (leb p.range.low a) (ltb a p.range.end) here in
       record { piece = p; among = inl refl; low = leb-true _ _ t.0; end = ltb-true _ _ t.1; unit = cc }
   | false ↦ λ _ more. later (found ps a u more)
 ] refl (sym (as_find (contains a p.range) p ps a) ∙ is)

@@ -7,6 +7,10 @@ pub bind_ok : {A B E : Type 0} (r : Result A E) (f : A → Result B E) (y : B) �
 bind_ok (Ok x) f y is = (x, refl, is)
 bind_ok (Err d) f y is = absurd cc
 
+pub first_ok : {A B E : Type 0} (r : Result A E) (s : Result B E) (y : B) → (r >> s) ≡ Ok y → (x : A) × (r ≡ Ok x)
+first_ok (Ok x) s y is = (x, refl)
+first_ok (Err e) s y is = absurd cc
+
 pub then_ok : {A B E : Type 0} (r : Result A E) (s : Result B E) (y : B) → (r >> s) ≡ Ok y → s ≡ Ok y
 then_ok (Ok x) s y is = is
 then_ok (Err d) s y is = absurd cc

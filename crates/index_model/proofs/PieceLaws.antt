@@ -5,6 +5,7 @@ use Rattle.std.specs.List.{list_any}
 use Rattle.std.proofs.lemmas.Bool.{cases_lt, eqb-true, ltb-true}
 use Rattle.std.proofs.Common.{inl, inr}
 use Rattle.std.proofs.lemmas.Bool.Decides.{nat_tests}
+use Rattle.common_laws.proofs.Booleans.{both_on}
 use Rattle.index_model.specs.declared.range.UnitRange.{UnitRange}
 use Rattle.index_model.specs.Ranges.{contains, unit_at}
 use Rattle.index_model.specs.Ordered.{ascending, with_item}
@@ -42,10 +43,6 @@ split_test true c x u v e = refl
 split_test false true x u v e = ap (λ (n : ℕ). Some n) e
 split_test false false x u v e = refl
 
-pub pair : (b c : Bool) → (b && c) ≡ true → (b ≡ true) × (c ≡ true)
-pair true c e = (refl, e)
-pair false c e = absurd cc
-
 pub as_find : (b : Bool) (p : UnitRange) (ps : List UnitRange) (a : ℕ) → option_map (λ r. r.unit) (cond b (Some p) (find (λ u. contains a u.range) ps)) ≡ cond b (Some p.unit) (option_map (λ r. r.unit) (find (λ u. contains a u.range) ps))
 as_find true p ps a = refl
 as_find false p ps a = refl
@@ -67,7 +64,7 @@ before_good from p (q ∷ qs) low lt first apart =
     let b = behind_first q qs apart in
     elim (eqb p.range.end q.range.low && eqb p.unit q.unit) as (λ t. (eqb p.range.end q.range.low && eqb p.unit q.unit) ≡ t → Good from p (q ∷ qs) (cond t (both ∷ qs) (p ∷ q ∷ qs))) [
       | true ↦ λ is.
-          let t = pair _ _ is in
+          let t = both_on _ _ is in
           let touch : p.range.end ≡ q.range.low = eqb-true _ _ t.0 in
           let one : p.unit ≡ q.unit = eqb-true _ _ t.1 in
           record {

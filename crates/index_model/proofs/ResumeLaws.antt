@@ -4,6 +4,7 @@ use Rattle.std.specs.Prelude.{Contains, filter}
 use Rattle.std.proofs.lemmas.Bool.{eq-eqb, le-leb, lt-leb, cond-true}
 use Rattle.std.proofs.lemmas.List.Elements.{filter_map-append, filter-append}
 use Rattle.common_laws.proofs.Members.{contains_here, contains_later, contains_cases, of_map, of_filter}
+use Rattle.common_laws.proofs.Booleans.{first_off, first_on}
 use Rattle.ix_base.specs.declared.fault.Fault.{Fault}
 use Rattle.ix_base.specs.Reading.{Input}
 use Rattle.index_model.specs.declared.unit.Unit.{Unit as UnitHeader}
@@ -138,14 +139,6 @@ filter_same : (p q : Item → Bool) (ds : List Item) → ((d : Item) → Contain
 filter_same p q [] h = refl
 filter_same p q (d ∷ ds) h = ap (λ (b : Bool). cond b (d ∷ filter p ds) (filter p ds)) (h d (contains_here d ds)) ∙ ap (λ (xs : List Item). cond (q d) (d ∷ xs) xs) (filter_same p q ds (λ x c. h x (contains_later d ds x c)))
 
-and_off : (x y : Bool) → x ≡ false → (x && y) ≡ false
-and_off true y is = absurd cc
-and_off false y is = refl
-
-and_on : (x y : Bool) → x ≡ true → (x && y) ≡ y
-and_on true y is = refl
-and_on false y is = absurd cc
-
 -- ---- spans
 
 module _ (u : UnitHeader) (a : List Abbrev) (whole : Input) (e : Item) (s : Span) (from : s.from ≡ e.after) (depth : s.depth ≡ e.depth) (children : e.children ≡ true) where
@@ -181,15 +174,15 @@ module _ (u : UnitHeader) (a : List Abbrev) (whole : Input) (e : Item) (s : Span
     rest_is = ap (λ (i : Input). (left (token u a) (below e) i).tokens) at_next ∙ ap (λ (l : Levels). (left (token u a) l onward).tokens) level
 
     before_out : (d : Item) → Contains (entries r.before) d → inside d ≡ false
-    before_out d c = and_off (leb s.from d.at) (ltb d.at s.to) (lt-leb s.from d.at (omega (arith, r.earlier d c, from)))
+    before_out d c = first_off (leb s.from d.at) (ltb d.at s.to) (lt-leb s.from d.at (omega (arith, r.earlier d c, from)))
 
     own_out : inside e ≡ false
-    own_out = and_off (leb s.from e.at) (ltb e.at s.to) (lt-leb s.from e.at (omega (arith, r.own, from)))
+    own_out = first_off (leb s.from e.at) (ltb e.at s.to) (lt-leb s.from e.at (omega (arith, r.own, from)))
 
     rest_in : (d : Item) → Contains (entries rest) d → inside d ≡ in_time d
     rest_in d c =
         let b = bounded (below e) r.next rest (left_follow u a (length r.next.rest) (below e) r.next) d c in
-        and_on (leb s.from d.at) (ltb d.at s.to) (le-leb s.from d.at (omega (arith, b.0, r.place, from)))
+        first_on (leb s.from d.at) (ltb d.at s.to) (le-leb s.from d.at (omega (arith, b.0, r.place, from)))
 
     same : filter in_time (entries again.tokens) ≡ filter inside (entries w.tokens)
     same =

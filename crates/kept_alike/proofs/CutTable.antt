@@ -4,6 +4,8 @@ use Rattle.std.specs.Prelude.{bytes_eq, flat_map, Contains}
 use Rattle.std.proofs.lemmas.Bool.{ne_eqb}
 use Rattle.std.proofs.lemmas.List.{length-append, nil_from_length}
 use Rattle.std.proofs.lemmas.List.FromFn.{get_or-map-range_with_len, get_or-range_with_len, length-map-range_with_len, length-range_with_len}
+use Rattle.index_alike.proofs.GdbWhole.{names_low}
+use Rattle.index_alike.proofs.GdbTable.{none_there, wide_zero}
 use Rattle.byteorder.specs.Endian.{little_number}
 use Rattle.ix_base.specs.Reading.{Input}
 use Rattle.index_model.specs.declared.entry.Entry.{Entry}
@@ -34,15 +36,6 @@ each_at f (x ∷ xs) ys (suc k) d is lt =
     let c = bind_ok (each f xs) (λ more. Ok (b.0 ∷ more)) ys b.2 in
     each_at f xs c.0 k d c.1 (omega (arith, lt))
 
--- names have bytes
-names_low : (names : List (List ℕ)) → length names ≤ length (flat_map ended names)
-names_low [] = omega arith
-names_low (n ∷ ns) = omega (arith, length-append (ended n) (flat_map ended ns), length-append n (0 ∷ []), names_low ns)
-
--- eight bytes are zero only where the first four are
-wide_zero : (xs : List ℕ) → little_number 8 xs ≡ 0 → little_number 4 xs ≡ 0
-wide_zero xs e = omega (arith, e)
-
 module _ (units : List UnitHeader) (entries : List Entry) (small : length (pool_bytes (pool_of units entries)) < 2 ^ 32) where
   abbrev pool : Pool
   pool = pool_of units entries
@@ -67,12 +60,9 @@ module _ (units : List UnitHeader) (entries : List Entry) (small : length (pool_
       let v : List ℕ = vector units entries name in
       let low : name_place pool name < 2 ^ 32 = omega (arith, is_within (name_stands pool name c), small) in
       let place : field 4 0 bytes ≡ name_place pool name = field_is 4 (name_place pool name) 0 (stands_first (u32_bytes (name_place pool name)) (u32_bytes (vector_place pool v))) (omega (arith, low)) in
-      let full : eqb (field 8 0 bytes) 0 ≡ false = ne_eqb (field 8 0 bytes) 0 (λ none. not_none (field 4 0 bytes) (wide_zero bytes none) place (name_behind pool name v (has_vector units entries name c))) in
+      let full : eqb (field 8 0 bytes) 0 ≡ false = ne_eqb (field 8 0 bytes) 0 (λ none. none_there (field 4 0 bytes) (name_place pool name) (wide_zero bytes none) place (name_behind pool name v (has_vector units entries name c))) in
       let s = some_ok (string_at a (field 4 0 bytes)) _ _ y (ap (λ (b : Bool). cond b (Ok None) (full_slot a (record { at = at; rest = bytes }))) (sym full) ∙ is) in
       (s.0, ap (string_at a) (sym place) ∙ s.1)
-    where
-      not_none : (n : ℕ) → n ≡ 0 → n ≡ name_place pool name → 4 ≤ name_place pool name → ⊥
-      not_none n none is le = omega (arith, none, is, le)
 
   -- where all slots are read, so is the slot of each name
   name_is_read : (a : Areas) → a.table.rest ≡ symbol_table units entries pool → (ys : List (Option Slot)) → each (slot_at a) (items 8 a.table) ≡ Ok ys → (k : ℕ) → k < length names → (at : ℕ) × (y : Option Slot) × (slot_at a (record { at = at; rest = slot_bytes units entries pool (Some (get_or names k [])) }) ≡ Ok y)

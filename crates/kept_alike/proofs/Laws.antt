@@ -20,7 +20,7 @@ use Rattle.index_model.proofs.Meanings.{bind_ok, same_ok}
 use Rattle.index_model.proofs.Orders.{ascending_only, bytes_order}
 use Rattle.index_model.proofs.Scans.{AreScans, program_parts}
 use Rattle.index_alike.specs.GdbAlike.{units_in}
-use Rattle.index_alike.proofs.GdbBuilt.{alike_9}
+use Rattle.index_alike.proofs.GdbBuilt.{alike_9, cache_fits}
 use Rattle.index_alike.proofs.GdbEntries.{entry_clean}
 use Rattle.index_alike.proofs.GdbPool.{names_of_pool}
 use Rattle.index_alike.proofs.GdbPositions.{HasNoZero}
@@ -73,13 +73,6 @@ pub whole : KeptIndexesOpen
 whole file b index id is cache is_id =
     let r = alike_9 file b index is cache in
     ok_is (kept_index (kept_bytes id index) id) r.index (kept_reads id index is_id ∙ r.is)
-
-cache_fits : (x bytes : List ℕ) → gdb_cache x ≡ GdbBytes bytes → (length x < 2 ^ 32) × (x ≡ bytes)
-cache_fits x bytes is = by (leb (length x) 4294967295) refl is
-  where
-    by : (c : Bool) → leb (length x) 4294967295 ≡ c → cond c (GdbBytes x) DoesNotFit ≡ GdbBytes bytes → (length x < 2 ^ 32) × (x ≡ bytes)
-    by true e is = (omega (arith, leb-true (length x) 4294967295 e), cc)
-    by false e is = absurd cc
 
 -- no proper prefix of the index is one
 abbrev IsWhole : List ℕ → Type 0

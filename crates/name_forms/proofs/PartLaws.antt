@@ -4,6 +4,7 @@ use Rattle.std.specs.Prelude.{codes, nat_eq}
 use Rattle.std.specs.Cmp.Lexicographic.{pointwise}
 use Rattle.std.specs.List.{onto_first, ends_with, list_all}
 use Rattle.std.proofs.lemmas.Bool.{cases_Bool, eqb-true, eq-eqb, ne_eqb}
+use Rattle.common_laws.proofs.Booleans.{second_off}
 use Rattle.index_model.specs.AdaNames.{pieces, is_digit, is_letter, is_line, is_good_byte, is_good_piece}
 use Rattle.name_forms.specs.declared.parts.Part.{Part}
 use Rattle.name_forms.specs.declared.parts.Part.TheVariants as of
@@ -110,10 +111,6 @@ no_three true y z e f = absurd cc
 no_three false true z e f = absurd cc
 no_three false false z e f = f
 
-and_false : (x y : Bool) → y ≡ false → (x && y) ≡ false
-and_false true y e = e
-and_false false y e = refl
-
 both_same : (g h bs x y : Bool) → g ≡ h → x ≡ y → ((g && bs) && x) ≡ ((h && bs) && y)
 both_same g h bs x y e f = rw (e, f) refl
 
@@ -166,7 +163,7 @@ stops of.Begin b xs e = by (is_letter b) refl e
   where
     by : (t : Bool) → is_letter b ≡ t → None ≡ cond t (Some of.Inside) None → is_good (b ∷ xs) ≡ false
     by true is e = absurd cc
-    by false is e = and_false (list_all is_good_byte (b ∷ xs)) (all_good (pieces (b ∷ xs))) (begins_wrong b xs is)
+    by false is e = second_off (list_all is_good_byte (b ∷ xs)) (all_good (pieces (b ∷ xs))) (begins_wrong b xs is)
 stops of.Inside b xs e = wrong_byte b xs (all_good (pieces (97 ∷ b ∷ xs))) e
 stops of.Line b xs e = wrong_byte b xs (all_good (pieces (97 ∷ 95 ∷ b ∷ xs))) (lined (is_line b) e)
   where

@@ -3,6 +3,7 @@ use Rattle.std.proofs.Common.{◌≡◌, ℕ, Bool, true, false, cond, eqb, ◌&
 use Rattle.std.specs.Prelude.{Contains, is_some}
 use Rattle.std.specs.Borrow.{Bor}
 use Rattle.std.proofs.lemmas.Bool.{true≢false, eq-eqb, ne_eqb, cases_eq}
+use Rattle.common_laws.proofs.Options.{none_from}
 use Rattle.index_model.specs.declared.shard.Node.{Node}
 use Rattle.index_model.specs.Meaning.{◌>>=◌}
 use Rattle.index_model.specs.Faults.{program_of}
@@ -29,10 +30,6 @@ node_there ss o q n m h own found = subst (λ (r : Option Located). IsNodeIn ss 
 -- there is a node where there is an entry
 pub nothing_there : (ss : List Section) (o : Option Node) (q : Option Located) (m : Located) → IsNodeIn ss o q → o ≡ None → q ≡ Some m → ⊥
 nothing_there ss o q m h own found = subst (λ (r : Option Located). IsNodeIn ss None r) found (subst (λ (r : Option Node). IsNodeIn ss r q) own h)
-
-pub none_from : (o : Option ℕ) → is_some o ≡ false → o ≡ None
-none_from None e = refl
-none_from (Some n) e = absurd (true≢false e)
 
 -- an entry that isn't a root has a parent, and a root has none
 module _ (f : List ℕ) (p : Program) (file : program_of f ≡ Ok p) (d : Located) (c : Contains (all_entries p) d) where

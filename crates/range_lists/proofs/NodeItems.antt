@@ -2,6 +2,7 @@
 use Rattle.std.proofs.Common.{◌≡◌, ℕ, Bool, true, false, cond, eqb, leb, ◌&&◌, ◌||◌, Option, Some, None, List, refl, sym, ap, ◌∙◌}
 use Rattle.std.specs.Prelude.{pos, negsuc, is_some, option_and_then}
 use Rattle.std.specs.Option.{option_map}
+use Rattle.common_laws.proofs.Options.{some_of_map}
 use Rattle.index_model.specs.declared.shard.Node.{Node}
 use Rattle.index_model.specs.Meaning.{at_place}
 use Rattle.index_model.specs.Sections.{Section}
@@ -82,12 +83,9 @@ module _ (d : Located) (n : Node) (is : n ≡ node_facts d) where
       ap (λ (o : Option Value). at_place d.item.at (kept (ranges_by ss d.home (ranges_value d.home.unit.version d.item) o (option_map as_high n.high)))) node_low ∙
       ap (λ (o : Option High). at_place d.item.at (kept (ranges_by ss d.home (ranges_value d.home.unit.version d.item) (low_pc d.item) o))) node_high
 
-  some_map : {A B : Type 0} (f : A → B) (o : Option A) → is_some (option_map f o) ≡ is_some o
-  some_map f (Some x) = refl
-  some_map f None = refl
 
   pub node_has : has_node_ranges n ≡ has_ranges d.home.unit.version d.item
   node_has =
-      ap (λ (b : Bool). b || (is_some n.low && is_some n.high)) (sym (some_map as_value n.ranges) ∙ ap is_some node_list) ∙
-      ap (λ (b : Bool). is_some (ranges_value d.home.unit.version d.item) || (b && is_some n.high)) (sym (some_map as_value n.low) ∙ ap is_some node_low) ∙
-      ap (λ (b : Bool). is_some (ranges_value d.home.unit.version d.item) || (is_some (low_pc d.item) && b)) (sym (some_map as_high n.high) ∙ ap is_some node_high)
+      ap (λ (b : Bool). b || (is_some n.low && is_some n.high)) (sym (some_of_map as_value n.ranges) ∙ ap is_some node_list) ∙
+      ap (λ (b : Bool). is_some (ranges_value d.home.unit.version d.item) || (b && is_some n.high)) (sym (some_of_map as_value n.low) ∙ ap is_some node_low) ∙
+      ap (λ (b : Bool). is_some (ranges_value d.home.unit.version d.item) || (is_some (low_pc d.item) && b)) (sym (some_of_map as_high n.high) ∙ ap is_some node_high)

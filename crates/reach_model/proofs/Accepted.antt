@@ -5,7 +5,7 @@ use Rattle.ix_base.specs.declared.fault.Fault.{Fault}
 use Rattle.ix_base.specs.declared.code.TheConstants.{ELF_KIND, NOT_ELF, NO_DEBUG_INFO, SECTION_TABLE}
 use Rattle.index_model.specs.Meaning.{◌>>=◌, ◌>>◌, fault, holds_or}
 use Rattle.index_model.specs.Sections.{Section, begins_with, field, headers_from, ident, magic, names_fit, names_index, none_compressed, section_bytes, section_count, sections_from, sections_of, table_at, table_fits}
-use Rattle.index_model.proofs.Meanings.{bind_ok, holds_ok, same_ok, then_ok}
+use Rattle.index_model.proofs.Meanings.{bind_ok, holds_ok, same_ok, then_ok, first_ok}
 use Rattle.reach_model.proofs.Read.{ArePlain, are_plain, plain_are}
 
 pub record Accepted (f : List ℕ) (ss : List Section) : Type 0 where
@@ -23,10 +23,6 @@ pub record Accepted (f : List ℕ) (ss : List Section) : Type 0 where
   pub info : 0 < length (section_bytes ss (codes ".debug_info"))
 
 -- ---- tests one after the other
-
-then_first : {A B E : Type 0} (r : Result A E) (s : Result B E) (y : B) → (r >> s) ≡ Ok y → (x : A) × (r ≡ Ok x)
-then_first (Ok x) s y is = (x, refl)
-then_first (Err d) s y is = absurd cc
 
 last_ok : {E : Type 0} (b : Bool) (e : E) (u : record {}) → holds_or b e ≡ Ok u → b ≡ true
 last_ok true e u is = refl
@@ -74,12 +70,12 @@ module _ (f : List ℕ) where
   pub accepted : (ss : List Section) → sections_of f ≡ Ok ss → Accepted f ss
   unfolding sections_of
   accepted ss is =
-      let i = then_first (ident f) (table_fits f >> (read >>= last)) ss is in
+      let i = first_ok (ident f) (table_fits f >> (read >>= last)) ss is in
       let a = then_ok (ident f) (table_fits f >> (read >>= last)) ss is in
-      let t = then_first (table_fits f) (read >>= last) ss a in
+      let t = first_ok (table_fits f) (read >>= last) ss a in
       let b = then_ok (table_fits f) (read >>= last) ss a in
       let c = bind_ok read last ss b in
-      let p = then_first (none_compressed 1 c.0) (holds_or (has_info c.0) (fault NO_DEBUG_INFO 0) >> Ok c.0) ss c.2 in
+      let p = first_ok (none_compressed 1 c.0) (holds_or (has_info c.0) (fault NO_DEBUG_INFO 0) >> Ok c.0) ss c.2 in
       let d = then_ok (none_compressed 1 c.0) (holds_or (has_info c.0) (fault NO_DEBUG_INFO 0) >> Ok c.0) ss c.2 in
       let e = holds_ok (has_info c.0) (fault NO_DEBUG_INFO 0) (Ok c.0) ss d in
       let same : c.0 ≡ ss = same_ok c.0 ss e.1 in

@@ -5,6 +5,7 @@ use Rattle.std.proofs.lemmas.Bool.{eq-eqb, ne_eqb, lt-ltb, le-ltb, cases_eq}
 use Rattle.std.proofs.lemmas.List.{length-set, length-replicate, get_or-replicate, get_or-set_same, get_or-set_other}
 use Rattle.std.proofs.lemmas.List.Elements.{filter-append}
 use Rattle.common_laws.proofs.Filters.{filter_agree, filter_none}
+use Rattle.common_laws.proofs.Booleans.{first_off, first_on, second_off}
 use Rattle.index_model.specs.Walk.{Item, parent_of}
 use Rattle.index_model.proofs.ParentLaws.{Rise}
 use Rattle.index_model.proofs.SpanOrder.{last_push}
@@ -57,18 +58,6 @@ one_less x y some = ⊎_elim
     (λ (other : x ≡ y - 1 → ⊥). ne_eqb (x + 1) y (λ is. other (omega (arith, is))) ∙ sym (ne_eqb x (y - 1) other))
     (cases_eq x (y - 1))
 
-both_on : (x y : Bool) → x ≡ true → (x && y) ≡ y
-both_on true y is = refl
-both_on false y is = absurd cc
-
-first_off : (x y : Bool) → x ≡ false → (x && y) ≡ false
-first_off true y is = absurd cc
-first_off false y is = refl
-
-second_off : (x y : Bool) → y ≡ false → (x && y) ≡ false
-second_off true y is = is
-second_off false y is = refl
-
 module _ (n : ℕ) (passed : List Item) (d : Item) (rest : List Item) (rise : Rise n (passed ++ d ∷ rest)) where
   -- whether an entry is one above
   abbrev above : Item → Bool
@@ -84,7 +73,7 @@ module _ (n : ℕ) (passed : List Item) (d : Item) (rest : List Item) (rise : Ri
 
   below : 0 < d.depth → parent_behind passed d ≡ option_map at (parent_of (passed ++ d ∷ rest) d)
   below deep =
-      let early = filter_agree above one_up passed (λ e c. both_on (ltb e.at d.at) (eqb (e.depth + 1) d.depth) (lt-ltb e.at d.at (before_in n passed d rest rise e c)) ∙ one_less e.depth d.depth deep) in
+      let early = filter_agree above one_up passed (λ e c. first_on (ltb e.at d.at) (eqb (e.depth + 1) d.depth) (lt-ltb e.at d.at (before_in n passed d rest rise e c)) ∙ one_less e.depth d.depth deep) in
       let late = filter_none above (d ∷ rest) (λ e c. first_off (ltb e.at d.at) (eqb (e.depth + 1) d.depth) (le-ltb e.at d.at (after_in n passed d rest rise e c))) in
       let all : filter above (passed ++ d ∷ rest) ≡ filter one_up passed ++ [] = filter-append above passed (d ∷ rest) ∙ ap (λ (xs : List Item). xs ++ filter above (d ∷ rest)) early ∙ ap (λ (xs : List Item). filter one_up passed ++ xs) late in
       rw (ne_eqb d.depth 0 (λ top. omega (arith, top, deep))) (ap (λ (xs : List Item). option_map at (last_or None xs)) (sym (all ∙ append-nil (filter one_up passed))))

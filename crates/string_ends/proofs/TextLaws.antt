@@ -7,6 +7,7 @@ use Rattle.std.proofs.lemmas.List.{length-take, length-drop, get_or-take, get_or
 use Rattle.std.proofs.lemmas.List.Quantifiers.{position-Some}
 use Rattle.std.proofs.lemmas.List.Sums.{position_or_len_is, fails_before_first, passes_at_first}
 use Rattle.std.proofs.lemmas.Slice.Eq.{bytes_eq-Decides}
+use Rattle.index_model.proofs.GrownTexts.{before_stays}
 use Rattle.ix_base.specs.Reading.{before_zero}
 use Rattle.index_model.proofs.Meanings.{bind_some}
 use Rattle.string_ends.specs.Texts.{text_in, IsLastEnd}
@@ -66,25 +67,13 @@ byte_first b bs text e is =
 
 -- ---- the front of a string
 
--- a string that ends ends there in more bytes too
-stays : (more bs text : List ℕ) → before_zero bs ≡ Some text → before_zero (bs ++ more) ≡ Some text
-stays more bs text is =
-    let b = bind_some (position is_zero bs) (λ k. Some (take k bs)) text is in
-    let f = position-Some is_zero bs b.0 0 b.1 in
-    let longer = length-append bs more in
-    let there : first (bs ++ more) ≡ b.0 = position_or_len_is is_zero (bs ++ more) b.0 0 (omega (arith, f.0, longer))
-    (λ k lt. ap is_zero (get_or_append_left bs more 0 k (omega (arith, lt, f.0))) ∙ f.2 k lt)
-    (λ lt. ap is_zero (get_or_append_left bs more 0 b.0 f.0) ∙ f.1) in
-    let within : ltb b.0 (length (bs ++ more)) ≡ true = lt-ltb b.0 (length (bs ++ more)) (omega (arith, f.0, longer)) in
-    rw (there, within, take-append-le b.0 bs more (omega (arith, f.0))) b.2
-
 at_front : (bs : List ℕ) → text_in bs 0 ≡ before_zero bs
 at_front bs = rw (le-leb 0 (length bs) (omega arith)) refl
 
 -- what ends in the front is the string
 pub front_is : (m : ℕ) (rest text s : List ℕ) → before_zero rest ≡ Some text → text_in (take m rest) 0 ≡ Some s → s ≡ text
 front_is m rest text s e f =
-    let whole : before_zero (take m rest ++ drop m rest) ≡ Some s = stays (drop m rest) (take m rest) s (sym (at_front (take m rest)) ∙ f) in
+    let whole : before_zero (take m rest ++ drop m rest) ≡ Some s = before_stays (drop m rest) (take m rest) s (sym (at_front (take m rest)) ∙ f) in
     let there : Some s ≡ Some text = sym whole ∙ ap before_zero (take-append-drop m rest) ∙ e in
     cc
 

@@ -1,6 +1,7 @@
 use Rattle.std.proofs.Common.{◌≡◌, ℕ, List, Some, sym, ap, subst, ◌∙◌}
 use Rattle.std.specs.Arc.{arc_value}
 use Rattle.std.specs.Prelude.{option_map}
+use Rattle.file_image.proofs.Images.{image_file}
 use Rattle.file_image.specs.Images.{image_of}
 use Rattle.index_board.specs.Boards.{IsImage}
 use Rattle.index_model.specs.Parts.{Parts}
@@ -10,7 +11,7 @@ use Rattle.command_base.specs.Replies.{Wrote}
 use Rattle.command_base.proofs.BoardLaws.{fault_of}
 use Rattle.command_base.proofs.TableLaws.{causes_of_reply}
 use Rattle.aranges_command.specs.Comparisons.{SaysAranges}
-use Rattle.aranges_command.proofs.ComparisonLaws.{image_file, kept_map, map_of_own, of_own_file, wrote_refusal}
+use Rattle.aranges_command.proofs.ComparisonLaws.{kept_map, map_of_own, of_own_file, wrote_refusal}
 use Rattle.aranges_command.proofs.aranges.answer.Goals as goal
 
 pub returns-in-Some-clause-wrote : goal.returns-in-Some-clause-wrote

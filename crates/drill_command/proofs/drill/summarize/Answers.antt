@@ -1,5 +1,6 @@
 use Rattle.std.proofs.Common.{◌≡◌, ℕ, List, Some, sym, ap, subst, ◌∙◌}
 use Rattle.std.specs.Prelude.{option_map}
+use Rattle.file_image.proofs.Images.{image_file}
 use Rattle.file_image.specs.Images.{image_of}
 use Rattle.index_board.specs.Boards.{IsImage}
 use Rattle.index_model.specs.Parts.{Parts}
@@ -8,7 +9,7 @@ use Rattle.stage_core.specs.Outputs.{parts_seen}
 use Rattle.command_base.specs.Replies.{Wrote}
 use Rattle.command_base.proofs.BoardLaws.{fault_of}
 use Rattle.drill_command.specs.Summaries.{CausesOfSummary, SaysSummary}
-use Rattle.drill_command.proofs.DrillLaws.{built_parts, image_file, wrote_refusal}
+use Rattle.drill_command.proofs.DrillLaws.{built_parts, wrote_refusal}
 use Rattle.drill_command.proofs.drill.summarize.Goals as goal
 
 pub returns-in-Some-clause-wrote : goal.returns-in-Some-clause-wrote

@@ -1,5 +1,6 @@
 use Rattle.std.proofs.Common.{ℕ, None, Result, refl, sym, ap, subst, ◌∙◌}
 use Rattle.std.specs.Prelude.{is_some}
+use Rattle.common_laws.proofs.Options.{none_from}
 use Rattle.index_model.specs.Faults.{program_of}
 use Rattle.index_model.specs.Gives.{GivesFor}
 use Rattle.index_model.specs.Meaning.{at_place}
@@ -11,7 +12,7 @@ use Rattle.parent_resolve.specs.Scopes.{Passed, IsStep, passed_at, root_passed}
 use Rattle.parent_resolve.proofs.Entries.{found_entry}
 use Rattle.parent_resolve.proofs.NodeLaws.{node_parts}
 use Rattle.parent_resolve.proofs.Outwards.{gives_ok}
-use Rattle.parent_resolve.proofs.Steps.{node_there, nothing_there, passed_below, passed_root, none_from, root_step, root_gives_none}
+use Rattle.parent_resolve.proofs.Steps.{node_there, nothing_there, passed_below, passed_root, root_step, root_gives_none}
 use Rattle.parent_resolve.proofs.members.step_at.Goals as goal
 use Rattle.parent_resolve.proofs.members.step_at.Goals.{in_default-via-in-Some+else-is_some, in_default-via-in_default}
 
