@@ -12,8 +12,8 @@ use ix_base::MAX_FILE_BYTES;
 use outside::Shelf;
 use std::alloc::{AllocError, Global};
 
-// How many bytes are asked for in one call.
-const PIECE: usize = 1_048_576;
+// How many bytes are asked for in one call: as many as the real shelf reads at once.
+const PIECE: usize = 65536;
 
 /// The bytes that are kept under a name, which are at most as many as a file may have. They are read in pieces up to their end, a
 /// failure, or one byte past the limit.

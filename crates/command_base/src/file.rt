@@ -50,8 +50,8 @@ impl From<AllocError> for ReadStop {
     }
 }
 
-// How many bytes are asked for in one call.
-const PIECE: usize = 1_048_576;
+// How many bytes are asked for in one call: as many as the real shelf reads at once.
+const PIECE: usize = 65536;
 
 /// The bytes of the file, which are at most `limit`. It is read in pieces up to its end, a failure, or one byte past the
 /// limit.

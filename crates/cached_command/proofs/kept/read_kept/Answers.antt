@@ -4,7 +4,7 @@ use Rattle.command_base.proofs.FileReads.{same_first, same_first_on, nothing_yet
 use Rattle.cached_command.proofs.kept.read_kept.Goals as goal
 
 -- no more than one byte past the limit is asked for
-bounded_by : (new old n limit room len : ℕ) (piece : List ℕ) → new ≡ old + n → n ≤ length (take room piece) → room ≡ min 1048576 (limit + 1 - len) → len ≡ old → old ≤ limit + 1 → new ≤ limit + 1
+bounded_by : (new old n limit room len : ℕ) (piece : List ℕ) → new ≡ old + n → n ≤ length (take room piece) → room ≡ min 65536 (limit + 1 - len) → len ≡ old → old ≤ limit + 1 → new ≤ limit + 1
 bounded_by new old n limit room len piece more within is at before = omega (arith, length-take room piece)
 
 pub loop-bytes-init : goal.loop-bytes-init

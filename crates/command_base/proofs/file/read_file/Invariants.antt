@@ -12,7 +12,7 @@ invariant-loop-bytes g l = record {
   stores : g.F.Shelf.store_faults l.shelf ≡ g.F.Shelf.store_faults l.fn.shelf;
   kept_reads : g.F.Shelf.kept_faults l.shelf ≡ g.F.Shelf.kept_faults l.fn.shelf;
   bounded : vec_len l.bytes ≤ l.limit + 1;
-  room : vec_len l.piece ≡ 1048576;
+  room : vec_len l.piece ≡ 65536;
 }
 
 abbrev pub decreases-loop-bytes : goal.decreases-loop-bytes
