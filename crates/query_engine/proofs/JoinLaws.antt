@@ -5,16 +5,15 @@ use Rattle.std.proofs.lemmas.List.{get_or_append_left, get_or-append-add, get_or
 use Rattle.std.proofs.lemmas.List.Elements.{All-append, All-weaker}
 use Rattle.index_model.specs.declared.entry.Entry.{Entry}
 use Rattle.query_engine.specs.declared.marks.Mark.{Mark}
-use Rattle.query_engine.specs.declared.marks.Marked.{Marked}
-use Rattle.query_engine.specs.declared.spelling.Spelling.{Spelling}
-use Rattle.query_engine.specs.declared.way.Way.{Way}
-use Rattle.query_engine.specs.Marked.{IsMarked, IsJoined}
+use Rattle.query_engine.specs.declared.marks.Labelled.{Labelled}
+use Rattle.query_engine.specs.Labels.{labels_from}
+use Rattle.query_engine.specs.Marked.{AreLabelled, AreJoined}
 use Rattle.query_engine.specs.Marks.{text_with, pair_marked, AreMarksOf, AreNumbered, IsNumberOf, Numbers, ranked}
-use Rattle.query_engine.specs.Pairs.{Pair, pairs_from}
-use Rattle.query_engine.specs.Seen.{texts_seen}
+use Rattle.query_engine.specs.Pairs.{Pair}
+use Rattle.query_engine.specs.Seen.{labels_seen}
 use Rattle.query_engine.proofs.CountingLaws.{no_mark}
 use Rattle.query_engine.proofs.MarkLaws.{Within, grows, by_number, same_pairs, within_numbers}
-use Rattle.query_engine.proofs.PairLaws.{pairs_append}
+use Rattle.query_engine.proofs.LabelLaws.{label_list, labels_append}
 
 -- ---- texts with numbers
 
@@ -79,9 +78,9 @@ module _ (ps qs : List Pair) (ts us vs : List (List ℕ)) (ms ns : List Mark) (k
     ];
   }
 
-pub joined_marked : (way : Way) (first : ℕ) (es fs : List Entry) (m n o : Marked) → IsMarked way first es m → IsMarked way (first + length es) fs n → IsJoined m n o → IsMarked way first (es ++ fs) o
-joined_marked way first es fs m n o h g j =
+pub joined_labels : (first : ℕ) (es fs : List Entry) (m n o : Labelled) → AreLabelled first es m → AreLabelled (first + length es) fs n → AreJoined m n o → AreLabelled first (es ++ fs) o
+joined_labels first es fs m n o h g j =
     record {
-      few = omega (arith, j.texts.few, h.few, g.few, length-append es fs, length-map m.texts.list.items (λ (s : Spelling). s.bytes.now), length-map n.texts.list.items (λ (s : Spelling). s.bytes.now), length-map o.texts.list.items (λ (s : Spelling). s.bytes.now));
-      say = rw (pairs_append way first es fs, j.marks) (joined (pairs_from first way es) (pairs_from (first + length es) way fs) (texts_seen m.texts.list.items) (texts_seen n.texts.list.items) (texts_seen o.texts.list.items) m.marks.items n.marks.items j.numbers h.say g.say j.texts);
+      few = omega (arith, j.labels.few, h.few, g.few, length-append es fs, length-map m.labels.list.items label_list, length-map n.labels.list.items label_list, length-map o.labels.list.items label_list);
+      say = rw (labels_append first es fs, j.marks) (joined (labels_from first es) (labels_from (first + length es) fs) (labels_seen m.labels.list.items) (labels_seen n.labels.list.items) (labels_seen o.labels.list.items) m.marks.items n.marks.items j.numbers h.say g.say j.labels);
     }

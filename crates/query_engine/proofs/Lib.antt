@@ -4,6 +4,8 @@ pub mod TextOrder
 mod SortLaws
 mod SeenLaws
 mod PairLaws
+mod LabelLaws
+mod SpelledLaws
 mod MarkLaws
 mod SimpleLaws
 mod JoinLaws

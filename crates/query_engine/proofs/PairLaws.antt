@@ -1,18 +1,17 @@
 -- The pairs of entries that can be found one way.
-use Rattle.std.proofs.Common.{◌≡◌, ℕ, ◌+◌, ◌<◌, ◌≤◌, Bool, true, false, cond, List, [], ◌∷◌, ◌++◌, length, get_or, take, map, refl, ap, ◌∙◌, arith}
+use Rattle.std.proofs.Common.{◌≡◌, ℕ, ◌<◌, ◌≤◌, Bool, true, false, cond, List, [], ◌∷◌, length, get_or, map, refl, ap, ◌∙◌, arith}
 use Rattle.std.specs.Prelude.{bytes_eq, filter, All, option_map, unwrap_or}
 use Rattle.std.specs.List.{enumerate_from}
-use Rattle.std.proofs.lemmas.List.{map-append, take_more, length-take, length-map, append-nil}
-use Rattle.std.proofs.lemmas.List.Elements.{filter-append, All-nil, All-from_get_or, All-filter, All-map}
+use Rattle.std.proofs.lemmas.List.{length-map}
+use Rattle.std.proofs.lemmas.List.Elements.{All-nil, All-from_get_or, All-filter, All-map}
 use Rattle.std.proofs.lemmas.List.FromFn.{get_or-enumerate_from, length-enumerate_from}
 use Rattle.std.proofs.lemmas.Option.{slice_get-get_or}
 use Rattle.index_model.specs.declared.entry.Entry.{Entry}
 use Rattle.index_model.specs.Answers.{places}
 use Rattle.query_engine.specs.declared.way.Way.{Way}
 use Rattle.query_engine.specs.Asked.{is_counted, text_of, is_asked}
-use Rattle.query_engine.specs.Pairs.{Pair, pairs_from, pairs_in, has_text}
+use Rattle.query_engine.specs.Pairs.{Pair, pairs_in, has_text}
 use Rattle.query_engine.specs.Sorted.{text_of_place}
-use Rattle.query_engine.proofs.SeenLaws.{enumerate_append}
 
 abbrev Placed : Type 0
 Placed = ℕ × Entry
@@ -23,25 +22,6 @@ module _ (way : Way) where
 
   abbrev counted : Placed → Bool
   counted e = is_counted way e.1
-
-  -- ---- entries behind entries
-
-  pub pairs_append : (n : ℕ) (es fs : List Entry) → pairs_from n way (es ++ fs) ≡ pairs_from n way es ++ pairs_from (n + length es) way fs
-  pairs_append n es fs =
-      ap (λ w. map pair (filter counted w)) (enumerate_append n es fs) ∙ ap (map pair) (filter-append counted (enumerate_from n es) (enumerate_from (n + length es) fs))
-      ∙ map-append pair (filter counted (enumerate_from n es)) (filter counted (enumerate_from (n + length es) fs))
-
-  more : (n : ℕ) (es : List Entry) (i : ℕ) (e : Entry) → i < length es → e ≡ get_or es i e → pairs_from n way (take (i + 1) es) ≡ pairs_from n way (take i es) ++ pairs_from (n + i) way (e ∷ [])
-  more n es i e lt is =
-      let front : take (i + 1) es ≡ take i es ++ e ∷ [] = rw (take_more es i e lt, ← is) refl in
-      let size : length (take i es) ≡ i = omega (arith, length-take i es) in
-      ap (pairs_from n way) front ∙ pairs_append n (take i es) (e ∷ []) ∙ ap (λ (k : ℕ). pairs_from n way (take i es) ++ pairs_from (n + k) way (e ∷ [])) size
-
-  pub pairs_push : (n : ℕ) (es : List Entry) (i : ℕ) (e : Entry) → i < length es → e ≡ get_or es i e → is_counted way e ≡ true → pairs_from n way (take (i + 1) es) ≡ pairs_from n way (take i es) ++ (n + i, text_of way e) ∷ []
-  pairs_push n es i e lt is is_one = more n es i e lt is ∙ ap (λ (b : Bool). pairs_from n way (take i es) ++ map pair (cond b ((n + i, e) ∷ []) [])) is_one
-
-  pub pairs_keep : (n : ℕ) (es : List Entry) (i : ℕ) (e : Entry) → i < length es → e ≡ get_or es i e → is_counted way e ≡ false → pairs_from n way (take (i + 1) es) ≡ pairs_from n way (take i es)
-  pairs_keep n es i e lt is isnt = more n es i e lt is ∙ ap (λ (b : Bool). pairs_from n way (take i es) ++ map pair (cond b ((n + i, e) ∷ []) [])) isnt ∙ append-nil (pairs_from n way (take i es))
 
   filter_few : (xs : List Placed) → length (filter counted xs) ≤ length xs
   filter_few [] = omega arith

@@ -28,7 +28,7 @@ own_entries : (es : List Entry) (ps : List Placed) → All (StandsIn es) ps → 
 own_entries es [] all = refl
 own_entries es (p ∷ ps) all = rw (All-head (StandsIn es) p ps all) (ap (λ w. p.1 ∷ w) (own_entries es ps (All-tail (StandsIn es) p ps all)))
 
-second_all : (n : ℕ) (es : List Entry) → map (λ (e : Placed). e.1) (enumerate_from n es) ≡ es
+pub second_all : (n : ℕ) (es : List Entry) → map (λ (e : Placed). e.1) (enumerate_from n es) ≡ es
 second_all n [] = refl
 second_all n (e ∷ es) = ap (λ w. e ∷ w) (second_all (n + 1) es)
 

@@ -1,22 +1,28 @@
 -- The ways to ask for an entry (DWARF 5, 6.1.1: look-up by name).
-use Rattle.std.specs.Prelude.{ℕ, ◌≤◌, Bool, true, not, ◌&&◌, List, length, All, bytes_eq}
+use Rattle.std.specs.Prelude.{ℕ, ◌-◌, ◌≤◌, Bool, true, not, ◌&&◌, if◌then◌else◌, List, length, drop, All, bytes_eq}
 use Rattle.index_model.specs.declared.entry.Entry.{Entry}
-use Rattle.index_model.specs.Entries.{simple_of}
-use Rattle.index_model.specs.NameIndex.{string_of_entry}
 use Rattle.query_engine.specs.declared.way.Way.{Way}
 use Rattle.query_engine.specs.declared.way.Way.TheVariants.{ByName, BySimple, ByListed}
 
+-- whether entries can be found this way that are linkage entries or not
+abbrev pub counts_by : Way → Bool → Bool
+counts_by ByName linkage = true
+counts_by BySimple linkage = not linkage
+counts_by ByListed linkage = true
+
+-- the text by which they are found, by their name and the length of the simple name at its end
+abbrev pub text_by : Way → Bool → ℕ → List ℕ → List ℕ
+text_by ByName linkage tail name = name
+text_by BySimple linkage tail name = drop (length name - tail) name
+text_by ByListed linkage tail name = if linkage then name else drop (length name - tail) name
+
 -- whether the entry can be found this way
 abbrev pub is_counted : Way → Entry → Bool
-is_counted ByName e = true
-is_counted BySimple e = not e.linkage
-is_counted ByListed e = true
+is_counted way e = counts_by way e.linkage
 
 -- the text by which it is found
 abbrev pub text_of : Way → Entry → List ℕ
-text_of ByName e = e.name
-text_of BySimple e = simple_of e
-text_of ByListed e = string_of_entry e
+text_of way e = text_by way e.linkage e.tail e.name
 
 -- the entry can be found this way by the asked text
 abbrev pub is_asked : Way → List ℕ → Entry → Bool

@@ -4,6 +4,7 @@ pub mod Counts
 pub mod Front
 pub mod Groups
 pub mod Halving
+pub mod Labels
 pub mod Marked
 pub mod Marks
 pub mod Orders

@@ -1,17 +1,21 @@
 //! Sorted texts, each once, with the places of their entries.
 
-ghost use Rattle.std.specs.Prelude.{◌≡◌, ◌<◌, ◌^◌, ◌+◌, length, slice_index, IfOk, All};
+ghost use Rattle.std.specs.Prelude.{◌≡◌, ◌<◌, ◌^◌, ◌+◌, List, length, slice_index, IfOk, All};
 ghost use Rattle.std.specs.List.{list_any};
 ghost use Rattle.std.specs.Ordering.{nat_cmp};
 ghost use Rattle.std.specs.Cmp.Lexicographic.{slice_cmp};
+ghost use Rattle.index_model.specs.declared.entry.Entry.{Entry};
 ghost use Rattle.index_model.specs.Answers.{places as places_with};
 ghost use Rattle.query_engine.specs.Asked.{TailsFit, is_asked};
 ghost use Rattle.query_engine.specs.Counts.{name_count, without_linkage, is_plain};
 ghost use Rattle.query_engine.specs.declared.way.Way.TheVariants.{ByName};
+ghost use Rattle.query_engine.specs.Marked.{AreLabelled, HaveFewLabels};
 ghost use Rattle.query_engine.specs.Orders.{AreByText};
 ghost use Rattle.query_engine.specs.Sorted.{AreNamesBy, AreNamesOf, name_at, group_text};
 
 use crate::groups::{Group, groups_of};
+use crate::label::Label;
+use crate::marks::Labelled;
 use crate::order::order_of;
 use crate::spelling::Spelling;
 use crate::way::Way;
@@ -32,19 +36,18 @@ pub(crate) struct Names {
 }
 
 impl Names {
-    /// The texts of these entries, which are halved so often for threads.
+    /// The texts of the entries with these labels. Threads share the work where the entries were halved for them.
     pub fn sorted<R: Threads + Sync>(
         rt: &R,
         alloc: Global,
         way: Way,
         halvings: u32,
-        entries: &[Entry<'_>],
+        labelled: &Labelled<'_>,
     ) -> Result<Names, AllocError>
-        requires few { length entries.now < 2 ^ 32 }
-        requires tails { TailsFit entries.now }
-        ensures { IfOk result (AreNamesBy way entries.now) }
+        requires { HaveFewLabels labelled.now }
+        ensures { (entries : List Entry) → AreLabelled 0 entries labelled.now → IfOk result (AreNamesBy way entries) }
     {
-        let order = order_of(rt, alloc, way, halvings, entries)?;
+        let order = order_of(rt, alloc, way, halvings, labelled)?;
         let groups = groups_of(alloc, &order.texts, &order.ends)?;
         Ok(Names {
             way,
@@ -138,7 +141,7 @@ impl Names {
         ensures { result.now ≡ group_text entries.now self.now group }
     {
         let place = self.places[group.start as usize];
-        self.way.text(&entries[place as usize])
+        self.way.text(&Label::of(&entries[place as usize]))
     }
 }
 

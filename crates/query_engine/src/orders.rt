@@ -1,12 +1,17 @@
 //! The names of entries and their simple names, both sorted.
 
-ghost use Rattle.std.specs.Prelude.{◌<◌, ◌^◌, length, All, IfOk};
+ghost use Rattle.std.specs.Prelude.{◌<◌, ◌^◌, List, length, All, IfOk};
 ghost use Rattle.std.specs.Thread.{IsSync};
+ghost use Rattle.index_model.specs.declared.entry.Entry.{Entry};
 ghost use Rattle.query_engine.specs.Asked.{TailsFit};
-ghost use Rattle.query_engine.specs.Simple.{AreOrdersOf, IsWhole};
+ghost use Rattle.query_engine.specs.Labels.{IsWholeLabel};
+ghost use Rattle.query_engine.specs.Marked.{AreLabelled, HaveFewLabels};
+ghost use Rattle.query_engine.specs.Simple.{AreOrdersOf};
 ghost use Rattle.query_engine.specs.Sorted.{AreNamesBy};
 ghost use Rattle.query_engine.specs.declared.way.Way.TheVariants as ways;
 
+use crate::halves::marks_by_halves;
+use crate::marks::Labelled;
 use crate::names::Names;
 use crate::simple::{SimpleNames, are_whole};
 use crate::way::Way;
@@ -33,30 +38,31 @@ impl Orders {
         requires tails { TailsFit entries.now }
         ensures { IfOk result (AreOrdersOf entries.now) }
     {
-        if are_whole(entries) {
-            shared_orders(rt, alloc, halvings, entries)
+        let labelled = marks_by_halves(rt, alloc, halvings, entries, 0)?;
+        if are_whole(&labelled.labels.list) {
+            shared_orders(rt, alloc, halvings, &labelled)
         } else if halvings == 0 {
-            orders_in_turn(rt, alloc, entries)
+            orders_in_turn(rt, alloc, &labelled)
         } else {
-            orders_at_once(rt, alloc, halvings - 1, entries)
+            orders_at_once(rt, alloc, halvings, &labelled)
         }
     }
 }
 
-// One order for both, where each entry's name is its simple name.
+// One order for both, where each name is a simple name.
 fn shared_orders<R: Threads + Sync>(
     rt: &R,
     alloc: Global,
     halvings: u32,
-    entries: &[Entry<'_>],
+    labelled: &Labelled<'_>,
 ) -> Result<Orders, AllocError>
-    requires few { length entries.now < 2 ^ 32 }
-    requires tails { TailsFit entries.now }
-    requires whole { All IsWhole entries.now }
-    ensures { IfOk result (AreOrdersOf entries.now) }
+    requires few { HaveFewLabels labelled.now }
+    requires whole { All (λ l. IsWholeLabel l.linkage l.tail l.name.now) labelled.now.labels.list.items }
+    ensures { (entries : List Entry) → AreLabelled 0 entries labelled.now → IfOk result (AreOrdersOf entries) }
 {
+    let by_name = Names::sorted(rt, alloc, Way::ByName, halvings, labelled)?;
     Ok(Orders {
-        by_name: Names::sorted(rt, alloc, Way::ByName, halvings, entries)?,
+        by_name,
         by_simple: SimpleNames::Shared,
     })
 }
@@ -65,42 +71,42 @@ fn shared_orders<R: Threads + Sync>(
 fn orders_in_turn<R: Threads + Sync>(
     rt: &R,
     alloc: Global,
-    entries: &[Entry<'_>],
+    labelled: &Labelled<'_>,
 ) -> Result<Orders, AllocError>
-    requires few { length entries.now < 2 ^ 32 }
-    requires tails { TailsFit entries.now }
-    ensures { IfOk result (AreOrdersOf entries.now) }
+    requires { HaveFewLabels labelled.now }
+    ensures { (entries : List Entry) → AreLabelled 0 entries labelled.now → IfOk result (AreOrdersOf entries) }
 {
-    let by_name = Names::sorted(rt, alloc, Way::ByName, 0, entries)?;
-    let by_simple = Names::sorted(rt, alloc, Way::BySimple, 0, entries)?;
+    let by_name = Names::sorted(rt, alloc, Way::ByName, 0, labelled)?;
+    let by_simple = Names::sorted(rt, alloc, Way::BySimple, 0, labelled)?;
     Ok(Orders {
         by_name,
         by_simple: SimpleNames::Own(by_simple),
     })
 }
 
-// The same by two threads, each of which halves the entries so often for others.
+// The same by two threads.
 fn orders_at_once<R: Threads + Sync>(
     rt: &R,
     alloc: Global,
     halvings: u32,
-    entries: &[Entry<'_>],
+    labelled: &Labelled<'_>,
 ) -> Result<Orders, AllocError>
-    requires few { length entries.now < 2 ^ 32 }
-    requires tails { TailsFit entries.now }
-    ensures { IfOk result (AreOrdersOf entries.now) }
+    requires { HaveFewLabels labelled.now }
+    ensures { (entries : List Entry) → AreLabelled 0 entries labelled.now → IfOk result (AreOrdersOf entries) }
 {
     let names = || -> Result<Names, AllocError>
-        requires { IsSync R.row × (length entries.now < 2 ^ 32) × TailsFit entries.now }
-        ensures { IfOk result (AreNamesBy ways.ByName entries.entry.now) }
-    { Names::sorted(rt, alloc, Way::ByName, halvings, entries) };
+        requires { IsSync R.row × HaveFewLabels labelled.now }
+        ensures { (entries : List Entry) → AreLabelled 0 entries labelled.entry.now → IfOk result (AreNamesBy ways.ByName entries) }
+    { Names::sorted(rt, alloc, Way::ByName, halvings, labelled) };
     let simple = || -> Result<Names, AllocError>
-        requires { IsSync R.row × (length entries.now < 2 ^ 32) × TailsFit entries.now }
-        ensures { IfOk result (AreNamesBy ways.BySimple entries.entry.now) }
-    { Names::sorted(rt, alloc, Way::BySimple, halvings, entries) };
+        requires { IsSync R.row × HaveFewLabels labelled.now }
+        ensures { (entries : List Entry) → AreLabelled 0 entries labelled.entry.now → IfOk result (AreNamesBy ways.BySimple entries) }
+    { Names::sorted(rt, alloc, Way::BySimple, halvings, labelled) };
     let (names, simple) = join(rt, names, simple);
+    let by_name = names?;
+    let by_simple = simple?;
     Ok(Orders {
-        by_name: names?,
-        by_simple: SimpleNames::Own(simple?),
+        by_name,
+        by_simple: SimpleNames::Own(by_simple),
     })
 }

@@ -1,10 +1,10 @@
 //! How entries are found by their simple names.
 
 ghost use Rattle.std.specs.Prelude.{IsTrue, All};
-ghost use Rattle.query_engine.specs.Simple.{IsWhole};
+ghost use Rattle.query_engine.specs.Labels.{IsWholeLabel};
 
+use crate::label::Label;
 use crate::names::Names;
-use index_model::Entry;
 
 /// The distinct simple names, ascending.
 #[derive(Drop)]
@@ -14,12 +14,12 @@ pub(crate) enum SimpleNames {
     Own(Names),
 }
 
-/// Whether each entry's name is its simple name. A linkage entry has none.
-pub(crate) fn are_whole(entries: &[Entry<'_>]) -> bool
-    ensures { IsTrue result → All IsWhole entries.now }
+/// Whether each name is a simple name. Linkage entries have none.
+pub(crate) fn are_whole(labels: &[Label<'_>]) -> bool
+    ensures { IsTrue result → All (λ l. IsWholeLabel l.linkage l.tail l.name.now) labels.now }
 {
-    for entry in entries {
-        if entry.linkage || entry.tail as usize != entry.name.bytes().len() {
+    for label in labels {
+        if !label.is_whole() {
             return false;
         }
     }

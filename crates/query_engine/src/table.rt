@@ -10,6 +10,7 @@ ghost use Rattle.query_engine.specs.Sorted.{AreNamesOf};
 ghost use Rattle.query_engine.specs.declared.way.Way.TheVariants.{ByListed};
 ghost use Rattle.query_engine.specs.Texts.{table_names};
 
+use crate::marks::marks_of;
 use crate::names::Names;
 use crate::order::order_alone;
 use crate::orders::Orders;
@@ -143,7 +144,10 @@ impl<'f> Table<'f> {
     {
         match &self.by_simple {
             SimpleNames::Shared => Ok(self.by_name.all_places(alloc, &self.entries)?),
-            SimpleNames::Own(_) => Ok(order_alone(alloc, Way::ByListed, &self.entries)?.places),
+            SimpleNames::Own(_) => {
+                let labelled = marks_of(alloc, &self.entries, 0)?;
+                Ok(order_alone(alloc, Way::ByListed, &labelled)?.places)
+            }
         }
     }
 

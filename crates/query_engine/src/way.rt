@@ -1,9 +1,9 @@
 //! The ways to ask for an entry: by its name, by its simple name, or by the one under which a `.debug_names` lists it.
 
-ghost use Rattle.std.specs.Prelude.{◌≡◌, ◌≤◌, length};
-ghost use Rattle.query_engine.specs.Asked.{is_counted, text_of};
+ghost use Rattle.std.specs.Prelude.{◌≡◌};
+ghost use Rattle.query_engine.specs.Asked.{counts_by, text_by};
 
-use index_model::Entry;
+use crate::label::Label;
 
 /// The way in which entries are asked for.
 #[derive(Clone, Copy)]
@@ -15,28 +15,27 @@ pub(crate) enum Way {
 }
 
 impl Way {
-    /// Whether the entry can be found this way. A linkage entry has no simple name.
-    pub fn counts(self, entry: &Entry<'_>) -> bool
-        ensures { result ≡ is_counted self entry.now }
+    /// Whether entries with this label can be found this way. A linkage entry has no simple name.
+    pub fn counts(self, label: &Label<'_>) -> bool
+        ensures { result ≡ counts_by self label.now.linkage }
     {
         match self {
             Way::ByName => true,
-            Way::BySimple => !entry.linkage,
+            Way::BySimple => !label.linkage,
             Way::ByListed => true,
         }
     }
 
     /// The text that the asked name is compared with.
-    pub fn text<'r>(self, entry: &'r Entry<'_>) -> &'r [u8]
-        requires { entry.now.tail ≤ length entry.now.name }
-        ensures { result.now ≡ text_of self entry.now }
+    pub fn text<'r>(self, label: &Label<'r>) -> &'r [u8]
+        ensures { result.now ≡ text_by self label.now.linkage label.now.tail label.now.name.now }
     {
-        let name = entry.name.bytes();
-        let simple = &name[name.len() - entry.tail as usize..];
+        let name = label.name;
+        let simple = &name[name.len() - label.tail as usize..];
         match self {
             Way::ByName => name,
             Way::BySimple => simple,
-            Way::ByListed => if entry.linkage { name } else { simple },
+            Way::ByListed => if label.linkage { name } else { simple },
         }
     }
 }

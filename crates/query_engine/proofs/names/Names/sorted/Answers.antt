@@ -9,12 +9,12 @@ use Rattle.query_engine.proofs.names.Names.sorted.Goals as goal
 pub groups_of-requires : goal.groups_of-requires
 groups_of-requires g c =
     let o = c.in_ok-order.order in
-    let h = c.in_ok-order.ensures in
+    let h = c.in_ok-order.ensures c.requires.entries c.requires.labelled in
     rw (c.deref.ensures.value, c.deref-2.ensures.value) (omega (arith, h.put.size, length-map o.texts.items (λ (s : Spelling). s.bytes.now)))
 
 pub returns : goal.returns
-returns g c =
+returns g c es labelled =
     let o = c.in_ok-order.order in
-    let h = c.in_ok-order.ensures in
+    let h = c.in_ok-order.ensures es labelled in
     let groups : AreGroupsOf (texts_seen o.texts.items) o.ends.items c.in_ok-groups.groups.items = rw (← c.deref.ensures.value, ← c.deref-2.ensures.value) c.in_ok-groups.ensures in
-    record { way_is = refl; own = are_names c.args.entries.now _ (texts_seen o.texts.items) h.marks o.ends.items h.ascending h.say h.put groups }
+    record { way_is = refl; own = are_names es _ (texts_seen o.texts.items) h.marks o.ends.items h.ascending h.say h.put groups }

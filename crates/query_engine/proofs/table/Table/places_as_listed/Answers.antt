@@ -1,4 +1,4 @@
-use Rattle.std.proofs.Common.{List, ◌∙◌, subst}
+use Rattle.std.proofs.Common.{List, length, ap, ◌∙◌, subst, arith}
 use Rattle.std.specs.Prelude.{All}
 use Rattle.index_model.specs.declared.entry.Entry.{Entry}
 use Rattle.query_engine.specs.declared.way.Way.{Way}
@@ -18,9 +18,12 @@ returns-in_ok-all_places-in-Shared c =
     subst (λ (es : List Entry). AreByText ByListed es ps) c.self.view_is
     (by_listed c.self.inside.entries.items ps whole (subst (λ (es : List Entry). AreByText ByName es ps) c.deref.ensures.value named))
 
+pub order_alone-requires : goal.order_alone-requires
+order_alone-requires c = record { entries = c.deref-in-Own.result.now; labelled = c.in_ok-labelled-in-Own.ensures; few = omega (arith, c.self.invariant.few, ap length c.deref-in-Own.ensures.value) }
+
 pub returns-in_ok-order_alone-in-Own : goal.returns-in_ok-order_alone-in-Own
 returns-in_ok-order_alone-in-Own c =
     let o = c.in_ok-order_alone-in-Own.field-0 in
-    let h = c.in_ok-order_alone-in-Own.ensures in
+    let h = c.in_ok-order_alone-in-Own.ensures c.deref-in-Own.result.now c.in_ok-labelled-in-Own.ensures in
     subst (λ (es : List Entry). AreByText ByListed es o.places.items) (c.deref-in-Own.ensures.value ∙ c.self.view_is)
     (are_by_text ByListed c.deref-in-Own.result.now (texts_seen o.texts.items) h.marks o.places.items o.ends.items h.ascending h.say h.put)

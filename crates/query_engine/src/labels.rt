@@ -1,15 +1,16 @@
-//! Texts, numbered in the order of their first uses.
+//! Labels, numbered in the order of their first uses.
 
 ghost use Rattle.std.specs.Prelude.{◌≡◌, ◌<◌, ◌≤◌, ◌^◌, ◌+◌, length, IsTrue, IfOk, OnOk};
 ghost use Rattle.query_engine.specs.Marks.{AreNumbered, IsAt, IsNumberOf, Numbers};
-ghost use Rattle.query_engine.specs.Seen.{texts_seen};
+ghost use Rattle.query_engine.specs.Labels.{labelled};
+ghost use Rattle.query_engine.specs.Seen.{labels_seen};
 
-use crate::spelling::Spelling;
+use crate::label::Label;
 use std::alloc::{AllocError, Global};
 use std::hash::{FoldHasher, Hasher};
 use std::mem::replace;
 
-// A text has one of so many slots, from the one of its hash on.
+// A label has one of so many slots, from the one of its hash on.
 const PROBES: usize = 32;
 
 // The slots of an empty table, and the most that one has: powers of two, less 1.
@@ -17,17 +18,17 @@ const FIRST_MASK: u32 = 1023;
 
 const LAST_MASK: u32 = 1073741823;
 
-// So many bytes of a text are hashed.
+// So many bytes of a name are hashed.
 const HASHED: usize = 256;
 
-// What a slot holds: the number of a text, and the hash of it.
+// What a slot holds: the number of a label, and the hash of it.
 #[derive(Clone, Copy)]
 struct Slot {
     hash: u32,
     number: u32,
 }
 
-// Where a text stands.
+// Where a label stands.
 #[derive(Clone, Copy)]
 enum Place {
     // It has this number.
@@ -38,72 +39,72 @@ enum Place {
     Crowded,
 }
 
-/// Texts, each with its index as its number. They are found by a table of slots, where a text without a free slot near that of
-/// its hash isn't entered: it has another number at each use. So whatever texts a file has, a text costs a few comparisons
+/// Labels, each with its index as its number. They are found by a table of slots, where a label without a free slot near that of
+/// its hash isn't entered: it has another number at each use. So whatever names a file has, a label costs a few comparisons
 /// here, and one more in what sorts them.
 #[derive(Drop)]
-pub(crate) struct Texts<'r> {
-    pub list: Vec<Spelling<'r>>,
+pub(crate) struct Labels<'r> {
+    pub list: Vec<Label<'r>>,
     slots: Vec<Option<Slot>>,
     mask: u32,
 }
 
-impl<'r> Texts<'r> {
-    /// No texts.
-    pub fn new(alloc: Global) -> Result<Texts<'r>, AllocError>
+impl<'r> Labels<'r> {
+    /// No labels.
+    pub fn new(alloc: Global) -> Result<Labels<'r>, AllocError>
         ensures { IfOk result (λ t. length t.list.items ≡ 0) }
     {
-        Ok(Texts {
+        Ok(Labels {
             list: Vec::new(alloc),
             slots: free_slots(alloc, FIRST_MASK)?,
             mask: FIRST_MASK,
         })
     }
 
-    /// The number of a text, which is a new one where it isn't found.
-    pub fn number(&mut self, alloc: Global, text: &'r [u8]) -> Result<u32, AllocError>
+    /// The number of a label, which is a new one where it isn't found.
+    pub fn number(&mut self, alloc: Global, label: &Label<'r>) -> Result<u32, AllocError>
         requires { length self.now.list.items < 2 ^ 32 }
-        ensures { IfOk result (λ n. Numbers (texts_seen self.old.list.items) (texts_seen self.new.list.items) text.now n) }
+        ensures { IfOk result (λ n. Numbers (labels_seen self.old.list.items) (labels_seen self.new.list.items) (labelled label.now.linkage label.now.tail label.now.name.now) n) }
     {
-        let hash = hash_of(text);
+        let hash = hash_of(label);
         let number = self.list.len() as u32;
-        match self.place_of(text, hash) {
+        match self.place_of(label, hash) {
             Place::Known(known) => return Ok(known),
             Place::Free(at) => self.enter(at, Slot { hash, number }),
             Place::Crowded => {}
         }
-        self.list.push(Spelling::new(text))?;
+        self.list.push(*label)?;
         if self.list.len() > self.mask as usize / 2 && self.mask < LAST_MASK {
             self.widen(alloc)?;
         }
         Ok(number)
     }
 
-    /// The numbers of these texts, one after the other.
+    /// The numbers of these labels, one after the other.
     pub fn numbers_of(
         &mut self,
         alloc: Global,
-        texts: &[Spelling<'r>],
+        labels: &[Label<'r>],
     ) -> Result<Vec<u32>, AllocError>
-        requires { length self.now.list.items + length texts.now ≤ 2 ^ 32 }
-        ensures { IfOk result (λ v. AreNumbered (texts_seen self.old.list.items) (texts_seen texts.now) (texts_seen self.new.list.items) v.items) }
+        requires { length self.now.list.items + length labels.now ≤ 2 ^ 32 }
+        ensures { IfOk result (λ v. AreNumbered (labels_seen self.old.list.items) (labels_seen labels.now) (labels_seen self.new.list.items) v.items) }
     {
-        let mut numbers = Vec::with_capacity(alloc, texts.len())?;
-        for text in texts {
-            numbers.push(self.number(alloc, text.bytes)?)?;
+        let mut numbers = Vec::with_capacity(alloc, labels.len())?;
+        for label in labels {
+            numbers.push(self.number(alloc, label)?)?;
         }
         Ok(numbers)
     }
 
-    // Where a text with this hash stands.
-    fn place_of(&self, text: &[u8], hash: u32) -> Place
-        ensures { IsAt (texts_seen self.now.list.items) text.now result }
+    // Where a label with this hash stands.
+    fn place_of(&self, label: &Label<'_>, hash: u32) -> Place
+        ensures { IsAt (labels_seen self.now.list.items) (labelled label.now.linkage label.now.tail label.now.name.now) result }
     {
         let start = (hash & self.mask) as usize;
         for at in start..start + PROBES {
             match self.slots.get(at).copied() {
                 Some(Some(slot)) => {
-                    if slot.hash == hash && self.has(slot.number, text) {
+                    if slot.hash == hash && self.has(slot.number, label) {
                         return Place::Known(slot.number);
                     }
                 }
@@ -114,12 +115,12 @@ impl<'r> Texts<'r> {
         Place::Crowded
     }
 
-    // Whether the text has this number.
-    fn has(&self, number: u32, text: &[u8]) -> bool
-        ensures { IsTrue result → IsNumberOf (texts_seen self.now.list.items) text.now number }
+    // Whether the label has this number.
+    fn has(&self, number: u32, label: &Label<'_>) -> bool
+        ensures { IsTrue result → IsNumberOf (labels_seen self.now.list.items) (labelled label.now.linkage label.now.tail label.now.name.now) number }
     {
         let number = number as usize;
-        number < self.list.len() && self.list[number].bytes == text
+        number < self.list.len() && self.list[number].is(label)
     }
 
     // Fills a slot.
@@ -146,7 +147,7 @@ impl<'r> Texts<'r> {
         Ok(())
     }
 
-    // Fills slots as these are filled. The hashes stand there, so no text is read.
+    // Fills slots as these are filled. The hashes stand there, so no name is read.
     fn enter_all(&mut self, slots: &[Option<Slot>])
         ensures { self.new.list ≡ self.old.list }
     {
@@ -159,7 +160,7 @@ impl<'r> Texts<'r> {
         }
     }
 
-    // The first free slot for a text with this hash.
+    // The first free slot for a label with this hash.
     fn free_place(&self, hash: u32) -> Option<usize> {
         let start = (hash & self.mask) as usize;
         for at in start..start + PROBES {
@@ -171,12 +172,14 @@ impl<'r> Texts<'r> {
     }
 }
 
-// The low 32 bits of a hash of the length and of the last bytes, so that entries which share one long text don't cost all its
+// The low 32 bits of a hash of all but the front of a long name, so that entries which share one long text don't cost all its
 // bytes each.
-fn hash_of(text: &[u8]) -> u32 {
+fn hash_of(label: &Label<'_>) -> u32 {
+    let name = label.name;
     let mut hasher = FoldHasher::default();
-    hasher.write_u64(text.len() as u64);
-    hasher.write(&text[text.len().saturating_sub(HASHED)..]);
+    hasher.write_u64(name.len() as u64);
+    hasher.write_u64(u64::from(label.tail) * 2 + u64::from(label.linkage));
+    hasher.write(&name[name.len().saturating_sub(HASHED)..]);
     (hasher.finish() & 0xFFFF_FFFF) as u32
 }
 

@@ -1,5 +1,5 @@
 use Rattle.std.proofs.Common.{◌≡◌}
-use Rattle.query_engine.proofs.texts.Texts.enter_all.Given as goal
+use Rattle.query_engine.proofs.labels.Labels.enter_all.Given as goal
 
 abbrev pub invariant-loop-slot : goal.invariant-loop-slot
 invariant-loop-slot l = l.self.list ≡ l.initial.self.list
