@@ -29,7 +29,7 @@ LOOK_GDB = ["look", "gdb", "FILE", "name", "y"]
 LOOK_NAMES = ["look", "names", "FILE", "STRINGS", "name", "zz"]
 # Why a row may grow with the square.
 TABLES = "a table of abbreviations is read for each unit that has another than the one before"
-TEXTS = "names that are parts of one text are compared and hashed one by one"
+TEXTS = "names that are one text are compared one by one"
 LONG = "the answer itself is that long"
 LISTS = "a list of ranges is read for each that has it"
 IMPORTS = "the importers of a partial unit are looked for one by one"
@@ -46,8 +46,8 @@ ROWS = [
     (programs.many_tables, 8000, ASK, TABLES),
     (programs.a_wide_abbreviation, 16000, ASK, None),
     (programs.one_string, 8000, GDB8, TEXTS),
-    (programs.ends_of_a_string, 4000, GDB8, TEXTS),
-    (programs.ends_of_a_string, 4000, NAMES, TEXTS),
+    (programs.ends_of_a_string, 4000, GDB8, LONG),
+    (programs.ends_of_a_string, 4000, NAMES, LONG),
     (programs.ada_names, 1000, GDB8, LONG),
     (programs.one_hash, 10000, GDB8, None),
     (programs.one_hash, 10000, NAMES, None),
