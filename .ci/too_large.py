@@ -102,12 +102,29 @@ def with_as_long_a_kept_index(folder):
     return words, (status, text.replace(b"82", b"80"))
 
 
+def with_a_long_program(folder):
+    """Behind the program stand zeros up to a byte beyond the limit."""
+    nested(folder, 0, b"n")
+    os.truncate(os.path.join(folder, "A"), FILE + 1)
+    return ASKED, (10, b"file too big\n")
+
+
+def with_as_long_a_program(folder):
+    with_a_long_program(folder)
+    os.truncate(os.path.join(folder, "A"), FILE)
+    return ASKED, (0, b"none\n")
+
+
 # Of each code that no row gives: what has one thing more than is allowed, and what has just as much.
 CASES = {
     22: (with_many_units, with_as_many_units),
     24: (with_a_long_string, with_a_long_name, with_as_long_a_string, with_as_long_a_name),
     82: (with_a_long_kept_index, with_as_long_a_kept_index),
 }
+# The same of a file that is no fault.
+FILES = (with_a_long_program, with_as_long_a_program)
+# So many bytes of addresses are enough for each: room is taken by what is there, and not by how long the file is.
+ADDRESSES = 16 << 30
 
 
 def sentence_of(text):
@@ -121,7 +138,8 @@ def differs(program, make):
     with tempfile.TemporaryDirectory() as folder:
         words, wanted = make(folder)
         began = time.monotonic()
-        child = subprocess.Popen([program, *words], cwd=folder, stdout=subprocess.PIPE, stderr=subprocess.PIPE)
+        limit = lambda: resource.setrlimit(resource.RLIMIT_AS, (ADDRESSES, ADDRESSES))
+        child = subprocess.Popen([program, *words], cwd=folder, stdout=subprocess.PIPE, stderr=subprocess.PIPE, preexec_fn=limit)
         out, err = child.communicate()
         took = "%.1f seconds" % (time.monotonic() - began)
         kept = os.path.join(folder, KEPT_NAME)
@@ -136,7 +154,7 @@ def differs(program, make):
 
 def main():
     program, failed, passed = os.path.abspath(sys.argv[1]), 0, 0
-    for make in (make for makes in CASES.values() for make in makes):
+    for make in (*(make for makes in CASES.values() for make in makes), *FILES):
         wrong, took = differs(program, make)
         most = resource.getrusage(resource.RUSAGE_CHILDREN).ru_maxrss >> 10
         print("too large: %s: %s, at most %d MiB so far%s" % (make.__name__, took, most, ": " + wrong if wrong else ""), flush=True)

@@ -3,8 +3,8 @@
 
 Makes files that cost more than their length (tools/costly), each at three sizes that double, and measures PROGRAM over them: processor
 seconds and greatest memory with one worker. From size to size both may double and grow by a logarithm; where they grow faster the row
-fails, if it does so twice, unless its kind is told below as one that does, with the reason. --times multiplies the sizes. The last line is
-'cost: N passed, M failed'."""
+fails, if it does so twice, unless its kind is told below as one that does, with the reason. A row also fails where memory was wanted.
+--times multiplies the sizes. The last line is 'cost: N passed, M failed'."""
 import argparse
 import math
 import os
@@ -21,6 +21,8 @@ SIZES = 3
 MOST_GROWTH = 2.7
 # What takes less than this isn't compared: processor seconds, and bytes of memory.
 LEAST_SECONDS, LEAST_BYTES = 0.3, 48 << 20
+# The status where memory was refused.
+NO_MEMORY = 7
 
 ASK = ["ask", "--workers", "1", "FILE", "main"]
 GDB8 = ["index", "--as", "gdb8", "--workers", "1", "FILE", "OUT"]
@@ -44,6 +46,7 @@ ROWS = [
     (programs.deep_scopes, 2000, ASK, None),
     (programs.two_tables, 8000, ASK, TABLES),
     (programs.many_tables, 8000, ASK, TABLES),
+    (programs.one_table, 8000, ASK, None),
     (programs.a_wide_abbreviation, 16000, ASK, None),
     (programs.one_string, 8000, GDB8, TEXTS),
     (programs.ends_of_a_string, 4000, GDB8, LONG),
@@ -51,6 +54,8 @@ ROWS = [
     (programs.ada_names, 1000, GDB8, LONG),
     (programs.one_hash, 10000, GDB8, None),
     (programs.one_hash, 10000, NAMES, None),
+    (programs.many_names, 50000, GDB8, None),
+    (programs.many_names, 50000, NAMES, None),
     (programs.ranges_of_all_units, 500, ASK, LISTS),
     (programs.ranges_of_all_functions, 500, ASK, LISTS),
     (programs.imports, 20000, ASK, IMPORTS),
@@ -67,6 +72,7 @@ ROWS = [
     (indexes.slots_of_one_hash, 4000, LOOK_GDB, None),
     (indexes.slots_of_ends, 8000, LOOK_GDB, None),
     (indexes.a_wide_abbreviation, 16000, LOOK_NAMES, None),
+    (indexes.many_abbreviations, 16000, LOOK_NAMES, None),
     (indexes.one_string, 80000, LOOK_NAMES, None),
     (indexes.one_list, 16000, LOOK_NAMES, None),
     (indexes.hashed_ends, 16000, LOOK_NAMES, None),
@@ -164,11 +170,12 @@ def main():
             cheap = is_cheap(runs)
             if cheap:
                 break
-        if cheap or why:
+        wants_memory = any(run.status == NO_MEMORY for _, run in runs)
+        if (cheap or why) and not wants_memory:
             passed += 1
         else:
             failed += 1
-        told = "" if cheap else ": " + (why or "grows faster than its file")
+        told = ": wants memory" if wants_memory else "" if cheap else ": " + (why or "grows faster than its file")
         print("%s, %s: %s%s" % (name, " ".join(words[:3]), "; ".join("%d bytes %s" % one for one in runs), told), flush=True)
     print("cost: %d passed, %d failed" % (passed, failed))
     return 1 if failed else 0

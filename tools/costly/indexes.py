@@ -1,7 +1,7 @@
 """Finished indexes of little length that cost more than their length. Of a `.debug_names` the second value are its strings."""
 import struct
 
-from costly.dwarf import spellings
+from costly.dwarf import spellings, uleb
 
 ELEMENTS = struct.pack("<II", 1, 0x10000000)
 ABBREVIATION = b"\1\x16\3\x13"
@@ -89,6 +89,13 @@ def a_wide_abbreviation(n):
     """n entries of five bytes, each with n attributes of no bytes"""
     wide = ABBREVIATION + b"\x7e\x19" * n + b"\0\0\0"
     return _name_index(1, wide, b"\1\1\0\0\0" * n + b"\0"), b"y\0"
+
+
+def many_abbreviations(n):
+    """n entries of five bytes and more, each with an abbreviation of its own"""
+    codes = [uleb(code) for code in range(1, n + 1)]
+    table = b"".join(code + ABBREVIATION[1:] + b"\0\0" for code in codes) + b"\0"
+    return _name_index(1, table, b"".join(code + bytes(4) for code in codes) + b"\0"), b"y\0"
 
 
 def one_string(n):
