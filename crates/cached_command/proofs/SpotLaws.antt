@@ -18,8 +18,8 @@ use Rattle.command_base.specs.declared.status.Status.{Status}
 use Rattle.command_base.specs.declared.status.Status.TheVariants.{Answered, Refused, Usage, ReadFault, StoreFault, WriteFault, NoMemory, IndexRefused, TableRefused, IndexTooLarge, FileTooBig, AlreadyIndexed, TooManySections, InputFault, InputTooLong, Stopped}
 use Rattle.command_base.proofs.ReplyLaws.{wrote_weaker}
 use Rattle.cached_command.specs.Askings.{CausesOfHit, IsMissedAt, SaysHit}
-use Rattle.cached_command.specs.Buildings.{CausesOfBuilt, CausesTied, IsAnswerSaved, SaysBuilt, SaysTied}
-use Rattle.cached_command.specs.Cached.{HasMissed}
+use Rattle.cached_command.specs.Buildings.{CausesOfBuilt, CausesTied, IsAnswerSaved, SaysBuilt}
+use Rattle.cached_command.specs.Cached.{HasMissed, SaysTied}
 use Rattle.cached_command.specs.Caches.{id_of, FaultsEarly, IsCached, IsIndexOf, IsMissed, IsTooLarge, failed, hit, nowhere as unplaced, stale, stored, unread, unsaved, without_id}
 use Rattle.cached_command.specs.Places.{Spot, early, here, nowhere, place_seen, spot_in, spot_of, IsSpotOf}
 use Rattle.cached_command.specs.declared.place.Place.{Place}

@@ -8,8 +8,8 @@ use Rattle.command_base.specs.Replies.{Wrote}
 use Rattle.command_base.specs.declared.status.Status.{Status}
 use Rattle.command_base.specs.declared.status.Status.TheVariants.{Answered, Refused, Usage, ReadFault, StoreFault, WriteFault, NoMemory, IndexRefused, TableRefused, IndexTooLarge, FileTooBig, AlreadyIndexed, TooManySections, InputFault, InputTooLong, Stopped}
 use Rattle.command_base.proofs.ReplyLaws.{wrote_weaker}
-use Rattle.cached_command.specs.Buildings.{CausesTied, SaysTied}
-use Rattle.cached_command.specs.Cached.{LeavesCached, MayKeep, SaysCached}
+use Rattle.cached_command.specs.Buildings.{CausesTied}
+use Rattle.cached_command.specs.Cached.{LeavesCached, MayKeep, SaysCached, SaysTied}
 use Rattle.cached_command.specs.Caches.{IsCached, IsMissed, IsNotKept, failed, hit, nowhere, stale, stored, unread, unsaved, without_id}
 use Rattle.cached_command.proofs.FilesLaws.{stored-prefix}
 

@@ -1,5 +1,5 @@
 -- No kept index answered, and the index is built.
-use Rattle.std.specs.Prelude.{◌≡◌, ◌⊎◌, ℕ, List, ◌++◌, Option, Ok, ⊤}
+use Rattle.std.specs.Prelude.{◌≡◌, ℕ, List, ◌++◌, Option, Ok, ⊤}
 use Rattle.ix_base.specs.declared.fault.Fault.{Fault}
 use Rattle.index_model.specs.GdbIndexRead.{GdbIndex, gdb_index}
 use Rattle.query_text.specs.Questions.{Question}
@@ -10,7 +10,7 @@ use Rattle.command_base.specs.Replies.{IsRefusalOf}
 use Rattle.command_base.specs.declared.status.Status.{Status}
 use Rattle.command_base.specs.declared.status.Status.TheVariants.{Answered, Refused, WriteFault, NoMemory, IndexTooLarge}
 use Rattle.cached_command.specs.Cached.{HasMissed}
-use Rattle.cached_command.specs.Caches.{FaultsEarly, IsCached, IsIndexOf, IsTooLarge}
+use Rattle.cached_command.specs.Caches.{IsIndexOf, IsTooLarge}
 use Rattle.cached_command.specs.Places.{Spot}
 use Rattle.cached_command.specs.Savings.{text_of_saved, IsSaved}
 use Rattle.cached_command.specs.declared.save.Saved.{Saved}
@@ -53,12 +53,7 @@ CausesOfBuilt before after file writes NoMemory = SameFiles before after
 CausesOfBuilt before after file writes IndexTooLarge = IsTooLarge file × SameFiles before after
 CausesOfBuilt before after file writes other = ⊥
 
--- ---- the whole command: what is written, with what the files hold then
-
-abbrev pub SaysTied : Option Files → Option Files → List ℕ → List ℕ → Question → Type 0 → Type 0 → Status → List ℕ → Type 0
-SaysTied before after file store q kept_reads stores Answered text = IsCached before after file store q kept_reads stores text
-SaysTied before after file store q kept_reads stores Refused text = IsRefusalOf file text × SameFiles before after × (((f : Fault) × FaultsEarly file f) ⊎ HasMissed before file store kept_reads)
-SaysTied before after file store q kept_reads stores other text = ⊥
+-- ---- the whole command
 
 abbrev pub CausesTied : Option Files → Option Files → List ℕ → List ℕ → Type 0 → Type 0 → Status → Type 0
 CausesTied before after file store kept_reads writes Answered = ⊤

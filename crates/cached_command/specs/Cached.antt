@@ -36,6 +36,12 @@ LooksFirst told file store kept_reads Refused = ((f : Fault) × FaultsEarly file
 LooksFirst told file store kept_reads IndexTooLarge = HasMissed told file store kept_reads
 LooksFirst told file store kept_reads other = ⊤
 
+-- what the text of a result says, by its status, with what the files hold then
+abbrev pub SaysTied : Option Files → Option Files → List ℕ → List ℕ → Question → Type 0 → Type 0 → Status → List ℕ → Type 0
+SaysTied before after file store q kept_reads stores Answered text = IsCached before after file store q kept_reads stores text
+SaysTied before after file store q kept_reads stores Refused text = IsRefusalOf file text × SameFiles before after × LooksFirst before file store kept_reads Refused
+SaysTied before after file store q kept_reads stores other text = ⊥
+
 -- the files hold what they held, but for the name of the program's index: it may hold this index as it is kept, or a prefix of it
 abbrev pub MayKeep : Option Files → Option Files → List ℕ → List ℕ → Type 0
 MayKeep before after file store = SameFiles before after ⊎ ((id : List ℕ) × (bytes : List ℕ) × (id_of file ≡ Ok (Some id)) × IsIndexOf file bytes × StoredOrPrefix before after (cache_name store id) (kept_bytes id bytes))

@@ -1,9 +1,10 @@
 //! The answer of a program's index that may be kept.
 
-ghost use Rattle.std.specs.Prelude.{◌≡◌, ◌<◌, ◌≤◌, ℕ, List, Some, Err, false, length, option_map, IfSome};
+ghost use Rattle.std.specs.Prelude.{◌≡◌, ◌<◌, ◌≤◌, ℕ, List, Some, None, Err, false, length, option_map, IfSome};
 ghost use Rattle.ix_base.specs.declared.fault.Fault.{Fault};
 ghost use Rattle.ix_base.specs.declared.limits.TheConstants.{MAX_FILE_BYTES};
 ghost use Rattle.index_model.specs.declared.job.CacheKind.TheVariants.{Gdb9};
+ghost use Rattle.index_model.specs.Cache.{DoesNotFit};
 ghost use Rattle.index_model.specs.Faults.{first_fault};
 ghost use Rattle.query_text.specs.Questions.{question_seen};
 ghost use Rattle.stage_lock.specs.Seen.{IsPassOf};
@@ -11,12 +12,12 @@ ghost use Rattle.outside.specs.Counts.{Rose};
 ghost use Rattle.outside.specs.Written.{Appends};
 ghost use Rattle.reach_model.specs.BuildIds.{IsBuildId};
 ghost use Rattle.command_base.specs.GdbLooks.{offer_gdb};
-ghost use Rattle.command_base.specs.Replies.{Wrote};
+ghost use Rattle.command_base.specs.Replies.{PrefixOf, Wrote};
 ghost use Rattle.command_base.specs.Statuses.{status_code};
 ghost use Rattle.command_base.specs.declared.status.Status.TheVariants as statuses;
 ghost use Rattle.cached_command.specs.Caches.{FaultsEarly, IsCached};
-ghost use Rattle.cached_command.specs.Cached.{CausesOfCached, IsCachedMeant, LeavesCached, LooksFirst, SaysCached};
-ghost use Rattle.cached_command.specs.Buildings.{CausesOfBuilt, CausesOfSaved, CausesTied, IsRead, SaysBuilt, SaysSaved, SaysTied};
+ghost use Rattle.cached_command.specs.Cached.{CausesOfCached, IsCachedMeant, LeavesCached, LooksFirst, SaysCached, SaysTied};
+ghost use Rattle.cached_command.specs.Buildings.{CausesOfBuilt, CausesOfSaved, CausesTied, IsRead, SaysBuilt, SaysSaved};
 ghost use Rattle.cached_command.specs.Places.{place_seen};
 
 use crate::ask::{Asked, ask};
@@ -63,6 +64,7 @@ pub fn cached_file<R: Threads + Wait + Sync, F: Shelf, K: Sink, G: Gate + Sync>(
     ensures causes { CausesOfCached file.now (Rose (K.write_faults out.old) (K.write_faults out.new)) result }
     ensures leaves { LeavesCached file.now store.now (F.files shelf.old) (F.files shelf.new) result }
     ensures tied { result ≡ statuses.Answered → (text : List ℕ) × IsCached (F.files shelf.old) (F.files shelf.new) file.now store.now (question_seen question.now) (Rose (F.kept_faults shelf.old) (F.kept_faults shelf.new)) (Rose (F.store_faults shelf.old) (F.store_faults shelf.new)) text × Appends (K.written out.old) (K.written out.new) text }
+    ensures cut { result ≡ statuses.WriteFault → PrefixOf (SaysTied (F.files shelf.old) (F.files shelf.new) file.now store.now (question_seen question.now) (Rose (F.kept_faults shelf.old) (F.kept_faults shelf.new)) (Rose (F.store_faults shelf.old) (F.store_faults shelf.new))) (K.written out.old) (K.written out.new) }
     ensures looks_first { LooksFirst (F.files shelf.old) file.now store.now (Rose (F.kept_faults shelf.old) (F.kept_faults shelf.new)) result }
     ensures untouched { (f : Fault) → FaultsEarly file.now f → shelf.new ≡ shelf.old }
     ensures meant { (Rose (K.write_faults out.old) (K.write_faults out.new) → ⊥) → IsCachedMeant file.now (status_code result) }
@@ -180,6 +182,7 @@ fn publish<F: Shelf, K: Sink>(
     requires offered { offer_gdb (question_seen question.now).query ≡ Some (question_seen question.now).query }
     ensures wrote { Wrote (SaysBuilt (F.files shelf.old) (F.files shelf.new) (Rose (F.store_faults shelf.old) (F.store_faults shelf.new)) reader.now.board.subject.file (option_map (λ p. place_seen p.now) miss.entry.place) miss.entry.stale (question_seen question.now)) result (K.written out.old) (K.written out.new) }
     ensures causes { CausesOfBuilt (F.files shelf.old) (F.files shelf.new) reader.now.board.subject.file (Rose (K.write_faults out.old) (K.write_faults out.new)) result }
+    ensures too_large { reader.now.kept.fault ≡ None → reader.now.kept.cache ≡ Some DoesNotFit → result ≡ statuses.IndexTooLarge }
     ensures untouched { (f : Fault) → first_fault reader.now.board.subject.file ≡ Some f → shelf.new ≡ shelf.old }
     ensures reads { F.read_faults shelf.new ≡ F.read_faults shelf.old }
     ensures stores { F.store_faults shelf.old ≤ F.store_faults shelf.new }

@@ -2,7 +2,8 @@ use Rattle.std.proofs.Common.{ℕ, List, subst}
 use Rattle.query_text.specs.Questions.{question_seen}
 use Rattle.outside.specs.Counts.{Rose}
 use Rattle.command_base.specs.Replies.{Wrote}
-use Rattle.cached_command.specs.Buildings.{CausesTied, SaysTied}
+use Rattle.cached_command.specs.Buildings.{CausesTied}
+use Rattle.cached_command.specs.Cached.{SaysTied}
 use Rattle.cached_command.proofs.TiedLaws.{leaves, wrote_cached}
 use Rattle.cached_command.proofs.cached.cached_file.Goals as goal
 
