@@ -1,9 +1,10 @@
 //! The sections of a program file.
 
-ghost use Rattle.std.specs.Prelude.{◌≡◌, ◌≤◌, codes, length};
+ghost use Rattle.std.specs.Prelude.{◌≡◌, ◌≤◌, true, codes, length, Ok};
 ghost use Rattle.index_model.specs.Gives.{Gives};
 ghost use Rattle.index_model.specs.Sections.{index_named, section_bytes, sections_of};
-ghost use Rattle.file_image.specs.TextLimits.{AreLimits};
+ghost use Rattle.index_model.specs.Strings.{string_at};
+ghost use Rattle.file_image.specs.TextLimits.{AreLimits, tested};
 
 use crate::compressed::check_compressed;
 use crate::found::{Found, index_named, sections_of_table, table_fault};
@@ -144,6 +145,14 @@ impl<'f> Sections<'f> {
         ensures { AreLimits (section_bytes self.now (codes ".debug_str")) (section_bytes self.now (codes ".debug_line_str")) result }
     {
         self.limits
+    }
+
+    /// Whether one comparison tells that the string at an offset of `.debug_str` is sound.
+    #[inline(always)]
+    pub fn is_sound_str(&self, at: u64) -> bool
+        ensures { result ≡ true → tested (string_at (section_bytes self.now (codes ".debug_str")) at) ≡ Ok tt }
+    {
+        at < self.limits.str
     }
 
     /// The index of the first section of this name among all headers, of which that of section 0 is the first; None where there
