@@ -1,5 +1,5 @@
 -- What of a walk is still to come.
-use Rattle.std.specs.Prelude.{◌≡◌, ◌≤◌, ℕ, Bool, true, false, [], ◌∷◌, Contains, Option, Some, None, Result, Ok, Err, ⊤}
+use Rattle.std.specs.Prelude.{◌≡◌, ◌≤◌, ℕ, [], ◌∷◌, Contains, Option, Some, None, Result, Ok, Err, ⊤}
 use Rattle.ix_base.specs.declared.fault.Fault.{Fault}
 use Rattle.index_model.specs.Walk as meant
 use Rattle.index_model.specs.WalkLeft.{left}
@@ -31,12 +31,6 @@ abbrev pub GivesToken : meant.Walk → meant.Walk → Result (Option Token) Faul
 GivesToken old new (Ok (Some t)) = old ≡ meant.with_token (token_seen t) new
 GivesToken old new (Ok None) = (old ≡ ended None) × (new ≡ old)
 GivesToken old new (Err f) = (old ≡ ended (Some f)) × (new ≡ old)
-
--- The same, where the token was written into a place, or nothing at the end.
-abbrev pub GivesInto : meant.Walk → meant.Walk → Token → Result Bool Fault → Type 0
-GivesInto old new t (Ok true) = old ≡ meant.with_token (token_seen t) new
-GivesInto old new t (Ok false) = (old ≡ ended None) × (new ≡ old)
-GivesInto old new t (Err f) = (old ≡ ended (Some f)) × (new ≡ old)
 
 -- Only nulls stand before the end, and the walk stays there.
 pub record EndsSo (old new : meant.Walk) (fault : Option Fault) : Type 0 where

@@ -85,6 +85,7 @@ impl Abbrevs {
     }
 
     /// The same, with what is known of its attributes.
+    #[inline(always)]
     pub(crate) fn shape(&self, code: u64) -> Option<Shape<'_>>
         ensures value { option_map (λ s. abbrev_seen code s.abbrev) result ≡ abbrev_of self.now code }
         ensures front { IfSome result (λ s. IsFront s.abbrev.specs.now s.front) }
@@ -104,7 +105,14 @@ impl Abbrevs {
         })
     }
 
+    /// How many bytes such a table takes at least (DWARF 5, section 7.5.3): five for each abbreviation and two for each attribute.
+    pub fn least_bytes(&self) -> u64 {
+        let heads = (self.heads.len() as u64).saturating_mul(5);
+        heads.saturating_add((self.specs.len() as u64).saturating_mul(2))
+    }
+
     // The index of the first with this code.
+    #[inline(always)]
     fn index_of(&self, code: u64) -> Option<usize>
         ensures { result ≡ position (λ a. a.code == code) self.now }
     {

@@ -18,6 +18,7 @@ use ix_base::Cursor;
 use ix_base::code::{SUPPLEMENTARY, TRUNCATED, UNKNOWN_FORM};
 
 // The block of the next `count` bytes.
+#[inline(always)]
 fn block<'a>(count: u64, cursor: &mut Cursor<'a>) -> Result<Value<'a>, u8>
     ensures value { GivesAlways (λ v. (seen v, cursor.new)) result (by (bytes count) Block cursor.old) }
     ensures place { MovesOn cursor.old cursor.new }
@@ -69,8 +70,9 @@ fn block4<'a>(cursor: &mut Cursor<'a>) -> Result<Value<'a>, u8>
     block(count, cursor)
 }
 
-// The value of the forms block and exprloc.
-fn block_leb<'a>(cursor: &mut Cursor<'a>) -> Result<Value<'a>, u8>
+/// The value of the forms block and exprloc.
+#[inline(always)]
+pub(crate) fn block_leb<'a>(cursor: &mut Cursor<'a>) -> Result<Value<'a>, u8>
     ensures value { GivesAlways (λ v. (seen v, cursor.new)) result (by (counted uleb) Block cursor.old) }
     ensures place { MovesOn cursor.old cursor.new }
 {

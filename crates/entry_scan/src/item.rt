@@ -38,7 +38,7 @@ impl<'a> Model for Item<'a> {
 }
 
 impl<'a> Item<'a> {
-    ghost use Rattle.std.specs.Prelude.{option_map, is_some, Some, IfSome};
+    ghost use Rattle.std.specs.Prelude.{true, option_map, is_some, Some, None, IfSome};
     ghost use Rattle.index_model.specs.Attributes.{attribute as attribute_of, is_set};
     ghost use Rattle.index_model.specs.Forms.{Str};
     ghost use Rattle.index_model.specs.FormSeen.{seen};
@@ -90,6 +90,17 @@ impl<'a> Item<'a> {
             return None;
         }
         self.values.first(attribute)
+    }
+
+    /// Whether one look tells that it has no attribute with this number.
+    #[inline]
+    pub fn lacks(&self, attribute: u64) -> bool
+        ensures { result ≡ true → attribute_of attribute self.now ≡ None }
+    {
+        if !self.marks.may_have(attribute) {
+            return true;
+        }
+        false
     }
 
     /// Whether it has an attribute with this number.

@@ -9,7 +9,9 @@ ghost use Rattle.entry_scan.specs.Fronts.{IsFront};
 ghost use Rattle.entry_scan.specs.Values.{values_at, place_read};
 
 use crate::abbreviation::Spec;
-use crate::forms::read_value;
+use crate::form_codes::{EXPRLOC, LOCLISTX, UDATA};
+use crate::form_numbers::leb;
+use crate::forms::{block_leb, read_value};
 use crate::sizes::{Front, size_of};
 use index_model::Value;
 use ix_base::Cursor;
@@ -50,7 +52,26 @@ pub(crate) fn pass_one(spec: &Spec, format: Format, cursor: &mut Cursor<'_>) -> 
             Some(_) => Ok(()),
             None => Err(TRUNCATED),
         },
-        None => match read(spec, format, cursor) {
+        None => pass_counted(spec, format, cursor),
+    }
+}
+
+// Passes a value that says itself how many bytes it takes. The forms that compilers write most are read with no value made of them.
+#[tactic(auto, unfolding(index_model::specs::Forms::value_at))]
+fn pass_counted(spec: &Spec, format: Format, cursor: &mut Cursor<'_>) -> Result<(), u8>
+    ensures value { GivesAlways (λ _. cursor.new) result (place_read (value_at format.version format.wide spec.now.form spec.now.constant cursor.old)) }
+    ensures place { MovesOn cursor.old cursor.new }
+{
+    match spec.form {
+        EXPRLOC => match block_leb(cursor) {
+            Ok(_) => Ok(()),
+            Err(code) => Err(code),
+        },
+        UDATA | LOCLISTX => match leb(cursor) {
+            Ok(_) => Ok(()),
+            Err(code) => Err(code),
+        },
+        _ => match read(spec, format, cursor) {
             Ok(_) => Ok(()),
             Err(code) => Err(code),
         },

@@ -32,7 +32,7 @@ impl<'a> Model for Walk<'a> {
 
 impl<'a> Walk<'a> {
     ghost use Rattle.index_model.specs.Walk.{walk_of};
-    ghost use Rattle.entry_scan.specs.Ahead.{GivesToken, GivesInto, GivesItem, FollowsToken, FollowsItem};
+    ghost use Rattle.entry_scan.specs.Ahead.{GivesToken, GivesItem, FollowsToken, FollowsItem};
     ghost use Rattle.entry_scan.specs.Inside.{inside_of};
 
     /// The entries of a unit. `bytes` are the unit's own, from its first byte to its end, and `abbrevs` are those at its
@@ -110,23 +110,8 @@ impl<'a> Walk<'a> {
         }
     }
 
-    /// Reads the next entry or null into a place that is used again for each, since to move a token costs more than to read it.
-    /// False at the unit's end, where nothing is written, else as `token`.
-    #[inline(never)]
-    pub fn read_into(&mut self, place: &mut Token<'a>) -> Result<bool, Fault>
-        ensures { GivesInto self.old self.new place.new result }
-    {
-        match self.token() {
-            Ok(Some(token)) => {
-                *place = token;
-                Ok(true)
-            }
-            Ok(None) => Ok(false),
-            Err(fault) => Err(fault),
-        }
-    }
-
-    /// The next entry or null, or None at the unit's end, else as `next`.
+    /// The next entry or null, or None at the unit's end, else as `next`. It stands where it is called, so that a token needn't be
+    /// written into memory before it is looked at.
     #[inline(always)]
     pub fn token(&mut self) -> Result<Option<Token<'a>>, Fault>
         ensures value { GivesToken self.old self.new result }
