@@ -4,4 +4,5 @@ pub mod Kept
 pub mod Readers
 pub mod Marks
 pub mod LookUps
+pub mod Loans
 pub mod Seen

@@ -35,11 +35,8 @@ impl<'b, 'f> Model for Reader<'b, 'f> {
 }
 
 impl<'b, 'f> Reader<'b, 'f> {
-    ghost use Rattle.std.specs.Prelude.{◌≡◌, ◌≤◌, ◌⊎◌, ◌∷◌, ◌++◌, [], ℕ, List, ⊤, max, false, true, Bool, IsSome, OnOk, OnErr, IfOk, option_map, is_ok};
+    ghost use Rattle.std.specs.Prelude.{◌≡◌, ◌≤◌, ◌⊎◌, ◌∷◌, ◌++◌, [], ℕ, List, max, false, true, Bool, IsSome, OnOk, OnErr, IfOk, option_map, is_ok};
     ghost use Rattle.std.specs.Borrow.{sem};
-    ghost use mathlib.Core.Option.{none};
-    ghost use denote.Follow.{follows_so};
-    ghost use mir.Syntax.{named};
     ghost use Rattle.index_model.specs.Parts.{parts, reply_by};
     ghost use Rattle.index_model.specs.Seen.{query_seen};
     ghost use Rattle.index_model.specs.Stages.{IsReachable};
@@ -47,8 +44,8 @@ impl<'b, 'f> Reader<'b, 'f> {
     ghost use Rattle.stage_core.specs.Outputs.{cache_seen, parts_seen};
     ghost use Rattle.stage_lock.specs.Seen.{IsPassOf};
     ghost use Rattle.stage_lock.specs.Shares.{sum_of};
-    ghost use Rattle.index_board.specs.contracts.reader.Reader.{the_row};
     ghost use Rattle.index_board.specs.Kept.{AreOf, HasPublished, filled};
+    ghost use Rattle.index_board.specs.Loans.{Leaves};
     ghost use Rattle.index_board.specs.LookUps.{ByKept, InTurn, IsAsked, OneMark};
     ghost use Rattle.index_board.specs.Marks.{AreMarks, IsLook, IsMark, IsPoll, IsPolled, IsReady, marked};
     ghost use Rattle.index_board.specs.Turns.{Turn};
@@ -78,7 +75,7 @@ impl<'b, 'f> Reader<'b, 'f> {
     /// Answers by what is kept, at one mark. Waits for nobody and takes no memory. `Fetch` comes exactly where the build has
     /// published what the query needs at the mark, or the fault at stage 4, and it isn't kept yet.
     pub fn poll(&mut self, query: &Query<'_>) -> Poll<'_>
-        ensures* polled { sem 𝓛 (follows_so (the_row (record { mir = named 1; lft = [] }) (record { mir = named 2; lft = [] })) (the_row (record { mir = named 1; lft = [] }) (record { mir = named 2; lft = [] })) self.entry.ghost_name none (λ _ _. ⊤) (λ n. IsPolled self.old (query_seen query.now) result n)) }
+        ensures* polled { sem 𝓛 (Leaves self.entry (λ new. IsPolled self.old (query_seen query.now) result new)) }
     {
         let stage = self.mark();
         self.answer(query, stage)
@@ -119,7 +116,7 @@ impl<'b, 'f> Reader<'b, 'f> {
     ///
     /// `NoMemory` where a part has as many owners as can be counted. The mark is made, and the kept parts stay.
     pub fn query<R: Wait>(&mut self, rt: &R, query: &Query<'_>) -> Result<Look<'_>, NoMemory>
-        ensures* asked { sem 𝓛 (follows_so (the_row (record { mir = named 1; lft = [] }) (record { mir = named 2; lft = [] })) (the_row (record { mir = named 1; lft = [] }) (record { mir = named 2; lft = [] })) self.entry.ghost_name none (λ _ _. ⊤) (λ n. IsAsked self.old (query_seen query.now) result n)) }
+        ensures* asked { sem 𝓛 (Leaves self.entry (λ new. IsAsked self.old (query_seen query.now) result new)) }
     {
         let (stage, shared) = self.advance(rt, query);
         shared?;
