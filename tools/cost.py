@@ -30,7 +30,7 @@ NAMES = ["index", "--as", "names", "--workers", "1", "FILE", "OUT"]
 LOOK_GDB = ["look", "gdb", "FILE", "name", "y"]
 LOOK_NAMES = ["look", "names", "FILE", "STRINGS", "name", "zz"]
 # Why a row may grow with the square.
-TABLES = "a table of abbreviations is read for each unit that has another than the one before"
+TABLES = "tables of abbreviations that overlap are read each by itself"
 TEXTS = "names that are one text are compared one by one"
 LONG = "the answer itself is that long"
 LISTS = "a list of ranges is read for each that has it"
@@ -44,7 +44,7 @@ ROWS = [
     (programs.tables_by_turns, 8000, ASK, None),
     (programs.chains_along_scopes, 250, ASK, None),
     (programs.deep_scopes, 2000, ASK, None),
-    (programs.two_tables, 8000, ASK, TABLES),
+    (programs.two_tables, 8000, ASK, None),
     (programs.many_tables, 8000, ASK, TABLES),
     (programs.one_table, 8000, ASK, None),
     (programs.a_wide_abbreviation, 16000, ASK, None),

@@ -25,3 +25,5 @@ mod TextLaws
 mod AboveLaws
 mod UnitNodes
 mod UnitRead
+mod MapLaws
+mod UnkeptLaws

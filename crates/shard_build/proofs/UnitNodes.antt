@@ -66,12 +66,3 @@ nothing_in ss (Some d) h = absurd h
 -- an entry in a span of a unit is one of the unit
 pub home_of_span : (w : Walked) (s : Span) (o : ℕ) (d : Located) → located_in_span w s o ≡ Some d → d.home ≡ w
 home_of_span w s o d is = let m = of_option_map (at_home w) (item_in_span w s o) d is in ap (λ (l : Located). l.home) (sym m.2)
-
--- the nodes of one unit more
-module _ {S : Type 0} (file : List ℕ) (old new : IndexMap ℕ (List NodeSeen) S) (unit : ℕ) (nodes : List NodeSeen) (known : AreOfUnits file old) (own : AreOfUnit file unit nodes) (updates : (q : ℕ) → get nat_eq new q ≡ cond (nat_eq unit q) (Some nodes) (get nat_eq old q)) where
-  pub one_unit_more : AreOfUnits file new
-  one_unit_more q ns e = by (nat_eq unit q) refl (sym (updates q) ∙ e)
-    where
-      by : (b : Bool) → nat_eq unit q ≡ b → cond b (Some nodes) (get nat_eq old q) ≡ Some ns → AreOfUnit file q ns
-      by true same h = subst (λ (k : ℕ). AreOfUnit file k ns) (eqb-true unit q same) (subst (AreOfUnit file unit) (same_Some nodes ns h) own)
-      by false other h = known q ns h

@@ -6,3 +6,4 @@ pub mod Runs
 pub mod Entries
 pub mod Found
 pub mod Again
+pub mod Unkept

@@ -1,6 +1,7 @@
 -- What is kept behind the units of a run.
-use Rattle.std.specs.Prelude.{◌≡◌, ℕ, List, [], ◌∷◌, ◌++◌, flat_map, map, Some}
+use Rattle.std.specs.Prelude.{◌≡◌, ℕ, nat_eq, List, [], ◌∷◌, ◌++◌, flat_map, map, Some}
 use Rattle.std.specs.List.{AllZip}
+use Rattle.indexmap.specs.IndexMap.{IndexMap, get}
 use Rattle.index_model.specs.Abbreviations.{table}
 use Rattle.index_model.specs.Program.{Walked}
 use Rattle.index_model.specs.Sections.{Section}
@@ -22,3 +23,7 @@ HoldsOneMore ss old new w = (ws : List Walked) → Holds ss old ws → Holds ss 
 -- the table is the one at its offset
 abbrev pub IsAtOffset : List ℕ → Table → Type 0
 IsAtOffset bytes t = table bytes t.offset ≡ Some t.abbrevs
+
+-- so is each of the tables that are kept
+abbrev pub AreAtOffsets : {S : Type 0} → List ℕ → IndexMap ℕ Table S → Type 0
+AreAtOffsets bytes kept = (offset : ℕ) (t : Table) → get nat_eq kept offset ≡ Some t → IsAtOffset bytes t

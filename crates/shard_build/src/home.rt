@@ -14,7 +14,7 @@ use entry_scan::Item;
 use file_image::{Image, Sections};
 use index_model::{Import, Next, Node, Span, Unit};
 
-const IMPORTED_UNIT: u64 = 0x3d;
+pub(crate) const IMPORTED_UNIT: u64 = 0x3d;
 
 /// A unit, its number in section order, its bytes, and the sections of its file.
 #[derive(Clone, Copy)]
@@ -47,6 +47,7 @@ impl<'s, 'f> Home<'s, 'f> {
     }
 
     /// The node of an entry in this one, with these texts.
+    #[inline(always)]
     #[tactic(auto, unfolding(crate::specs::Kept::node_by))]
     pub fn node(&self, outer: Option<Open>, entry: &Item<'_>, texts: Texts<'f>) -> Node<'f>
         ensures { node_seen result ≡ node_by self.now.sections.now (self.now.number, self.now.unit) outer entry.now (texts_seen texts.entry) }
@@ -55,6 +56,7 @@ impl<'s, 'f> Home<'s, 'f> {
     }
 
     /// The node of an entry whose parent has this joint offset, with these texts.
+    #[inline(always)]
     #[tactic(auto, unfolding(crate::specs::Kept::node_under))]
     pub fn node_under(&self, parent: Option<u64>, entry: &Item<'_>, texts: Texts<'f>) -> Node<'f>
         ensures { node_seen result ≡ node_under self.now.sections.now (self.now.number, self.now.unit) parent entry.now (texts_seen texts.entry) }

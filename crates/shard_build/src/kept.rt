@@ -9,6 +9,7 @@ use crate::frame::Frame;
 use crate::home::Home;
 use crate::open::{Open, role_of};
 use crate::text_places::TextPlaces;
+use crate::texts::TextOffsets;
 use entry_rules::in_table;
 use entry_scan::Item;
 use index_model::{Import, Nodes, Spans};
@@ -78,9 +79,10 @@ fn add_node_with_texts<'f>(
     requires { HoldsTexts home.now.bytes.now home.now.unit entry.now }
     ensures { Gives (λ _. nodes.new) result (with_texts home.now.sections.now (home.now.number, home.now.unit) base entry.now (λ t. nodes.old ++ node_by home.now.sections.now (home.now.number, home.now.unit) outer entry.now t ∷ [])) }
 {
-    let texts = home.texts(base, entry)?;
+    let offsets = TextOffsets::of(entry);
+    let texts = home.texts_at(base, entry, &offsets)?;
     let node = home.node(outer, entry, texts);
-    nodes.push(&node, places.of_entry(home, base, entry))?;
+    nodes.push(&node, places.at_offsets(home, base, entry, &offsets))?;
     Ok(())
 }
 

@@ -19,6 +19,7 @@ mod text_places;
 mod texts;
 mod unit;
 mod units_again;
+mod unkept;
 
 pub use entries::Entries;
 pub use shard::scan;

@@ -1,19 +1,18 @@
 //! The shard of a run of units.
 
-ghost use Rattle.std.specs.Prelude.{◌≡◌, ◌+◌, ◌<◌, ◌≤◌, Some, codes, length, slice_get, take, drop};
+ghost use Rattle.std.specs.Prelude.{◌≡◌, ◌+◌, ◌<◌, ◌≤◌, Some, codes, length, slice_get, take, drop, OnOk};
 ghost use Rattle.std.specs.List.{enumerate_from};
-ghost use Rattle.std.specs.Option.{ForSome};
 ghost use Rattle.index_model.specs.Faults.{scanned};
 ghost use Rattle.index_model.specs.Gives.{GivesFor};
 ghost use Rattle.index_model.specs.Meaning.{each};
 ghost use Rattle.index_model.specs.Sections.{section_bytes};
 ghost use Rattle.index_model.specs.Shards.{StandsFor};
 ghost use Rattle.index_model.specs.declared.unit.Unit.{Unit as UnitHeader};
-ghost use Rattle.shard_build.specs.Runs.{HoldsOneMore, IsAtOffset};
+ghost use Rattle.shard_build.specs.Runs.{HoldsOneMore, AreAtOffsets};
 
 use crate::home::Home;
 use crate::run::Run;
-use crate::tables::Table;
+use crate::tables::{Table, Tables};
 use file_image::Image;
 use index_model::Shard;
 use ix_base::Stop;
@@ -30,30 +29,32 @@ pub fn scan<'f>(alloc: Global, image: &Image<'f>, first: u32, count: u32) -> Res
     ensures { GivesFor (StandsFor image.now.sections) result (each (scanned image.now.sections) (take count (drop first (enumerate_from 0 image.now.units)))) }
 {
     // There are at most `MAX_UNITS` of them, so their numbers don't wrap.
-    let _units = image.units();
+    let units = &image.units()[first as usize..(first + count) as usize];
     let mut run = Run::new(alloc, image.file());
-    let mut at_hand = None;
+    let mut tables = Tables::new(alloc, units, image.sections().debug_abbrev().len())?;
     for number in first..first + count {
-        add_unit(alloc, image, number, &mut run, &mut at_hand)?;
+        add_unit(alloc, image, number, &mut run, &mut tables)?;
     }
     Ok(run.shard(first))
 }
 
-// Takes in the unit with this number. Its table of abbreviations is then the one at hand.
+// Takes in the unit with this number, by its table of abbreviations.
 fn add_unit<'f>(
     alloc: Global,
     image: &Image<'f>,
     number: u32,
     run: &mut Run<'f>,
-    at_hand: &mut Option<Table>,
+    tables: &mut Tables,
 ) -> Result<(), Stop>
     requires within { number < length image.now.units }
-    requires hand { ForSome at_hand.old (IsAtOffset (section_bytes image.now.sections (codes ".debug_abbrev"))) }
+    requires tables { AreAtOffsets (section_bytes image.now.sections (codes ".debug_abbrev")) tables.old.kept }
     ensures value { (u : UnitHeader) → slice_get image.now.units number ≡ Some u → GivesFor (λ _ w. HoldsOneMore image.now.sections run.old run.new w) result (scanned image.now.sections (number, u)) }
-    ensures hand { ForSome at_hand.new (IsAtOffset (section_bytes image.now.sections (codes ".debug_abbrev"))) }
+    ensures tables { OnOk result (AreAtOffsets (section_bytes image.now.sections (codes ".debug_abbrev")) tables.new.kept) }
 {
     let home = Home::of(image, number);
     let section = image.sections().debug_abbrev();
-    let table = Table::of(alloc, section, &home.unit, at_hand.take())?;
-    run.unit(&home, &at_hand.insert(table).abbrevs)
+    let table = Table::of(alloc, section, &home.unit, tables.take(home.unit.abbrev))?;
+    run.unit(&home, &table.abbrevs)?;
+    tables.put(table)?;
+    Ok(())
 }

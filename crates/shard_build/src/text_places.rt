@@ -2,7 +2,7 @@
 
 use crate::facts::NAME;
 use crate::home::Home;
-use crate::texts::linkage_attribute;
+use crate::texts::TextOffsets;
 use entry_scan::Item;
 use file_image::SectionTable;
 use index_model::{Part, Places, Value};
@@ -40,21 +40,41 @@ impl TextPlaces {
 
     /// Where the texts of an entry stand, whose unit's part of `.debug_str_offsets` begins at the base.
     pub fn of_entry(&self, home: &Home<'_, '_>, base: Option<u64>, entry: &Item<'_>) -> Places {
+        self.at_offsets(home, base, entry, &TextOffsets::of(entry))
+    }
+
+    /// The same, where it is known how its texts are reached.
+    #[inline(always)]
+    pub fn at_offsets(
+        &self,
+        home: &Home<'_, '_>,
+        base: Option<u64>,
+        entry: &Item<'_>,
+        offsets: &TextOffsets,
+    ) -> Places {
         Places {
-            name: self.of_attribute(home, base, entry, NAME),
-            linkage: self.of_attribute(home, base, entry, linkage_attribute(entry)),
+            name: self.of_attribute(home, base, entry, NAME, offsets.name),
+            linkage: self.of_attribute(
+                home,
+                base,
+                entry,
+                offsets.linkage_attribute,
+                offsets.linkage,
+            ),
         }
     }
 
-    // Where the text of an attribute stands.
+    // Where the text of an attribute stands, which may be known to be an offset of `.debug_str`.
+    #[inline(always)]
     fn of_attribute(
         &self,
         home: &Home<'_, '_>,
         base: Option<u64>,
         entry: &Item<'_>,
         attribute: u64,
+        offset: Option<u64>,
     ) -> u64 {
-        match entry.str_at(attribute) {
+        match offset {
             Some(at) => self.str.saturating_add(at),
             None => self.of_value(home, base, entry, &entry.value(attribute)),
         }

@@ -1,15 +1,15 @@
 //! The texts of an entry, borrowed from the file (DWARF 5, section 7.5.5 on the class string).
 
-ghost use Rattle.std.specs.Prelude.{◌≡◌, ◌-◌, ℕ, List, Some, option_map, option_and_then};
-ghost use Rattle.index_model.specs.Attributes.{as_text, linkage_value, read_as};
+ghost use Rattle.std.specs.Prelude.{◌≡◌, ◌-◌, ℕ, List, Some, IfSome, option_map, option_and_then};
+ghost use Rattle.index_model.specs.Attributes.{attribute as attribute_of, as_text, linkage_value, read_as};
 ghost use Rattle.index_model.specs.FormSeen.{seen};
-ghost use Rattle.index_model.specs.Forms.{Inline};
+ghost use Rattle.index_model.specs.Forms.{Inline, Str};
 ghost use Rattle.index_model.specs.Gives.{GivesAlways};
 ghost use Rattle.index_model.specs.LawsTexts.{StandsIn};
 ghost use Rattle.index_model.specs.Meaning.{at_place};
 ghost use Rattle.index_model.specs.Strings.{bounded};
 ghost use Rattle.file_image.specs.TextLimits.{tested};
-ghost use Rattle.shard_build.specs.Texts.{text_by, texts_by, texts_seen, HoldsTexts};
+ghost use Rattle.shard_build.specs.Texts.{text_by, texts_by, texts_seen, HoldsTexts, AreOffsets};
 
 use crate::facts::{LINKAGE_NAME, NAME, OLD_LINKAGE_NAME};
 use crate::forms::is_text;
@@ -39,13 +39,51 @@ pub(crate) fn linkage_attribute(entry: &Item<'_>) -> u64
     }
 }
 
+/// In which attributes an entry has its texts, and the offset into `.debug_str` that stands there, where one look tells it.
+#[derive(Clone, Copy)]
+pub(crate) struct TextOffsets {
+    pub name: Option<u64>,
+    pub linkage_attribute: u64,
+    pub linkage: Option<u64>,
+}
+
+impl TextOffsets {
+    /// Those of an entry.
+    #[inline(always)]
+    pub fn of(entry: &Item<'_>) -> TextOffsets
+        ensures { AreOffsets entry.now result }
+    {
+        let linkage_attribute = linkage_attribute(entry);
+        TextOffsets {
+            name: entry.str_at(NAME),
+            linkage_attribute,
+            linkage: entry.str_at(linkage_attribute),
+        }
+    }
+}
+
 impl<'s, 'f> Home<'s, 'f> {
     /// The texts of an entry, which are borrowed from the file. The fault is the first of them, name before linkage name.
     pub fn texts(&self, base: Option<u64>, entry: &Item<'_>) -> Result<Texts<'f>, Fault>
         requires { HoldsTexts self.now.bytes.now self.now.unit entry.now }
         ensures { GivesAlways texts_seen result (at_place entry.now.at (texts_by self.now.sections.now base self.now.unit.wide entry.now)) }
     {
-        match self.own_texts(base, entry) {
+        self.texts_at(base, entry, &TextOffsets::of(entry))
+    }
+
+    /// The same, where it is known how its texts are reached.
+    #[inline(always)]
+    pub fn texts_at(
+        &self,
+        base: Option<u64>,
+        entry: &Item<'_>,
+        offsets: &TextOffsets,
+    ) -> Result<Texts<'f>, Fault>
+        requires texts { HoldsTexts self.now.bytes.now self.now.unit entry.now }
+        requires offsets { AreOffsets entry.now offsets.now }
+        ensures { GivesAlways texts_seen result (at_place entry.now.at (texts_by self.now.sections.now base self.now.unit.wide entry.now)) }
+    {
+        match self.own_texts(base, entry, offsets) {
             Ok(texts) => Ok(texts),
             Err(code) => Err(Fault {
                 code,
@@ -56,26 +94,36 @@ impl<'s, 'f> Home<'s, 'f> {
 
     // The same; the error is the code of the fault.
     #[tactic(auto, unfolding(crate::specs::Texts::texts_by))]
-    fn own_texts(&self, base: Option<u64>, entry: &Item<'_>) -> Result<Texts<'f>, u8>
-        requires { HoldsTexts self.now.bytes.now self.now.unit entry.now }
+    #[inline(always)]
+    fn own_texts(
+        &self,
+        base: Option<u64>,
+        entry: &Item<'_>,
+        offsets: &TextOffsets,
+    ) -> Result<Texts<'f>, u8>
+        requires texts { HoldsTexts self.now.bytes.now self.now.unit entry.now }
+        requires offsets { AreOffsets entry.now offsets.now }
         ensures { GivesAlways texts_seen result (texts_by self.now.sections.now base self.now.unit.wide entry.now) }
     {
-        let name = self.text_in(base, entry, NAME)?;
-        let linkage = self.text_in(base, entry, linkage_attribute(entry))?;
+        let name = self.text_in(base, entry, NAME, offsets.name)?;
+        let linkage = self.text_in(base, entry, offsets.linkage_attribute, offsets.linkage)?;
         Ok(Texts { name, linkage })
     }
 
-    // The text of an attribute of an entry, if it has one.
+    // The text of an attribute of an entry, if it has one. It may be known to stand at an offset of `.debug_str`.
+    #[inline(always)]
     fn text_in(
         &self,
         base: Option<u64>,
         entry: &Item<'_>,
         attribute: u64,
+        offset: Option<u64>,
     ) -> Result<Option<&'f [u8]>, u8>
-        requires { HoldsTexts self.now.bytes.now self.now.unit entry.now }
+        requires texts { HoldsTexts self.now.bytes.now self.now.unit entry.now }
+        requires offset { IfSome offset (λ at. attribute_of attribute entry.now ≡ Some (Str at)) }
         ensures { GivesAlways (λ t. option_map (λ bytes. bytes.now) t) result (text_by self.now.sections.now base self.now.unit.wide (read_as as_text attribute entry.now)) }
     {
-        match entry.str_at(attribute) {
+        match offset {
             Some(at) => text(self.sections, base, self.unit.wide, &Value::Str(at)),
             None => self.text(base, entry, &entry.value(attribute)),
         }

@@ -85,9 +85,13 @@ impl<'f> Kept<'f> {
         requires texts { (d : EntryOf) → Contains (items walk) d → HoldsTexts home.now.bytes.now home.now.unit d }
         ensures { Gives (λ _. kept_seen self.new) result (behind_walk home.now.sections.now (home.now.number, home.now.unit) (kept_seen self.old) walk.entry) }
     {
-        let mut token = Token::Null { depth: 0, after: 0 };
-        while walk.read_into(&mut token)? {
-            if let Err(stop) = self.take(home, &token) {
+        let mut place = Token::Null { depth: 0, after: 0 };
+        'tokens: while let Some(token) = walk.token()? {
+            if self.passes(home, &token) {
+                continue;
+            }
+            place = token;
+            if let Err(stop) = self.take(home, &place) {
                 finish(&mut walk)?;
                 return Err(stop);
             }

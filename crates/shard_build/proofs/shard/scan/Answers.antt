@@ -12,7 +12,7 @@ loop-number-init c =
     let new = c.new-run.ensures in
     record {
       kept = so_far_none im.sections im.units c.args.first c.args.count c.requires c.new-run.result new.roots new.nodes new.spans new.imports;
-      hand = λ x e. absurd cc;
+      tables = c.in_ok-tables.ensures _;
     }
 
 pub returns-in_err-add_unit : goal.returns-in_err-add_unit
@@ -23,7 +23,7 @@ returns-in_err-add_unit c =
     let stop = c.in_err-add_unit.field-0.0 in
     let u = in_run im.sections im.units c.args.first c.args.count c.requires n c.loop-number-test.true in
     let here : StopsAs stop (scanned im.sections (n, u.0)) = c.in_err-add_unit.ensures.value u.0 u.1 in
-    let p = err_from_is_err_and c.from_residual.result c.from_residual.ensures.1 in
+    let p = err_from_is_err_and c.from_residual-in_err-add_unit.result c.from_residual-in_err-add_unit.ensures.1 in
     rw (p.1, p.2) (run_stops im.sections im.units c.args.first c.args.count c.requires n u.0 c.loop-number.auto.number c.loop-number-test.true u.1 kept.front stop kept.read here)
 
 pub loop-number-preserved : goal.loop-number-preserved
@@ -34,7 +34,7 @@ loop-number-preserved c =
     let more = c.in_ok-add_unit.ensures.value u.0 u.1 in
     record {
       kept = so_far_more im.sections im.units c.args.first c.args.count c.requires n u.0 c.loop-number.run c.add_unit.new.run c.loop-number.auto.number c.loop-number-test.true u.1 c.loop-number.invariant.kept more;
-      hand = c.in_ok-add_unit.ensures.hand;
+      tables = c.in_ok-add_unit.ensures.tables;
     }
 
 pub returns : goal.returns

@@ -9,15 +9,25 @@ use Rattle.shard_build.proofs.kept.Kept.walk.Goals as goal
 
 pub take-requires-clause-texts : goal.take-requires-clause-texts
 take-requires-clause-texts c =
-    let first : c.loop-self.walk ≡ with_token (token_seen c.read_into.new.place) c.read_into.new.self = search rules in
-    on_first (HoldsTexts c.args.home.now.bytes.now c.args.home.now.unit) (token_seen c.read_into.new.place) c.loop-self.walk c.read_into.new.self first c.loop-self.invariant.texts
+    let first : c.tokens.walk ≡ with_token (token_seen c.in-Some.token) c.token.new.self = search rules in
+    on_first (HoldsTexts c.args.home.now.bytes.now c.args.home.now.unit) (token_seen c.in-Some.token) c.tokens.walk c.token.new.self first c.tokens.invariant.texts
 
-pub loop-self-preserved : goal.loop-self-preserved
-loop-self-preserved c =
-    let first : c.loop-self.walk ≡ with_token (token_seen c.read_into.new.place) c.read_into.new.self = search rules in
+pub tokens-preserved-then-passes : goal.tokens-preserved-then-passes
+tokens-preserved-then-passes c =
+    let first : c.tokens.walk ≡ with_token (token_seen c.in-Some.token) c.token.new.self = search rules in
     let u : ℕ × UnitHeader = (c.args.home.now.number, c.args.home.now.unit) in
     record {
-      same = one_more c.args.home.now.sections.now u (kept_seen c.loop-self.self) (kept_seen c.take.new.self) (token_seen c.read_into.new.place) c.loop-self.walk c.read_into.new.self first c.in_default.ensures ∙ c.loop-self.invariant.same;
-      end = ap (λ (w : Walk). w.end) (sym first) ∙ c.loop-self.invariant.end;
-      texts = on_others (HoldsTexts c.args.home.now.bytes.now c.args.home.now.unit) (token_seen c.read_into.new.place) c.loop-self.walk c.read_into.new.self first c.loop-self.invariant.texts;
+      same = one_more c.args.home.now.sections.now u (kept_seen c.tokens.self) (kept_seen c.tokens.self) (token_seen c.in-Some.token) c.tokens.walk c.token.new.self first (c.passes.ensures c.if-passes.true) ∙ c.tokens.invariant.same;
+      end = ap (λ (w : Walk). w.end) (sym first) ∙ c.tokens.invariant.end;
+      texts = on_others (HoldsTexts c.args.home.now.bytes.now c.args.home.now.unit) (token_seen c.in-Some.token) c.tokens.walk c.token.new.self first c.tokens.invariant.texts;
+    }
+
+pub tokens-preserved : goal.tokens-preserved
+tokens-preserved c =
+    let first : c.tokens.walk ≡ with_token (token_seen c.in-Some.token) c.token.new.self = search rules in
+    let u : ℕ × UnitHeader = (c.args.home.now.number, c.args.home.now.unit) in
+    record {
+      same = one_more c.args.home.now.sections.now u (kept_seen c.tokens.self) (kept_seen c.take.new.self) (token_seen c.in-Some.token) c.tokens.walk c.token.new.self first c.in_default-take.ensures ∙ c.tokens.invariant.same;
+      end = ap (λ (w : Walk). w.end) (sym first) ∙ c.tokens.invariant.end;
+      texts = on_others (HoldsTexts c.args.home.now.bytes.now c.args.home.now.unit) (token_seen c.in-Some.token) c.tokens.walk c.token.new.self first c.tokens.invariant.texts;
     }

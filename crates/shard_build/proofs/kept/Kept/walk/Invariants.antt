@@ -6,12 +6,12 @@ use Rattle.shard_build.specs.Texts.{HoldsTexts}
 use Rattle.shard_build.proofs.kept.Kept.walk.Given as goal
 
 -- what is kept and what is still to come is what all is
-abbrev pub invariant-loop-self : goal.invariant-loop-self
-invariant-loop-self l = record {
+abbrev pub invariant-tokens : goal.invariant-tokens
+invariant-tokens l = record {
   same : behind_all l.home.sections.now (l.home.number, l.home.unit) (kept_seen l.self) l.walk.tokens ≡ behind_all l.home.sections.now (l.home.number, l.home.unit) (kept_seen l.initial.self) l.initial.walk.tokens;
   end : l.walk.end ≡ l.initial.walk.end;
   texts : (d : Item) → Contains (items l.walk) d → HoldsTexts l.home.bytes.now l.home.unit d;
 }
 
-abbrev pub decreases-loop-self : goal.decreases-loop-self
-decreases-loop-self l = length l.walk.tokens
+abbrev pub decreases-tokens : goal.decreases-tokens
+decreases-tokens l = length l.walk.tokens
