@@ -8,8 +8,10 @@ use Rattle.outside.proofs.FileLaws.{same_files-trans}
 use Rattle.reach_model.specs.BuildIds.{cache_name}
 use Rattle.reach_model.specs.KeptIndexes.{kept_bytes}
 use Rattle.command_base.proofs.FileReads.{same_more, same_whole}
-use Rattle.command_base.specs.declared.status.Status.TheVariants.{Refused, IndexTooLarge}
-use Rattle.cached_command.specs.Cached.{LooksFirst, MayKeep}
+use Rattle.command_base.specs.Replies.{PrefixOf}
+use Rattle.command_base.specs.declared.status.Status.{Status}
+use Rattle.command_base.specs.declared.status.Status.TheVariants.{Answered, Refused, Usage, ReadFault, StoreFault, WriteFault, NoMemory, IndexRefused, TableRefused, IndexTooLarge, FileTooBig, AlreadyIndexed, TooManySections, InputFault, InputTooLong, Stopped}
+use Rattle.cached_command.specs.Cached.{LooksFirst, MayKeep, SaysTied}
 use Rattle.cached_command.specs.Caches.{IsCached, hit, stored, unsaved, IsMissed, without_id, unread, stale, IsStale, refused, too_large, IsNotKept, nowhere, failed}
 use Rattle.index_cmd.proofs.Storings.{part_from, stored_from}
 
@@ -75,3 +77,25 @@ module _ (told shelf : Option Files) (same : SameFiles told shelf) where
       text_is = h.text_is;
       not_kept = not_kept_from h.bytes S T s h.not_kept;
     })
+
+    module _ (q : Question) (K S L T : Type 0) (k : K → L) (s : S → T) where
+      says_from : (status : Status) (text : List ℕ) → SaysTied shelf after file store q K S status text → SaysTied told after file store q L T status text
+      says_from Answered text h = cached_from q K S L T k s text h
+      says_from Refused text h = (h.0, same_files-trans told shelf after same h.1, looks_from file store K L k h.2)
+      says_from Usage text h = absurd h
+      says_from ReadFault text h = absurd h
+      says_from StoreFault text h = absurd h
+      says_from WriteFault text h = absurd h
+      says_from InputFault text h = absurd h
+      says_from NoMemory text h = absurd h
+      says_from IndexRefused text h = absurd h
+      says_from (TableRefused table) text h = absurd h
+      says_from IndexTooLarge text h = absurd h
+      says_from FileTooBig text h = absurd h
+      says_from AlreadyIndexed text h = absurd h
+      says_from TooManySections text h = absurd h
+      says_from InputTooLong text h = absurd h
+      says_from Stopped text h = absurd h
+
+      pub prefix_from : (old new : Option (List ℕ)) → PrefixOf (SaysTied shelf after file store q K S) old new → PrefixOf (SaysTied told after file store q L T) old new
+      prefix_from old new p = (p.0, p.1, says_from p.0 p.1 p.2, p.3)

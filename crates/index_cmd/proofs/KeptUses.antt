@@ -1,70 +1,55 @@
--- Which requests and statuses say something of an index that may be kept.
-use Rattle.std.proofs.Common.{◌≡◌, ℕ, List, Option, Some, None, refl, subst}
+-- What is said of an index that may be kept, by what was asked and the status.
+use Rattle.std.proofs.Common.{◌≡◌, ℕ, List, [], Option, Some, None, refl, subst}
 use Rattle.std.specs.Prelude.{⊤}
 use Rattle.outside.specs.Counts.{Rose}
 use Rattle.outside.specs.Files.{Files}
 use Rattle.outside.specs.declared.shelf.Shelf.{Ghosts as OfShelf}
-use Rattle.outside.specs.Written.{Appends}
+use Rattle.outside.specs.Written.{Appends, AppendsPrefix}
+use Rattle.outside.proofs.WrittenLaws.{appends_more_prefix}
 use Rattle.query_text.specs.Questions.{Question}
-use Rattle.command_base.specs.Replies.{line_of}
+use Rattle.command_base.specs.Replies.{PrefixOf, Wrote, line_of}
 use Rattle.command_base.specs.Stops.{stop_status}
 use Rattle.command_base.specs.declared.file.ReadStop.{ReadStop}
 use Rattle.command_base.specs.declared.file.ReadStop.TheVariants as stops
 use Rattle.command_base.specs.declared.status.Status.{Status}
 use Rattle.command_base.specs.declared.status.Status.TheVariants.{Answered, Refused, Usage, ReadFault, StoreFault, WriteFault, NoMemory, IndexRefused, TableRefused, IndexTooLarge, FileTooBig, AlreadyIndexed, TooManySections, InputFault, InputTooLong, Stopped}
-use Rattle.cached_command.specs.Cached.{LooksFirst}
+use Rattle.session_commands.specs.Heard.{Heard}
+use Rattle.cached_command.specs.Cached.{LooksFirst, SaysTied}
 use Rattle.cached_command.specs.Caches.{IsCached}
-use Rattle.index_cmd.specs.Caching.{UsesKept}
+use Rattle.index_cmd.specs.Caching.{UsesKept, IsCutShort, in_result, in_line}
 use Rattle.index_cmd.specs.Doings.{WasRead}
 use Rattle.index_cmd.specs.Replies.{Ends, without_line, with_line, cut}
 use Rattle.index_cmd.specs.Requests.{Request, TheHelp, TheVersion, OfFile, OfIndex, OfAdd, OfGdb, OfNames, OfServe, OfRace, OfDrill, OfAranges, OfFiles, OfCached}
-use Rattle.index_cmd.proofs.Keeping.{cached_from, looks_from, looks_large_from}
+use Rattle.index_cmd.specs.Results.{Says}
+use Rattle.index_cmd.specs.Stores.{Leaves}
+use Rattle.index_cmd.proofs.Keeping.{cached_from, looks_from, looks_large_from, prefix_from}
+use Rattle.index_cmd.proofs.Outcomes.{nothing}
 
--- ---- statuses of which nothing is said
+-- ---- by what was asked
 
-abbrev pub IsFree : Status → Type 0
-IsFree Answered = ⊥
-IsFree Refused = ⊥
-IsFree IndexTooLarge = ⊥
-IsFree other = ⊤
+-- only where an index that may be kept was asked is there something to show
+module _ (told shelf : Option Files) (kept_reads stores : Type 0) (old new : Option (List ℕ)) (status : Status) (P : Option Request → Type 0) where
+  by_request : ((file store : List ℕ) (q : Question) → P (Some (OfCached file store q)) → UsesKept (Some (OfCached file store q)) told shelf kept_reads stores old new status) → (request : Option Request) → P request → UsesKept request told shelf kept_reads stores old new status
+  by_request f None p = tt
+  by_request f (Some TheHelp) p = tt
+  by_request f (Some TheVersion) p = tt
+  by_request f (Some (OfFile file q)) p = tt
+  by_request f (Some (OfGdb index q)) p = tt
+  by_request f (Some (OfNames look index strings name)) p = tt
+  by_request f (Some (OfServe how file)) p = tt
+  by_request f (Some (OfRace how file script)) p = tt
+  by_request f (Some (OfDrill seed units)) p = tt
+  by_request f (Some (OfAranges file)) p = tt
+  by_request f (Some (OfFiles file name)) p = tt
+  by_request f (Some (OfIndex kind file out)) p = tt
+  by_request f (Some (OfAdd kind file out)) p = tt
+  by_request f (Some (OfCached file store q)) p = f file store q p
 
-module _ (told shelf : Option Files) (kept_reads stores : Type 0) (old new : Option (List ℕ)) where
-  pub free : (request : Option Request) (status : Status) → IsFree status → UsesKept request told shelf kept_reads stores old new status
-  free None status o = tt
-  free (Some TheHelp) status o = tt
-  free (Some TheVersion) status o = tt
-  free (Some (OfFile file q)) status o = tt
-  free (Some (OfGdb index q)) status o = tt
-  free (Some (OfNames look index strings name)) status o = tt
-  free (Some (OfServe how file)) status o = tt
-  free (Some (OfRace how file script)) status o = tt
-  free (Some (OfDrill seed units)) status o = tt
-  free (Some (OfAranges file)) status o = tt
-  free (Some (OfFiles file name)) status o = tt
-  free (Some (OfIndex kind file out)) status o = tt
-  free (Some (OfAdd kind file out)) status o = tt
-  free (Some (OfCached file store q)) Answered o = absurd o
-  free (Some (OfCached file store q)) Refused o = absurd o
-  free (Some (OfCached file store q)) IndexTooLarge o = absurd o
-  free (Some (OfCached file store q)) Usage o = tt
-  free (Some (OfCached file store q)) ReadFault o = tt
-  free (Some (OfCached file store q)) StoreFault o = tt
-  free (Some (OfCached file store q)) WriteFault o = tt
-  free (Some (OfCached file store q)) InputFault o = tt
-  free (Some (OfCached file store q)) NoMemory o = tt
-  free (Some (OfCached file store q)) IndexRefused o = tt
-  free (Some (OfCached file store q)) (TableRefused table) o = tt
-  free (Some (OfCached file store q)) FileTooBig o = tt
-  free (Some (OfCached file store q)) AlreadyIndexed o = tt
-  free (Some (OfCached file store q)) TooManySections o = tt
-  free (Some (OfCached file store q)) InputTooLong o = tt
-  free (Some (OfCached file store q)) Stopped o = tt
-
-  -- a file that wasn't read
-  pub unread_file : (request : Option Request) (stop : ReadStop) → UsesKept request told shelf kept_reads stores old new (stop_status stop)
-  unread_file request stops.Fault = free request ReadFault tt
-  unread_file request stops.TooBig = free request FileTooBig tt
-  unread_file request stops.Memory = free request NoMemory tt
+-- of a file that wasn't read nothing is said
+pub unread_file : (told shelf : Option Files) (kept_reads stores : Type 0) (old new : Option (List ℕ)) (request : Option Request) (stop : ReadStop) → UsesKept request told shelf kept_reads stores old new (stop_status stop)
+unread_file told shelf kept_reads stores old new request stops.Fault = by_request told shelf kept_reads stores old new ReadFault (λ _. ⊤) (λ file store q o. tt) request tt
+unread_file told shelf kept_reads stores old new request stops.TooBig = by_request told shelf kept_reads stores old new FileTooBig (λ _. ⊤) (λ file store q o. tt) request tt
+unread_file told shelf kept_reads stores old new request stops.Memory = by_request told shelf kept_reads stores old new NoMemory (λ _. ⊤) (λ file store q o. tt) request tt
 
 -- ---- the command
 
@@ -88,60 +73,72 @@ module _ {F : Type 0} (seen : OfShelf F) (before middle last : F) (file bytes st
   stores_on : later_stores → stores
   stores_on = subst (λ (n : ℕ). Rose n (seen.store_faults last)) was.stores_stay
 
-  pub uses : (status : Status) → (status ≡ Answered → (text : List ℕ) × IsCached (seen.files middle) (seen.files last) bytes store q later_kept later_stores text × Appends old new text) → LooksFirst (seen.files middle) bytes store later_kept status → UsesKept (Some (OfCached file store q)) (seen.files before) (seen.files last) kept stores old new status
-  uses Answered tied first = let t = tied refl in (t.0, (bytes, was.holds, was.small, cached_from (seen.files before) (seen.files middle) was.same (seen.files last) bytes store q later_kept later_stores kept stores kept_on stores_on t.0 t.1), t.2)
-  uses Refused tied first = (bytes, was.holds, was.small, looks_from (seen.files before) (seen.files middle) was.same bytes store later_kept kept kept_on first)
-  uses IndexTooLarge tied first = (bytes, was.holds, was.small, looks_large_from (seen.files before) (seen.files middle) was.same bytes store later_kept kept kept_on first)
-  uses Usage tied first = tt
-  uses ReadFault tied first = tt
-  uses StoreFault tied first = tt
-  uses WriteFault tied first = tt
-  uses InputFault tied first = tt
-  uses NoMemory tied first = tt
-  uses IndexRefused tied first = tt
-  uses (TableRefused table) tied first = tt
-  uses FileTooBig tied first = tt
-  uses AlreadyIndexed tied first = tt
-  uses TooManySections tied first = tt
-  uses InputTooLong tied first = tt
-  uses Stopped tied first = tt
+  pub uses : (status : Status) → (status ≡ Answered → (text : List ℕ) × IsCached (seen.files middle) (seen.files last) bytes store q later_kept later_stores text × Appends old new text) → (status ≡ WriteFault → PrefixOf (SaysTied (seen.files middle) (seen.files last) bytes store q later_kept later_stores) old new) → LooksFirst (seen.files middle) bytes store later_kept status → UsesKept (Some (OfCached file store q)) (seen.files before) (seen.files last) kept stores old new status
+  uses Answered tied part first = let t = tied refl in (t.0, (bytes, was.holds, was.small, cached_from (seen.files before) (seen.files middle) was.same (seen.files last) bytes store q later_kept later_stores kept stores kept_on stores_on t.0 t.1), t.2)
+  uses Refused tied part first = (bytes, was.holds, was.small, looks_from (seen.files before) (seen.files middle) was.same bytes store later_kept kept kept_on first)
+  uses IndexTooLarge tied part first = (bytes, was.holds, was.small, looks_large_from (seen.files before) (seen.files middle) was.same bytes store later_kept kept kept_on first)
+  uses Usage tied part first = tt
+  uses ReadFault tied part first = tt
+  uses StoreFault tied part first = tt
+  uses WriteFault tied part first = in_result (bytes, was.holds, was.small, prefix_from (seen.files before) (seen.files middle) was.same (seen.files last) bytes store q later_kept later_stores kept stores kept_on stores_on old new (part refl))
+  uses InputFault tied part first = tt
+  uses NoMemory tied part first = tt
+  uses IndexRefused tied part first = tt
+  uses (TableRefused table) tied part first = tt
+  uses FileTooBig tied part first = tt
+  uses AlreadyIndexed tied part first = tt
+  uses TooManySections tied part first = tt
+  uses InputTooLong tied part first = tt
+  uses Stopped tied part first = tt
 
 -- ---- once the line is written
 
-module _ (told shelf : Option Files) (kept_reads stores : Type 0) (old mid new : Option (List ℕ)) (second : Type 0) where
-  -- a status with a line says nothing of the text
-  of_line : (request : Option Request) (status : Status) (text : List ℕ) → line_of status ≡ Some text → UsesKept request told shelf kept_reads stores old mid status → UsesKept request told shelf kept_reads stores old new status
-  of_line None status text is u = tt
-  of_line (Some TheHelp) status text is u = tt
-  of_line (Some TheVersion) status text is u = tt
-  of_line (Some (OfFile file q)) status text is u = tt
-  of_line (Some (OfGdb index q)) status text is u = tt
-  of_line (Some (OfNames look index strings name)) status text is u = tt
-  of_line (Some (OfServe how file)) status text is u = tt
-  of_line (Some (OfRace how file script)) status text is u = tt
-  of_line (Some (OfDrill seed units)) status text is u = tt
-  of_line (Some (OfAranges file)) status text is u = tt
-  of_line (Some (OfFiles file name)) status text is u = tt
-  of_line (Some (OfIndex kind file out)) status text is u = tt
-  of_line (Some (OfAdd kind file out)) status text is u = tt
-  of_line (Some (OfCached file store q)) Answered text is u = absurd (cc is)
-  of_line (Some (OfCached file store q)) Refused text is u = u
-  of_line (Some (OfCached file store q)) IndexTooLarge text is u = u
-  of_line (Some (OfCached file store q)) Usage text is u = tt
-  of_line (Some (OfCached file store q)) ReadFault text is u = tt
-  of_line (Some (OfCached file store q)) StoreFault text is u = tt
-  of_line (Some (OfCached file store q)) WriteFault text is u = tt
-  of_line (Some (OfCached file store q)) InputFault text is u = tt
-  of_line (Some (OfCached file store q)) NoMemory text is u = tt
-  of_line (Some (OfCached file store q)) IndexRefused text is u = tt
-  of_line (Some (OfCached file store q)) (TableRefused table) text is u = tt
-  of_line (Some (OfCached file store q)) FileTooBig text is u = tt
-  of_line (Some (OfCached file store q)) AlreadyIndexed text is u = tt
-  of_line (Some (OfCached file store q)) TooManySections text is u = tt
-  of_line (Some (OfCached file store q)) InputTooLong text is u = tt
-  of_line (Some (OfCached file store q)) Stopped text is u = tt
+module _ (told shelf : Option Files) (kept_reads stores : Type 0) (old mid new : Option (List ℕ)) (file store : List ℕ) (q : Question) where
+  abbrev asked : Option Request
+  asked = Some (OfCached file store q)
 
-  pub at_end : (request : Option Request) (status result : Status) → Ends status mid new second result → UsesKept request told shelf kept_reads stores old mid status → UsesKept request told shelf kept_reads stores old new result
-  at_end request status result (without_line none same) u = subst (λ (o : Option (List ℕ)). UsesKept request told shelf kept_reads stores old o status) same u
-  at_end request status result (with_line text has all) u = of_line request status text has u
-  at_end request status result (cut text has f part) u = free told shelf kept_reads stores old new request WriteFault tt
+  -- a status with a line says nothing of the text
+  of_line : (status : Status) (text : List ℕ) → line_of status ≡ Some text → UsesKept asked told shelf kept_reads stores old mid status → UsesKept asked told shelf kept_reads stores old new status
+  of_line Answered text is u = absurd (cc is)
+  of_line Refused text is u = u
+  of_line IndexTooLarge text is u = u
+  of_line WriteFault text is u = absurd (cc is)
+  of_line Usage text is u = tt
+  of_line ReadFault text is u = tt
+  of_line StoreFault text is u = tt
+  of_line InputFault text is u = tt
+  of_line NoMemory text is u = tt
+  of_line IndexRefused text is u = tt
+  of_line (TableRefused table) text is u = tt
+  of_line FileTooBig text is u = tt
+  of_line AlreadyIndexed text is u = tt
+  of_line TooManySections text is u = tt
+  of_line InputTooLong text is u = tt
+  of_line Stopped text is u = tt
+
+  -- the line wasn't written whole
+  cut_line : (status : Status) (text : List ℕ) → line_of status ≡ Some text → AppendsPrefix old new text → UsesKept asked told shelf kept_reads stores old mid status → Leaves asked told shelf status → IsCutShort told shelf file store q kept_reads stores old new
+  cut_line Usage text is part u same = in_line Usage text is tt same part
+  cut_line ReadFault text is part u same = in_line ReadFault text is tt same part
+  cut_line NoMemory text is part u same = in_line NoMemory text is tt same part
+  cut_line IndexTooLarge text is part u same = in_line IndexTooLarge text is u same part
+  cut_line FileTooBig text is part u same = in_line FileTooBig text is tt same part
+  cut_line AlreadyIndexed text is part u same = in_line AlreadyIndexed text is tt same part
+  cut_line TooManySections text is part u same = in_line TooManySections text is tt same part
+  cut_line StoreFault text is part u never = absurd never
+  cut_line Answered text is part u left = absurd (cc is)
+  cut_line Refused text is part u left = absurd (cc is)
+  cut_line WriteFault text is part u left = absurd (cc is)
+  cut_line InputFault text is part u left = absurd (cc is)
+  cut_line IndexRefused text is part u left = absurd (cc is)
+  cut_line (TableRefused table) text is part u left = absurd (cc is)
+  cut_line InputTooLong text is part u left = absurd (cc is)
+  cut_line Stopped text is part u left = absurd (cc is)
+
+module _ (told shelf : Option Files) (heard : Heard) (kept_reads stores : Type 0) (old mid new : Option (List ℕ)) (second : Type 0) (request : Option Request) where
+  pub at_end : (status result : Status) → Ends status mid new second result → UsesKept request told shelf kept_reads stores old mid status → Wrote (Says request told heard) status old mid → Leaves request told shelf status → UsesKept request told shelf kept_reads stores old new result
+  at_end status result (without_line none same) u w left = subst (λ (o : Option (List ℕ)). UsesKept request told shelf kept_reads stores old o status) same u
+  at_end status result (with_line text has all) u w left = by_request told shelf kept_reads stores old new status (λ r. UsesKept r told shelf kept_reads stores old mid status) (λ file store q. of_line told shelf kept_reads stores old mid new file store q status text has) request u
+  at_end status result (cut text has f part) u w left =
+      let whole : AppendsPrefix old new text = appends_more_prefix old mid new [] text (nothing request told heard status text old mid has w) part in
+      by_request told shelf kept_reads stores old new WriteFault (λ r. UsesKept r told shelf kept_reads stores old mid status × Leaves r told shelf status) (λ file store q h. cut_line told shelf kept_reads stores old mid new file store q status text has whole h.0 h.1) request (u, left)

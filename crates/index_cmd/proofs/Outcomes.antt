@@ -182,6 +182,26 @@ asks_index None P h = absurd h
 
 -- ---- from what was written before the line
 
+module _ (request : Option Request) (told : Option Files) (heard : Heard) where
+  -- a status with a line wrote nothing before it
+  pub nothing : (status : Status) (line : List ℕ) (old mid : Option (List ℕ)) → line_of status ≡ Some line → Wrote (Says request told heard) status old mid → Appends old mid []
+  nothing Answered line old mid has w = absurd (cc has)
+  nothing Refused line old mid has w = absurd (cc has)
+  nothing WriteFault line old mid has w = absurd (cc has)
+  nothing Usage line old mid has w = w
+  nothing ReadFault line old mid has w = w
+  nothing NoMemory line old mid has w = w
+  nothing FileTooBig line old mid has w = w
+  nothing AlreadyIndexed line old mid has w = w
+  nothing TooManySections line old mid has w = w
+  nothing StoreFault line old mid has w = w
+  nothing IndexTooLarge line old mid has w = w
+  nothing IndexRefused line old mid has w = absurd (cc has)
+  nothing (TableRefused table) line old mid has w = absurd (cc has)
+  nothing InputFault line old mid has w = absurd (cc has)
+  nothing InputTooLong line old mid has w = absurd (cc has)
+  nothing Stopped line old mid has w = absurd (cc has)
+
 module _ (request : Option Request) (told : Option Files) (heard : Heard) (reads stores first second writes : Type 0) (weaker : first → writes) (later : second → writes) where
   cause_up : (status : Status) → Causes request told reads stores first status → Causes request told reads stores writes status
   cause_up Answered c = tt
@@ -200,25 +220,6 @@ module _ (request : Option Request) (told : Option Files) (heard : Heard) (reads
   cause_up IndexRefused c = tt
   cause_up (TableRefused table) c = tt
   cause_up IndexTooLarge c = c
-
-  -- a status with a line wrote nothing before it
-  nothing : (status : Status) (line : List ℕ) (old mid : Option (List ℕ)) → line_of status ≡ Some line → Wrote (Says request told heard) status old mid → Appends old mid []
-  nothing Answered line old mid has w = absurd (cc has)
-  nothing Refused line old mid has w = absurd (cc has)
-  nothing WriteFault line old mid has w = absurd (cc has)
-  nothing Usage line old mid has w = w
-  nothing ReadFault line old mid has w = w
-  nothing NoMemory line old mid has w = w
-  nothing FileTooBig line old mid has w = w
-  nothing AlreadyIndexed line old mid has w = w
-  nothing TooManySections line old mid has w = w
-  nothing StoreFault line old mid has w = w
-  nothing IndexTooLarge line old mid has w = w
-  nothing IndexRefused line old mid has w = absurd (cc has)
-  nothing (TableRefused table) line old mid has w = absurd (cc has)
-  nothing InputFault line old mid has w = absurd (cc has)
-  nothing InputTooLong line old mid has w = absurd (cc has)
-  nothing Stopped line old mid has w = absurd (cc has)
 
   without : (status : Status) (old new : Option (List ℕ)) → line_of status ≡ None → Wrote (Says request told heard) status old new → Causes request told reads stores first status → Outcome request told heard reads stores writes old new status
   without Answered old new none w c = tells tt w
@@ -240,8 +241,8 @@ module _ (request : Option Request) (told : Option Files) (heard : Heard) (reads
 
   pub outcome : (status result : Status) (old mid new : Option (List ℕ)) → Wrote (Says request told heard) status old mid → Causes request told reads stores first status → Ends status mid new second result → Outcome request told heard reads stores writes old new result
   outcome status result old mid new w c (without_line none same) = without status old new none (subst (λ (o : Option (List ℕ)). Wrote (Says request told heard) status old o) same w) c
-  outcome status result old mid new w c (with_line text has all) = lines text has (cause_up status c) (appends_more old mid new [] text (nothing status text old mid has w) all)
-  outcome status result old mid new w c (cut text has f part) = fails (later f) (text, (status, inr has), appends_more_prefix old mid new [] text (nothing status text old mid has w) part)
+  outcome status result old mid new w c (with_line text has all) = lines text has (cause_up status c) (appends_more old mid new [] text (nothing request told heard status text old mid has w) all)
+  outcome status result old mid new w c (cut text has f part) = fails (later f) (text, (status, inr has), appends_more_prefix old mid new [] text (nothing request told heard status text old mid has w) part)
 
 -- ---- words outside the grammar
 

@@ -148,6 +148,6 @@ returns-in-Cached-clause-did g c file before was =
     let new = g.K.Sink.written call.new.out in
     subst (λ (a : Action). Did (ran g.F.Shelf g.S.Source g.K.Sink (Some (request_on file a)) before call.new.shelf c.args.input.now c.args.input.now c.args.out.now call.new.out) call.result) (sym c.in-Cached.is) (record {
       does = cached_does g.F.Shelf before c.args.shelf.now call.new.shelf file c.args.bytes.now input writes was old new _ _ (g.F.Shelf.files call.new.shelf) call.result call.ensures.wrote call.ensures.causes call.ensures.leaves;
-      uses = uses g.F.Shelf before c.args.shelf.now call.new.shelf file c.args.bytes.now _ _ was old new call.result call.ensures.tied call.ensures.looks_first;
+      uses = uses g.F.Shelf before c.args.shelf.now call.new.shelf file c.args.bytes.now _ _ was old new call.result call.ensures.tied call.ensures.cut call.ensures.looks_first;
       input = λ _. refl;
     })

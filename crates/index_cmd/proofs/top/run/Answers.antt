@@ -48,7 +48,7 @@ returns g c =
         outside_grammar = outside_grammar r.request r.files_before r.heard r.read_failed r.store_failed r.write_failed r.written_before r.written_after c.end.result (came g c);
         stored = left g c;
         kept = λ nothing. kept r.request r.files_before r.files_after nothing r.store_failed c.end.result (left g c);
-        cached = at_end r.files_before r.files_after r.kept_failed r.store_failed r.written_before _ r.written_after _ r.request c.command-status.result c.end.result c.end.ensures.ends did.uses;
+        cached = at_end r.files_before r.files_after r.heard r.kept_failed r.store_failed r.written_before _ r.written_after _ r.request c.command-status.result c.end.result c.end.ensures.ends did.uses did.does.wrote did.does.leaves;
         input = input_at_end r.request r.input_untouched c.command-status.result c.end.result _ _ _ c.end.ensures.ends did.input;
       },
     )
