@@ -58,6 +58,7 @@ ROWS = [
     (programs.many_names, 50000, NAMES, None),
     (programs.ranges_of_all_units, 500, ASK, LISTS),
     (programs.ranges_of_all_functions, 500, ASK, LISTS),
+    (programs.ends_of_a_list, 500, ASK, LISTS),
     (programs.imports, 20000, ASK, IMPORTS),
     (programs.long_scopes, 1000, GDB8, LONG),
     (programs.longest_scopes, 10, GDB8, LONG),
@@ -93,10 +94,11 @@ class Run:
         return "%.2f s, %d MB, %s" % (self.seconds, self.memory >> 20, told)
 
 
-def measured(command, seconds):
-    """A run of a command with a limit of processor seconds."""
+def measured(command, seconds, most=resource.RLIM_INFINITY):
+    """A run of a command with a limit of processor seconds, and one of bytes of memory."""
     def limited():
         resource.setrlimit(resource.RLIMIT_CPU, (seconds, seconds + 1))
+        resource.setrlimit(resource.RLIMIT_AS, (most, most))
         resource.setrlimit(resource.RLIMIT_CORE, (0, 0))
 
     nothing = subprocess.DEVNULL
