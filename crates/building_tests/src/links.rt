@@ -8,19 +8,19 @@ use std::alloc::Global;
 use std::test::Fail;
 use test_files::programs::THREE_UNITS;
 
-// Offset, whether it is external, name, linkage name and length of the whole name.
-type Row = (u64, bool, Option<&'static [u8]>, Option<&'static [u8]>, u32);
+// Offset, whether it is static, name, linkage name and length of the whole name.
+type Row = (u64, bool, &'static [u8], Option<&'static [u8]>, u32);
 
 // `ns::C::f`, `ns` and `ns::C`.
 const ENTRIES: [Row; 3] = [
-    (0x13, true, Some(b"f"), None, 8),
-    (0x51, false, Some(b"ns"), None, 2),
-    (0x55, false, Some(b"C"), None, 5),
+    (0x13, false, b"f", None, 8),
+    (0x51, false, b"ns", None, 2),
+    (0x55, false, b"C", None, 5),
 ];
 
 fn is(entry: &LinkedEntry<'_>, row: &Row) -> bool {
     let names = (entry.name, entry.linkage);
-    (entry.offset, entry.external, names.0, names.1, entry.length) == *row
+    (entry.offset, entry.local, names.0, names.1, entry.length) == *row
 }
 
 // Whether the entries are the rows.

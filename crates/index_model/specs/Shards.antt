@@ -5,9 +5,11 @@ use Rattle.index_model.specs.declared.shard.Shard.{Shard}
 use Rattle.index_model.specs.declared.shard.LinkedEntry.{LinkedEntry}
 use Rattle.index_model.specs.declared.shard.Linked.{Linked}
 use Rattle.index_model.specs.Sections.{Section}
-use Rattle.index_model.specs.Program.{Walked, Program}
-use Rattle.index_model.specs.Chains.{is_external, linkage_name_of}
-use Rattle.index_model.specs.Links.{Link, indexed_in, qualified_of}
+use Rattle.index_model.specs.Program.{Walked, Program, scope_around}
+use Rattle.index_model.specs.Attributes.{says_main}
+use Rattle.index_model.specs.Chains.{chain_end, linkage_name_of}
+use Rattle.index_model.specs.Entries.{is_link_static}
+use Rattle.index_model.specs.Links.{Link, indexed_in, name_in, qualified_of}
 use Rattle.index_model.specs.ShardParts.{root_facts, kept_in, IsSeenOf, spans_of, imports_in}
 
 -- ---- walks
@@ -46,9 +48,13 @@ length_of None = 0
 
 -- what a link says of an indexed entry
 pub record IsLinkedEntryOf (p : Program) (e : LinkedEntry) (k : Link) : Type 0 where
+  pub unit : e.unit ≡ k.entry.home.number
+  pub tag : e.tag ≡ k.entry.item.tag
+  pub local : e.local ≡ is_link_static k
+  pub main : e.main ≡ says_main k.entry.item
   pub offset : e.offset ≡ k.entry.item.at
-  pub external : e.external ≡ is_external k.chain
-  pub name : option_map (λ t. t.now) e.name ≡ k.spelled
+  pub around : e.around ≡ option_map (λ m. m.item.at) (scope_around (chain_end k.entry k.chain))
+  pub name : name_in k ≡ Some e.name.now
   pub linkage : option_map (λ t. t.now) e.linkage ≡ linkage_name_of p k.chain
   pub length : e.length ≡ length_of (qualified_of k)
 

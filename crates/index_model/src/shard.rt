@@ -118,15 +118,22 @@ pub struct Shard<'f> {
     pub imports: List<Import>,
 }
 
-/// What its references say of an indexed entry.
+/// What an index lists of an indexed entry, by the entry itself and by its references.
 #[derive(Clone, Copy)]
 pub struct LinkedEntry<'f> {
+    /// The unit's number in section order, counted from 0.
+    pub unit: u32,
+    pub tag: u16,
+    /// Whether its name is static: it counts in its own unit alone.
+    pub local: bool,
+    /// Whether the entry itself says that it is the main program.
+    pub main: bool,
     /// The joint offset of the entry.
     pub offset: u64,
-    /// Whether some entry of its chain is external.
-    pub external: bool,
-    /// The name that the file spells for it. None for the anonymous namespace alone.
-    pub name: Option<&'f [u8]>,
+    /// The joint offset of the lexical parent of the last entry of its chain. None where that one is a root.
+    pub around: Option<u64>,
+    /// Its name without a scope: what the file spells for it, else that of the anonymous namespace.
+    pub name: &'f [u8],
     /// The first linkage name on its chain.
     pub linkage: Option<&'f [u8]>,
     /// The length of its qualified name in bytes.

@@ -21,3 +21,5 @@ pub mod NodeLinks
 pub mod RunLinks
 mod ComponentLaws
 pub mod CutFile
+pub mod ChainEnds
+pub mod TableLaws

@@ -5,29 +5,27 @@ ghost use Rattle.index_model.specs.Gives.{GivesFor};
 ghost use Rattle.index_model.specs.Meaning.{at_place};
 ghost use Rattle.index_model.specs.Names.{scope_path};
 ghost use Rattle.parent_resolve.specs.Components.{AreComponents};
-ghost use Rattle.parent_resolve.specs.Followed.{ForEntry};
-ghost use Rattle.parent_resolve.specs.Paths.{ForAround};
+ghost use Rattle.parent_resolve.specs.Paths.{ForAround, ForEnd};
 
 use crate::members::{step_at, too_long};
 use crate::references::References;
-use index_model::Node;
 use ix_base::{MAX_PATH_STEPS, Stop};
 use std::alloc::Global;
 
 impl<'s, 'f> References<'s, 'f> {
-    /// What the members of the scope path around an entry whose chain ends at this node give to C++ names, from the inside
-    /// outwards; None for a member that gives nothing. A fault has the place `at`: a reference that names no entry (code 16),
-    /// or a chain of more than 8 hops or a path of more than 1,024 steps (17).
+    /// What the members of the scope path around an entry with this lexical parent, or with none, give to C++ names, from the
+    /// inside outwards; None for a member that gives nothing. A fault has the place `at`: a reference that names no entry (code
+    /// 16), or a chain of more than 8 hops or a path of more than 1,024 steps (17).
     pub fn components(
         &mut self,
         alloc: Global,
-        end: &Node<'f>,
+        parent: Option<u64>,
         at: u64,
     ) -> Result<Vec<Option<&'f [u8]>>, Stop>
-        ensures value { ForEntry self.old end.now (λ p e. GivesFor AreComponents result (at_place at (scope_path p e))) }
+        ensures value { ForEnd self.old parent (λ p e. GivesFor AreComponents result (at_place at (scope_path p e))) }
         ensures kept { self.new ≡ self.old }
     {
-        match end.parent {
+        match parent {
             Some(parent) => components_from(self, alloc, parent, at),
             None => Ok(Vec::new(alloc)),
         }

@@ -13,7 +13,7 @@ ghost use Rattle.parent_resolve.specs.Scopes.{greatest, IsScope};
 use crate::paths::Paths;
 use crate::scope::{Scope, name_with};
 use crate::traced::Traced;
-use entry_rules::{Class, Facts, indexed};
+use entry_rules::{Class, Facts, indexed, is_static};
 use index_model::{LinkedEntry, Node};
 use ix_base::code::NAME_TOO_LONG;
 use ix_base::{Fault, MAX_QUALIFIED_NAME, Stop};
@@ -52,7 +52,8 @@ fn entry_of<'f>(
     let Some(name) = name_with(node, traced.spelled) else {
         return Ok(None);
     };
-    if !indexed(&facts(node, class, traced)) {
+    let facts = facts_of(node, class, traced);
+    if !indexed(&facts) {
         return Ok(None);
     }
     let length = qualified_length(class, scope, name);
@@ -63,9 +64,13 @@ fn entry_of<'f>(
         });
     }
     Ok(Some(LinkedEntry {
+        unit: node.unit,
+        tag: facts.tag as u16,
+        local: is_static(&facts),
+        main: node.main,
         offset: node.offset,
-        external: traced.external,
-        name: traced.spelled,
+        around: traced.around,
+        name,
         linkage: traced.linkage,
         length: length as u32,
     }))
@@ -73,7 +78,7 @@ fn entry_of<'f>(
 
 // What the rules ask of a visited entry that has a name.
 #[tactic(auto, unfolding(index_model::specs::ShardParts::node_facts, index_model::specs::Links::facts_of))]
-fn facts(node: &Node<'_>, class: Class, traced: &Traced<'_>) -> Facts
+fn facts_of(node: &Node<'_>, class: Class, traced: &Traced<'_>) -> Facts
     ensures { ForTraced node.now class traced.now (λ p d n. (path : List Member) → is_some (name_in (link_with p d n path)) ≡ true → result ≡ facts_of (link_with p d n path)) }
 {
     Facts {

@@ -1,8 +1,7 @@
 pub mod LinkLaws
 mod NameLaws
 mod AroundLaws
-mod Sides
+mod IndexedLinks
 mod Mains
-mod NodePlaces
 mod EntryParts
 pub mod RunLaws

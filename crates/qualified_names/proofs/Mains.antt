@@ -1,12 +1,15 @@
 -- The main program among the indexed entries.
-use Rattle.std.proofs.Common.{◌≡◌, ℕ, zero, suc, ◌≤◌, Bool, true, false, cond, not, ◌&&◌, eqb, List, [], ◌∷◌, ◌++◌, drop, filter, find, length, unwrap_or, Option, Some, None, option_map, Ok, refl, sym, ap, ◌∙◌, arith}
-use Rattle.std.specs.Prelude.{slice_get, codes, bytes_eq}
+use Rattle.std.proofs.Common.{◌≡◌, ℕ, zero, suc, ◌+◌, ◌<◌, ◌≤◌, Bool, true, false, cond, not, ◌&&◌, eqb, List, [], ◌∷◌, ◌++◌, drop, filter, find, get_or, length, map, unwrap_or, Option, Some, None, option_map, Ok, refl, sym, ap, subst, ◌∙◌, arith}
+use Rattle.std.specs.Arc.{arc_value}
+use Rattle.std.specs.declared.sync.Arc.{Arc}
+use Rattle.std.specs.Prelude.{codes, bytes_eq}
 use Rattle.std.specs.Option.{option_or}
 use Rattle.std.specs.List.{AllZip}
+use Rattle.std.proofs.Math.Seq.{drop-cons}
 use Rattle.std.proofs.lemmas.Bool.{true≢false, eqb-true, and_right}
-use Rattle.std.proofs.lemmas.Option.{same_Some}
 use Rattle.index_model.specs.declared.answer.Main.{Main}
 use Rattle.index_model.specs.declared.shard.Linked.{Linked}
+use Rattle.index_model.specs.declared.shard.LinkedEntry.{LinkedEntry}
 use Rattle.index_model.specs.declared.shard.Shard.{Shard}
 use Rattle.index_model.specs.Attributes.{says_main}
 use Rattle.index_model.specs.Entries.{is_link_static}
@@ -14,37 +17,22 @@ use Rattle.index_model.specs.Faults.{program_of}
 use Rattle.index_model.specs.Languages.{class_of, language_of}
 use Rattle.index_model.specs.Links.{Link, indexed_in, qualified_of}
 use Rattle.index_model.specs.MainProgram.{full_name, is_c_or_cxx, is_named_main, main_in, main_of}
-use Rattle.index_model.specs.Program.{Program, Located}
-use Rattle.index_model.specs.Sections.{Section}
+use Rattle.index_model.specs.Program.{Program}
 use Rattle.index_model.specs.ShardLanguages.{IsLanguageAt}
-use Rattle.index_model.specs.ShardParts.{IsNodeOf, node_facts}
 use Rattle.index_model.specs.Shards.{AreShardsOf}
 use Rattle.index_model.specs.Tags.{subprogram}
 use Rattle.parent_resolve.proofs.Entries.{home_in}
-use Rattle.qualified_names.specs.declared.indexed.Indexed.{Indexed}
 use Rattle.qualified_names.specs.declared.sought.Sought.TheVariants.{Said, Named}
 use Rattle.qualified_names.specs.Indexed.{IsIndexed}
-use Rattle.qualified_names.specs.Nodes.{all_indexed, indexed_nodes, indexed_seen, IndexedSeen}
+use Rattle.qualified_names.specs.Files.{all_linked}
 use Rattle.qualified_names.specs.Sought.{is_main_by, IsFound}
 use Rattle.qualified_names.proofs.LinkLaws.{parts}
 
 -- ---- the language of an entry's unit
 
-node_unit : (ss : List Section) (x : Indexed) (d : Located) → IsNodeOf ss x.node d → x.node.unit ≡ d.home.number
-unfolding node_facts
-node_unit ss x d h = ap (λ n. n.unit) h.facts
-
-pub node_main : (ss : List Section) (x : Indexed) (d : Located) → IsNodeOf ss x.node d → x.node.main ≡ says_main d.item
-unfolding node_facts
-node_main ss x d h = ap (λ n. n.main) h.facts
-
-pub node_tag : (ss : List Section) (x : Indexed) (d : Located) → IsNodeOf ss x.node d → x.node.tag ≡ d.item.tag
-unfolding node_facts
-node_tag ss x d h = ap (λ n. n.tag) h.facts
-
-module _ (f : List ℕ) (p : Program) (file : program_of f ≡ Ok p) (shards : List Shard) (are : AreShardsOf p shards) (x : Indexed) (k : Link) (h : IsIndexed p (indexed_seen x) k) (language : ℕ) (at : IsLanguageAt shards x.node.unit language) where
+module _ (f : List ℕ) (p : Program) (file : program_of f ≡ Ok p) (shards : List Shard) (are : AreShardsOf p shards) (x : LinkedEntry) (k : Link) (h : IsIndexed p x k) (language : ℕ) (at : IsLanguageAt shards x.unit language) where
   pub language_here : language ≡ language_of p k.entry.home
-  language_here = at f p file are k.entry.home (home_in p k.entry h.there).0 (sym (node_unit p.sections x k.entry h.node))
+  language_here = at f p file are k.entry.home (home_in p k.entry h.there).0 (sym h.links.unit)
 
   pub class_here : class_of language ≡ k.class
   class_here = ap class_of language_here ∙ sym (parts p x k h).class
@@ -119,11 +107,11 @@ module _ {A : Type 0} where
       by false more = more
 
 module _ (p : Program) where
-  pub found_or : (x : Indexed) (a b : Option Link) → IsFound p (Some x) a → IsFound p (Some x) (option_or a b)
+  pub found_or : (x : LinkedEntry) (a b : Option Link) → IsFound p (Some x) a → IsFound p (Some x) (option_or a b)
   found_or x None b h = absurd h
   found_or x (Some k) b h = h
 
-  pub none_or : (a : Option Link) → IsFound p None a → (r : Option Indexed) (b : Option Link) → IsFound p r b → IsFound p r (option_or a b)
+  pub none_or : (a : Option Link) → IsFound p None a → (r : Option LinkedEntry) (b : Option Link) → IsFound p r b → IsFound p r (option_or a b)
   none_or None h r b g = g
   none_or (Some k) h r b g = absurd h
 
@@ -131,18 +119,18 @@ module _ (p : Program) where
   none_found None h = refl
   none_found (Some k) h = absurd h
 
-  pub one_found : (x : Indexed) (a : Option Link) → IsFound p (Some x) a → (k : Link) × (a ≡ Some k) × IsIndexed p (indexed_seen x) k
+  pub one_found : (x : LinkedEntry) (a : Option Link) → IsFound p (Some x) a → (k : Link) × (a ≡ Some k) × IsIndexed p x k
   one_found x None h = absurd h
   one_found x (Some k) h = (k, refl, h)
 
   -- the entries that are left, of which the first that is told is the first of all
-  pub record Left (q : Link → Bool) (ks : List Link) (xs : List IndexedSeen) : Type 0 where
+  pub record Left (q : Link → Bool) (ks : List Link) (xs : List LinkedEntry) : Type 0 where
     pub rest : List Link
     pub zip : AllZip (IsIndexed p) xs rest
     pub same : find q ks ≡ find q rest
 
   module _ (q : Link → Bool) (ks : List Link) where
-    pub all_left : (xs : List IndexedSeen) → AllZip (IsIndexed p) xs ks → Left q ks xs
+    pub all_left : (xs : List LinkedEntry) → AllZip (IsIndexed p) xs ks → Left q ks xs
     all_left xs z = record { rest = ks; zip = z; same = refl }
 
     pub none_left : Left q ks [] → find q ks ≡ None
@@ -152,7 +140,7 @@ module _ (p : Program) where
         by [] z same = same
         by (k ∷ rest) z same = absurd z
 
-    pub first_left : (x : IndexedSeen) (xs : List IndexedSeen) → Left q ks (x ∷ xs) → (k : Link) × IsIndexed p x k × (q k ≡ true → find q ks ≡ Some k) × (q k ≡ false → Left q ks xs)
+    pub first_left : (x : LinkedEntry) (xs : List LinkedEntry) → Left q ks (x ∷ xs) → (k : Link) × IsIndexed p x k × (q k ≡ true → find q ks ≡ Some k) × (q k ≡ false → Left q ks xs)
     first_left x xs l = by l.rest l.zip l.same
       where
         by : (rest : List Link) → AllZip (IsIndexed p) (x ∷ xs) rest → find q ks ≡ find q rest → (k : Link) × IsIndexed p x k × (q k ≡ true → find q ks ≡ Some k) × (q k ≡ false → Left q ks xs)
@@ -165,12 +153,12 @@ module _ (p : Program) where
         )
 
     -- some entries in front, and all others
-    pub front_left : (xs ys : List IndexedSeen) → Left q ks (xs ++ ys) → (front : List Link) × (back : List Link) × AllZip (IsIndexed p) xs front × AllZip (IsIndexed p) ys back × (find q ks ≡ option_or (find q front) (find q back))
+    pub front_left : (xs ys : List LinkedEntry) → Left q ks (xs ++ ys) → (front : List Link) × (back : List Link) × AllZip (IsIndexed p) xs front × AllZip (IsIndexed p) ys back × (find q ks ≡ option_or (find q front) (find q back))
     front_left xs ys l =
         let s = split xs l.rest l.zip in
         (s.0, s.1, s.3, s.4, l.same ∙ ap (find q) (sym s.2) ∙ find_append q s.0 s.1)
       where
-        split : (us : List IndexedSeen) (rest : List Link) → AllZip (IsIndexed p) (us ++ ys) rest → (front : List Link) × (back : List Link) × (front ++ back ≡ rest) × AllZip (IsIndexed p) us front × AllZip (IsIndexed p) ys back
+        split : (us : List LinkedEntry) (rest : List Link) → AllZip (IsIndexed p) (us ++ ys) rest → (front : List Link) × (back : List Link) × (front ++ back ≡ rest) × AllZip (IsIndexed p) us front × AllZip (IsIndexed p) ys back
         split [] rest z = ([], rest, refl, tt, z)
         split (u ∷ us) [] z = absurd z
         split (u ∷ us) (k ∷ rest) z = let s = split us rest z.1 in (k ∷ s.0, s.1, ap (λ (ls : List Link). k ∷ ls) s.2, (z.0, s.3), s.4)
@@ -201,12 +189,7 @@ module _ (p : Program) where
   unfolding main_of
   no_main ks is = sym (ap (option_map answer) is)
 
--- ---- the shards that are left
-
-pub drop_next : {A : Type 0} (xs : List A) (k : ℕ) (x : A) → slice_get xs k ≡ Some x → drop k xs ≡ x ∷ drop (suc k) xs
-drop_next [] k x is = absurd cc
-drop_next (y ∷ ys) zero x is = ap (λ a. a ∷ ys) (same_Some y x is)
-drop_next (y ∷ ys) (suc k) x is = drop_next ys k x is
+-- ---- the entries that are left
 
 pub drop_all : {A : Type 0} (xs : List A) (k : ℕ) → length xs ≤ k → drop k xs ≡ []
 drop_all [] zero le = refl
@@ -214,10 +197,26 @@ drop_all [] (suc k) le = refl
 drop_all (x ∷ xs) zero le = absurd (omega (arith, le))
 drop_all (x ∷ xs) (suc k) le = drop_all xs k (omega (arith, le))
 
-abbrev pub from_place : List Shard → List Linked → ℕ → List IndexedSeen
-from_place shards linked k = all_indexed (drop k shards) (drop k linked)
+module _ (p : Program) (q : Link → Bool) (ks : List Link) (xs : List LinkedEntry) (i : ℕ) (d : LinkedEntry) (within : i < length xs) where
+  -- at one of the entries: its link, and what is so if it is told or isn't
+  pub at_left : Left p q ks (drop i xs) → (k : Link) × IsIndexed p (get_or xs i d) k × (q k ≡ true → find q ks ≡ Some k) × (q k ≡ false → Left p q ks (drop (i + 1) xs))
+  at_left l =
+      let next : suc i ≡ i + 1 = omega arith in
+      first_left p q ks (get_or xs i d) (drop (i + 1) xs) (subst (Left p q ks) (drop-cons xs i d within ∙ ap (λ (n : ℕ). get_or xs i d ∷ drop n xs) next) l)
 
-pub next_place : (shards : List Shard) (linked : List Linked) (k : ℕ) (s : Shard) (l : Linked) → slice_get shards k ≡ Some s → slice_get linked k ≡ Some l → from_place shards linked k ≡ indexed_nodes s.nodes l.entries ++ from_place shards linked (suc k)
-next_place shards linked k s l hs hl =
-    ap (λ (ss : List Shard). all_indexed ss (drop k linked)) (drop_next shards k s hs) ∙
-    ap (λ (ls : List Linked). all_indexed (s ∷ drop (suc k) shards) ls) (drop_next linked k l hl)
+pub end_left : (p : Program) (q : Link → Bool) (ks : List Link) (xs : List LinkedEntry) (i : ℕ) → length xs ≤ i → Left p q ks (drop i xs) → find q ks ≡ None
+end_left p q ks xs i over l = none_left p q ks (subst (Left p q ks) (drop_all xs i over) l)
+
+-- the entries of the runs from one on, which are shared
+abbrev pub from_run : {Z : Type 0} → List (Arc Linked Z) → ℕ → List LinkedEntry
+from_run shared i = all_linked (map arc_value (drop i shared))
+
+pub next_run : {Z : Type 0} (shared : List (Arc Linked Z)) (i : ℕ) (item : Arc Linked Z) → item ≡ get_or shared i item → i < length shared → from_run shared i ≡ (arc_value item).entries ++ from_run shared (i + 1)
+next_run {Z = Z} shared i item at within =
+    let next : suc i ≡ i + 1 = omega arith in
+    ap (λ (ss : List (Arc Linked Z)). all_linked (map arc_value ss)) (drop-cons shared i item within) ∙
+    ap (λ (s : Arc Linked Z). (arc_value s).entries ++ from_run shared (suc i)) (sym at) ∙
+    ap (λ (n : ℕ). (arc_value item).entries ++ from_run shared n) next
+
+pub last_run : {Z : Type 0} (shared : List (Arc Linked Z)) (i : ℕ) → length shared ≤ i → from_run shared i ≡ []
+last_run {Z = Z} shared i over = ap (λ (ss : List (Arc Linked Z)). all_linked (map arc_value ss)) (drop_all shared i over)

@@ -1,5 +1,6 @@
 -- The entries of a run, link by link, and the indexed entries of a whole file.
-use Rattle.std.proofs.Common.{◌≡◌, ℕ, List, [], ◌∷◌, ◌++◌, append_assoc, append-nil, flat_map, length, unwrap_or, Option, Some, Result, Ok, Err, refl, sym, ap, subst, ◌∙◌, arith}
+use Rattle.std.proofs.Common.{◌≡◌, ℕ, suc, ◌+◌, ◌<◌, List, [], ◌∷◌, ◌++◌, append_assoc, append-nil, drop, flat_map, get_or, length, unwrap_or, Option, Some, Result, Ok, Err, refl, sym, ap, subst, ◌∙◌, arith}
+use Rattle.std.proofs.Math.Seq.{drop-cons}
 use Rattle.std.specs.Prelude.{slice_get, IsOkAnd}
 use Rattle.std.specs.List.{AllZip}
 use Rattle.std.proofs.lemmas.List.Concat.{flat_map-append}
@@ -7,6 +8,7 @@ use Rattle.ix_base.specs.declared.fault.Fault.{Fault}
 use Rattle.file_image.specs.Images.{Image}
 use Rattle.index_model.specs.declared.entry.Entry.{Entry}
 use Rattle.index_model.specs.declared.shard.Linked.{Linked}
+use Rattle.index_model.specs.declared.shard.LinkedEntry.{LinkedEntry}
 use Rattle.index_model.specs.declared.shard.Shard.{Shard}
 use Rattle.index_model.specs.Entries.{entries_of, entries_of_link}
 use Rattle.index_model.specs.Faults.{program_of, links_of}
@@ -20,15 +22,14 @@ use Rattle.shard_build.specs.Entries.{AreShardsOfFile}
 use Rattle.parent_resolve.proofs.RunLinks.{RunAt, each_append, run_at}
 use Rattle.range_lists.specs.Units.{AreLinkedOf, IsLinkedRun}
 use Rattle.range_lists.proofs.Runs.{zip_length}
-use Rattle.qualified_names.specs.Files.{AreLinkedOfFile}
+use Rattle.qualified_names.specs.Files.{all_linked, AreLinkedOfFile}
 use Rattle.qualified_names.specs.Indexed.{IsIndexed}
-use Rattle.qualified_names.specs.Nodes.{all_indexed, indexed_nodes, IndexedSeen}
-use Rattle.qualified_names.proofs.Sides.{all_of, headed, of_run, one, zip_at}
+use Rattle.qualified_names.proofs.IndexedLinks.{all_of, headed, of_run, one, slice_there, zip_at}
 
 -- ---- entries that were written
 
 -- the entries of some links were written, and these indexed entries are left
-pub record Written (p : Program) (ks : List Link) (entries : List Entry) (xs : List IndexedSeen) : Type 0 where
+pub record Written (p : Program) (ks : List Link) (entries : List Entry) (xs : List LinkedEntry) : Type 0 where
   pub done : List Link
   pub rest : List Link
   pub whole : done ++ rest ≡ ks
@@ -36,13 +37,13 @@ pub record Written (p : Program) (ks : List Link) (entries : List Entry) (xs : L
   pub is : entries ≡ flat_map (entries_of_link p) done
 
 module _ (p : Program) (ks : List Link) where
-  pub none_written : (xs : List IndexedSeen) → AllZip (IsIndexed p) xs ks → (entries : List Entry) → entries ≡ [] → Written p ks entries xs
+  pub none_written : (xs : List LinkedEntry) → AllZip (IsIndexed p) xs ks → (entries : List Entry) → entries ≡ [] → Written p ks entries xs
   none_written xs z entries none = record { done = []; rest = ks; whole = refl; zip = z; is = none }
 
-  pub head_written : (entries : List Entry) (x : IndexedSeen) (xs : List IndexedSeen) → Written p ks entries (x ∷ xs) → (k : Link) × IsIndexed p x k
+  pub head_written : (entries : List Entry) (x : LinkedEntry) (xs : List LinkedEntry) → Written p ks entries (x ∷ xs) → (k : Link) × IsIndexed p x k
   head_written entries x xs h = let z = headed (IsIndexed p) x xs h.rest h.zip in (z.head, z.first)
 
-  pub one_written : (entries : List Entry) (x : IndexedSeen) (xs : List IndexedSeen) → Written p ks entries (x ∷ xs) → (more : List Entry) → ((k : Link) → IsIndexed p x k → more ≡ entries ++ entries_of_link p k) → Written p ks more xs
+  pub one_written : (entries : List Entry) (x : LinkedEntry) (xs : List LinkedEntry) → Written p ks entries (x ∷ xs) → (more : List Entry) → ((k : Link) → IsIndexed p x k → more ≡ entries ++ entries_of_link p k) → Written p ks more xs
   one_written entries x xs h more grown =
       let z = headed (IsIndexed p) x xs h.rest h.zip in
       record {
@@ -65,15 +66,31 @@ module _ (p : Program) (ks : List Link) where
       empty [] z = refl
       empty (k ∷ rest) z = absurd z
 
+-- some entries were written, and those from a place on are left
+module _ (p : Program) (ks : List Link) (entries : List Entry) (xs : List LinkedEntry) (i : ℕ) (d : LinkedEntry) (within : i < length xs) (h : Written p ks entries (drop i xs)) where
+  ahead : Written p ks entries (get_or xs i d ∷ drop (i + 1) xs)
+  ahead =
+      let next : suc i ≡ i + 1 = omega arith in
+      subst (Written p ks entries) (drop-cons xs i d within ∙ ap (λ (n : ℕ). get_or xs i d ∷ drop n xs) next) h
+
+  pub next_head : (k : Link) × IsIndexed p (get_or xs i d) k
+  next_head = head_written p ks entries (get_or xs i d) (drop (i + 1) xs) ahead
+
+  pub next_written : (more : List Entry) → ((k : Link) → IsIndexed p (get_or xs i d) k → more ≡ entries ++ entries_of_link p k) → Written p ks more (drop (i + 1) xs)
+  next_written more grown = one_written p ks entries (get_or xs i d) (drop (i + 1) xs) ahead more grown
+
 pub entries_are : (p : Program) (ks : List Link) (entries : List Entry) → entries ≡ flat_map (entries_of_link p) (indexed_in ks) → entries ≡ entries_of p ks
 unfolding entries_of
 entries_are p ks entries is = is
 
 -- ---- one run
 
-module _ (image : Image) (shards : List Shard) (linked : List Linked) (k : ℕ) (s : Shard) (l : Linked) (shard : slice_get shards k ≡ Some s) (links : slice_get linked k ≡ Some l) (p : Program) (file : program_of image.file ≡ Ok p) (h : AreShardsOf p shards) (own : AreLinkedOf p shards h linked) where
-  here : RunAt p h.runs k s
-  here = run_at p shards h k s shard
+module _ (image : Image) (shards : List Shard) (linked : List Linked) (k : ℕ) (l : Linked) (within : k < length shards) (links : slice_get linked k ≡ Some l) (p : Program) (file : program_of image.file ≡ Ok p) (h : AreShardsOf p shards) (own : AreLinkedOf p shards h linked) where
+  shard : (s : Shard) × (slice_get shards k ≡ Some s)
+  shard = slice_there shards k within
+
+  here : RunAt p h.runs k shard.0
+  here = run_at p shards h k shard.0 shard.1
 
   told : IsLinkedRun p l here.run
   told = zip_at (IsLinkedRun p) linked h.runs own k l here.run links here.is
@@ -85,12 +102,12 @@ module _ (image : Image) (shards : List Shard) (linked : List Linked) (k : ℕ) 
   pub run_links : (ks : List Link) × (links_in p (unwrap_or (slice_get h.runs k) []) ≡ Ok ks)
   run_links = (told.links, at_run ∙ told.given)
 
-  -- of which the indexed ones are those of the shard's indexed entries
-  pub run_zip : (ks : List Link) → links_in p (unwrap_or (slice_get h.runs k) []) ≡ Ok ks → AllZip (IsIndexed p) (indexed_nodes s.nodes l.entries) (indexed_in ks)
+  -- of which the indexed ones are those of which the run's links say something
+  pub run_zip : (ks : List Link) → links_in p (unwrap_or (slice_get h.runs k) []) ≡ Ok ks → AllZip (IsIndexed p) l.entries (indexed_in ks)
   run_zip ks is =
       let given = sym at_run ∙ is in
       let same = same_ok told.links ks (sym told.given ∙ given) in
-      of_run p image.file file here.run here.of_program s l here.stands ks given (subst (λ (xs : List Link). AllZip (IsLinkedEntryOf p) l.entries (indexed_in xs)) same told.is)
+      of_run p here.run here.of_program ks given l.entries (subst (λ (xs : List Link). AllZip (IsLinkedEntryOf p) l.entries (indexed_in xs)) same told.is)
 
 -- ---- the whole file
 
@@ -120,15 +137,15 @@ module _ (image : Image) (shards : List Shard) (linked : List Linked) (r : AreLi
       let e = links_exist r.program linked r.are.runs r.links in
       (e.0, subst (λ (ws : List Walked). each (one r.program) (flat_map (followed r.program) ws) ≡ Ok e.0) r.are.all e.1)
 
-  zip_here : (ks : List Link) → links_of r.program ≡ Ok ks → AllZip (IsIndexed r.program) (all_indexed shards linked) (indexed_in ks)
+  zip_here : (ks : List Link) → links_of r.program ≡ Ok ks → AllZip (IsIndexed r.program) (all_linked linked) (indexed_in ks)
   unfolding links_of links_in
-  zip_here ks is = all_of r.program image.file r.is shards linked r.are.runs r.are.stand r.links [] (sym r.are.all) ks (subst (λ (ws : List Walked). each (one r.program) (flat_map (followed r.program) ws) ≡ Ok ks) (sym r.are.all) is)
+  zip_here ks is = all_of r.program linked r.are.runs r.links r.are.all ks is
 
-  -- of which the indexed ones are those of the indexed entries of its shards
-  pub file_zip : (p : Program) → program_of image.file ≡ Ok p → (ks : List Link) → links_of p ≡ Ok ks → (r.program ≡ p) × AllZip (IsIndexed p) (all_indexed shards linked) (indexed_in ks)
+  -- of which the indexed ones are those of which the links of its runs say something
+  pub file_zip : (p : Program) → program_of image.file ≡ Ok p → (ks : List Link) → links_of p ≡ Ok ks → (r.program ≡ p) × AllZip (IsIndexed p) (all_linked linked) (indexed_in ks)
   file_zip p file ks is =
       let same = same_ok r.program p (sym r.is ∙ file) in
-      (same, subst (λ (q : Program). links_of q ≡ Ok ks → AllZip (IsIndexed q) (all_indexed shards linked) (indexed_in ks)) same (zip_here ks) is)
+      (same, subst (λ (q : Program). links_of q ≡ Ok ks → AllZip (IsIndexed q) (all_linked linked) (indexed_in ks)) same (zip_here ks) is)
 
 -- a file whose units one shard stands for
 pub one_run : (image : Image) (shards : List Shard) (l : Linked) → length shards ≡ 1 → (r : AreShardsOfFile image shards) → IsOkAnd (links_in r.program (unwrap_or (slice_get r.are.runs 0) [])) (IsLinked r.program l) → AreLinkedOfFile image shards (l ∷ [])

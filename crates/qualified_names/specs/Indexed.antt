@@ -1,53 +1,49 @@
--- What is known of an indexed entry, by its node and by what its references say.
+-- What is known of an indexed entry, by what its shard's links say of it.
 use Rattle.std.specs.Prelude.{◌≡◌, ℕ, true, List, Contains, Option, Ok}
 use Rattle.std.specs.List.{AllZip}
 use Rattle.index_model.specs.declared.rules.Class.{Class}
-use Rattle.index_model.specs.declared.shard.Node.{Node}
+use Rattle.index_model.specs.declared.shard.LinkedEntry.{LinkedEntry}
 use Rattle.index_model.specs.Chains.{chain_end}
 use Rattle.index_model.specs.Faults.{program_of}
 use Rattle.index_model.specs.Links.{Link, link_of, is_link_indexed, indexed_in}
 use Rattle.index_model.specs.Parents.{parent_offset}
 use Rattle.index_model.specs.Program.{Program}
-use Rattle.index_model.specs.ShardParts.{IsNodeOf, IsSeenOf}
 use Rattle.index_model.specs.Shards.{AreShardsOf, IsLinkedEntryOf}
 use Rattle.shard_build.specs.Entries.{EntriesOf}
 use Rattle.parent_resolve.specs.Followed.{all_entries}
-use Rattle.qualified_names.specs.declared.indexed.Indexed.{Indexed}
-use Rattle.qualified_names.specs.Nodes.{IndexedSeen, indexed_seen}
 
 -- the entry's link is this one
-pub record IsIndexed (p : Program) (x : IndexedSeen) (k : Link) : Type 0 where
+pub record IsIndexed (p : Program) (x : LinkedEntry) (k : Link) : Type 0 where
   pub own : link_of p k.entry ≡ Ok k
   pub there : Contains (all_entries p) k.entry
-  pub node : IsSeenOf p.sections x.node k.entry
-  pub links : IsLinkedEntryOf p x.links k
+  pub links : IsLinkedEntryOf p x k
   pub indexed : is_link_indexed k ≡ true
 
 -- whatever the entry's link is
-abbrev pub ForAnyLink : Indexed → (Link → Type 0) → Type 0
-ForAnyLink x Holds = (p : Program) (k : Link) → IsIndexed p (indexed_seen x) k → Holds k
+abbrev pub ForAnyLink : LinkedEntry → (Link → Type 0) → Type 0
+ForAnyLink x Holds = (p : Program) (k : Link) → IsIndexed p x k → Holds k
 
 -- it has one, in a unit of this class
-pub record HasAnyLink (x : Indexed) (class : Class) : Type 0 where
+pub record HasAnyLink (x : LinkedEntry) (class : Class) : Type 0 where
   pub program : Program
   pub link : Link
-  pub is : IsIndexed program (indexed_seen x) link
+  pub is : IsIndexed program x link
   pub class_is : class ≡ link.class
 
 -- whatever its link in the file is
-abbrev pub ForLink : EntriesOf → Indexed → (Program → Link → Type 0) → Type 0
-ForLink e x Holds = (p : Program) → program_of e.image.file ≡ Ok p → AreShardsOf p e.shards → (k : Link) → IsIndexed p (indexed_seen x) k → Holds p k
+abbrev pub ForLink : EntriesOf → LinkedEntry → (Program → Link → Type 0) → Type 0
+ForLink e x Holds = (p : Program) → program_of e.image.file ≡ Ok p → AreShardsOf p e.shards → (k : Link) → IsIndexed p x k → Holds p k
 
 -- it has one in the file
-pub record HasLink (e : EntriesOf) (x : Indexed) : Type 0 where
+pub record HasLink (e : EntriesOf) (x : LinkedEntry) : Type 0 where
   pub program : Program
   pub file : program_of e.image.file ≡ Ok program
   pub shards : AreShardsOf program e.shards
   pub link : Link
-  pub is : IsIndexed program (indexed_seen x) link
+  pub is : IsIndexed program x link
 
 -- these entries have links in the file, one by one
-pub record HaveLinks (e : EntriesOf) (xs : List IndexedSeen) : Type 0 where
+pub record HaveLinks (e : EntriesOf) (xs : List LinkedEntry) : Type 0 where
   pub program : Program
   pub file : program_of e.image.file ≡ Ok program
   pub shards : AreShardsOf program e.shards
@@ -55,13 +51,8 @@ pub record HaveLinks (e : EntriesOf) (xs : List IndexedSeen) : Type 0 where
   pub are : AllZip (IsIndexed program) xs (indexed_in links)
 
 -- whatever links these are the indexed ones of
-abbrev pub ForLinksOf : EntriesOf → List IndexedSeen → (Program → List Link → Type 0) → Type 0
+abbrev pub ForLinksOf : EntriesOf → List LinkedEntry → (Program → List Link → Type 0) → Type 0
 ForLinksOf e xs Holds = (p : Program) → program_of e.image.file ≡ Ok p → AreShardsOf p e.shards → (ks : List Link) → AllZip (IsIndexed p) xs (indexed_in ks) → Holds p ks
-
--- the node is that of the last entry of the chain
-pub record IsEnd (p : Program) (k : Link) (end : Node) : Type 0 where
-  pub there : Contains (all_entries p) (chain_end k.entry k.chain)
-  pub node : IsNodeOf p.sections end (chain_end k.entry k.chain)
 
 -- the offset is that of the lexical parent of the last entry of the chain
 pub record IsAroundEnd (p : Program) (k : Link) (parent : Option ℕ) : Type 0 where

@@ -1,5 +1,4 @@
 pub mod Indexed
-pub mod Nodes
 pub mod Paths
 pub mod Files
 pub mod Sought

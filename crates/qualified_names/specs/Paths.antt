@@ -1,11 +1,8 @@
 -- What is known of the scope paths around entries.
-use Rattle.std.specs.Prelude.{◌≡◌, ℕ, List, ◌++◌, Contains, Option, IsOkAnd, Ok}
-use Rattle.index_model.specs.declared.shard.Node.{Node}
-use Rattle.index_model.specs.Faults.{program_of}
+use Rattle.std.specs.Prelude.{◌≡◌, ℕ, List, ◌++◌, Contains, Option, IsOkAnd}
 use Rattle.index_model.specs.Names.{Member, scope_path, scoped_name}
 use Rattle.index_model.specs.Parents.{parent_offset}
-use Rattle.index_model.specs.Program.{Program, Located}
-use Rattle.index_model.specs.ShardParts.{IsNodeOf}
+use Rattle.index_model.specs.Program.{Located}
 use Rattle.shard_build.specs.Entries.{EntriesOf, ForProgram}
 use Rattle.parent_resolve.specs.Followed.{all_entries}
 
@@ -16,13 +13,3 @@ IsFront front path = (name : List ℕ) → scoped_name path name ≡ front ++ na
 -- they stand before the name of whatever entry of the file has this lexical parent
 abbrev pub IsFrontAround : EntriesOf → Option ℕ → List ℕ → Type 0
 IsFrontAround e parent front = ForProgram e (λ p. (d : Located) → Contains (all_entries p) d → parent_offset d ≡ parent → IsOkAnd (scope_path p d) (IsFront front))
-
--- an entry of the file has the node, and the scope path around it has no fault
-pub record HasPath (e : EntriesOf) (node : Node) : Type 0 where
-  pub program : Program
-  pub file : program_of e.image.file ≡ Ok program
-  pub entry : Located
-  pub there : Contains (all_entries program) entry
-  pub is : IsNodeOf program.sections node entry
-  pub path : List Member
-  pub path_is : scope_path program entry ≡ Ok path

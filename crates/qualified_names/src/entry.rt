@@ -1,14 +1,16 @@
 //! The entries of an index: an indexed entry with its qualified name, and its linkage entry (DWARF 5, section 6.1.1.1).
 
-ghost use Rattle.std.specs.Prelude.{◌≡◌, ◌++◌, ◌∷◌, option_map, option_to_list, IfOk, OnOk};
+ghost use Rattle.std.specs.Prelude.{◌≡◌, ◌++◌, ◌∷◌, [], length, option_map, option_to_list, unwrap_or, IfOk, OnOk};
 ghost use Rattle.index_model.specs.Entries.{entries_of_link, entry_of, linkage_entry_of, may_have_linkage};
-ghost use Rattle.qualified_names.specs.Indexed.{ForLink, HasLink};
+ghost use Rattle.index_model.specs.Links.{name_in};
+ghost use Rattle.index_model.specs.Names.{simple_name};
+ghost use Rattle.qualified_names.specs.Indexed.{ForAnyLink, ForLink, HasAnyLink, HasLink};
 
-use crate::indexed::Indexed;
 use crate::names::Names;
-use entry_rules::{Kind, class, is_static, kind};
-use index_model::{Entry, Text};
+use entry_rules::{Class, Kind, class, kind};
+use index_model::{Entry, LinkedEntry, Text};
 use ix_base::NoMemory;
+use name_forms::ada_tail;
 use std::alloc::Global;
 
 // The tags of entries that may have linkage names (DWARF 5, section 7.5.3).
@@ -22,14 +24,14 @@ pub(crate) fn push_entries<'f>(
     entries: &mut Vec<Entry<'f>>,
     names: &mut Names<'_, 'f>,
     alloc: Global,
-    indexed: &Indexed<'f>,
+    linked: &LinkedEntry<'f>,
 ) -> Result<(), NoMemory>
-    requires { HasLink names.old indexed.now }
-    ensures value { ForLink names.old indexed.now (λ p k. OnOk result (entries.new.items ≡ entries.old.items ++ entries_of_link p k)) }
+    requires { HasLink names.old linked.now }
+    ensures value { ForLink names.old linked.now (λ p k. OnOk result (entries.new.items ≡ entries.old.items ++ entries_of_link p k)) }
     ensures kept { names.new ≡ names.old }
 {
-    let entry = entry_of(names, alloc, indexed)?;
-    push_with_linkage(entries, entry, indexed.links.linkage)
+    let entry = entry_of(names, alloc, linked)?;
+    push_with_linkage(entries, entry, linked.linkage)
 }
 
 // Adds an entry, and at once its linkage entry.
@@ -52,25 +54,43 @@ fn push_with_linkage<'f>(
 fn entry_of<'f>(
     names: &mut Names<'_, 'f>,
     alloc: Global,
-    indexed: &Indexed<'f>,
+    linked: &LinkedEntry<'f>,
 ) -> Result<Entry<'f>, NoMemory>
-    requires { HasLink names.old indexed.now }
-    ensures value { ForLink names.old indexed.now (λ p k. IfOk result (λ e. e ≡ entry_of k)) }
+    requires { HasLink names.old linked.now }
+    ensures value { ForLink names.old linked.now (λ p k. IfOk result (λ e. e ≡ entry_of k)) }
     ensures kept { names.new ≡ names.old }
 {
-    let node = &indexed.node;
-    let class = class(names.language(node.unit));
-    let name = names.qualified(alloc, indexed, class)?;
+    let class = class(names.language(linked.unit));
+    let name = names.qualified(alloc, linked, class)?;
     Ok(Entry {
-        unit: node.unit,
-        offset: node.offset,
-        tag: node.tag as u16,
-        kind: kind(node.tag).unwrap_or(Kind::Other),
-        local: is_static(&indexed.facts(class)),
+        unit: linked.unit,
+        offset: linked.offset,
+        tag: linked.tag,
+        kind: kind(u64::from(linked.tag)).unwrap_or(Kind::Other),
+        local: linked.local,
         linkage: false,
         name,
-        tail: indexed.tail(class),
+        tail: tail_of(linked, class),
     })
+}
+
+// The length of the simple name, in a unit of this class.
+fn tail_of(linked: &LinkedEntry<'_>, class: Class) -> u32
+    requires { HasAnyLink linked.now class }
+    ensures { ForAnyLink linked.now (λ k. class ≡ k.class → result ≡ length (unwrap_or (option_map (simple_name k.class) (name_in k)) [])) }
+{
+    simple_length(class, linked.name) as u32
+}
+
+// The length of the simple name of a name.
+#[tactic(auto, unfolding(index_model::specs::Names::simple_name))]
+fn simple_length(class: Class, name: &[u8]) -> usize
+    ensures { result ≡ length (simple_name class name.now) }
+{
+    match class {
+        Class::C | Class::Cxx | Class::Plain => name.len(),
+        Class::Ada => ada_tail(name),
+    }
 }
 
 // The linkage entry of a subprogram or variable whose linkage name isn't its qualified name.

@@ -2,11 +2,9 @@
 #![tactic(auto)]
 
 mod entry;
-mod indexed;
 mod links;
 mod main_program;
 mod names;
-mod nodes;
 mod run;
 mod sought;
 

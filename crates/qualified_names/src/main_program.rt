@@ -1,22 +1,19 @@
 //! The main program (DWARF 5, section 3.3.1).
 
-ghost use Rattle.std.specs.Prelude.{◌≡◌, ◌==◌, not, filter, find, length, map, IfOk, Some};
+ghost use Rattle.std.specs.Prelude.{◌≡◌, ◌==◌, not, filter, find, map, IfOk, Some};
 ghost use Rattle.std.specs.Arc.{arc_value};
 ghost use Rattle.index_model.specs.Languages.{language_of};
 ghost use Rattle.index_model.specs.Links.{qualified_of};
 ghost use Rattle.index_model.specs.MainProgram.{main_in, main_of};
-ghost use Rattle.qualified_names.specs.Files.{AreLinkedOfFile, ForLinks};
+ghost use Rattle.qualified_names.specs.Files.{all_linked, AreLinkedOfFile, ForLinks};
 ghost use Rattle.qualified_names.specs.Indexed.{ForLink, HasLink};
-ghost use Rattle.qualified_names.specs.Nodes.{all_indexed};
 ghost use Rattle.qualified_names.specs.Sought.{ForAllCounted, is_main_by, IsFound};
 
-use crate::indexed::Indexed;
 use crate::names::Names;
-use crate::nodes::IndexedNodes;
 use crate::sought::Sought;
 use entry_rules::{Class, class};
 use file_image::Image;
-use index_model::{Linked, Main, Shard, Text};
+use index_model::{Linked, LinkedEntry, Main, Shard, Text};
 use ix_base::NoMemory;
 use parent_resolve::Languages;
 use std::alloc::Global;
@@ -36,10 +33,10 @@ pub fn main_of<'f>(
     ensures { ForLinks image.now (λ p ks. IfOk result (λ m. m ≡ main_of p ks)) }
 {
     let mut languages = Languages::new(shards);
-    let Some(found) = main_entry(&mut languages, shards, linked) else {
+    let Some(found) = main_entry(&mut languages, linked) else {
         return Ok(None);
     };
-    let language = languages.of(found.node.unit);
+    let language = languages.of(found.unit);
     let name = name_of(alloc, image, shards, &found, class(language))?;
     Ok(Some(Main { language, name }))
 }
@@ -49,7 +46,7 @@ fn name_of<'f>(
     alloc: Global,
     image: &Image<'f>,
     shards: &[Arc<Shard<'f>>],
-    entry: &Indexed<'f>,
+    entry: &LinkedEntry<'f>,
     class: Class,
 ) -> Result<Text<'f>, NoMemory>
     requires { HasLink (record { image = image.now; shards = map arc_value shards.now }) entry.now }
@@ -62,35 +59,28 @@ fn name_of<'f>(
 // The entry of the main program.
 fn main_entry<'f>(
     languages: &mut Languages<'_, 'f>,
-    shards: &[Arc<Shard<'f>>],
     linked: &[Arc<Linked<'f>>],
-) -> Option<Indexed<'f>>
-    requires { length shards.now ≡ length linked.now }
-    ensures value { ForAllCounted languages.old (all_indexed (map arc_value shards.now) (map arc_value linked.now)) (λ p ks. IsFound p result (main_in (filter (λ k. not (language_of p k.entry.home == 0)) ks))) }
+) -> Option<LinkedEntry<'f>>
+    ensures value { ForAllCounted languages.old (all_linked (map arc_value linked.now)) (λ p ks. IsFound p result (main_in (filter (λ k. not (language_of p k.entry.home == 0)) ks))) }
     ensures kept { languages.new ≡ languages.old }
 {
-    match first_main(languages, shards, linked, Sought::Said) {
+    match first_main(languages, linked, Sought::Said) {
         Some(found) => Some(found),
-        None => first_main(languages, shards, linked, Sought::Named),
+        None => first_main(languages, linked, Sought::Named),
     }
 }
 
 // The first entry that is told to be main in this way.
 fn first_main<'f>(
     languages: &mut Languages<'_, 'f>,
-    shards: &[Arc<Shard<'f>>],
     linked: &[Arc<Linked<'f>>],
     sought: Sought,
-) -> Option<Indexed<'f>>
-    requires { length shards.now ≡ length linked.now }
-    ensures value { ForAllCounted languages.old (all_indexed (map arc_value shards.now) (map arc_value linked.now)) (λ p ks. IsFound p result (find (is_main_by p sought) ks)) }
+) -> Option<LinkedEntry<'f>>
+    ensures value { ForAllCounted languages.old (all_linked (map arc_value linked.now)) (λ p ks. IsFound p result (find (is_main_by p sought) ks)) }
     ensures kept { languages.new ≡ languages.old }
 {
-    for k in 0..shards.len() {
-        let shard = &shards[k];
-        let links = &linked[k];
-        let nodes = IndexedNodes::of(shard, links);
-        if let Some(found) = first_main_in(languages, nodes, sought) {
+    for links in linked {
+        if let Some(found) = first_main_in(languages, links.entries.as_slice(), sought) {
             return Some(found);
         }
     }
@@ -100,16 +90,15 @@ fn first_main<'f>(
 // The first of these that is told so.
 fn first_main_in<'f>(
     languages: &mut Languages<'_, 'f>,
-    nodes: IndexedNodes<'_, 'f>,
+    entries: &[LinkedEntry<'f>],
     sought: Sought,
-) -> Option<Indexed<'f>>
-    ensures value { ForAllCounted languages.old nodes.entry (λ p ks. IsFound p result (find (is_main_by p sought) ks)) }
+) -> Option<LinkedEntry<'f>>
+    ensures value { ForAllCounted languages.old entries.now (λ p ks. IsFound p result (find (is_main_by p sought) ks)) }
     ensures kept { languages.new ≡ languages.old }
 {
-    let mut left = nodes;
-    while let Some(indexed) = left.next() {
-        if sought.tells(languages, &indexed) {
-            return Some(indexed);
+    for entry in entries {
+        if sought.tells(languages, entry) {
+            return Some(*entry);
         }
     }
     None

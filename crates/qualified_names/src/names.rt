@@ -8,11 +8,10 @@ ghost use Rattle.index_model.specs.Names.{scoped_name};
 ghost use Rattle.shard_build.specs.Entries.{AreShardsOfFile};
 ghost use Rattle.qualified_names.specs.Indexed.{ForLink, HasLink};
 
-use crate::indexed::Indexed;
-use crate::links::{Around, go_around_end};
+use crate::links::{Around, go_around};
 use entry_rules::Class;
 use file_image::Image;
-use index_model::{Shard, Text};
+use index_model::{LinkedEntry, Shard, Text};
 use ix_base::NoMemory;
 use name_forms::ada;
 use parent_resolve::{Languages, References};
@@ -74,32 +73,31 @@ impl<'s, 'f> Names<'s, 'f> {
     pub(crate) fn qualified(
         &mut self,
         alloc: Global,
-        entry: &Indexed<'f>,
+        entry: &LinkedEntry<'f>,
         class: Class,
     ) -> Result<Text<'f>, NoMemory>
         requires { HasLink self.old entry.now }
         ensures value { ForLink self.old entry.now (λ p k. class ≡ k.class → IfOk result (λ t. qualified_of k ≡ Some t)) }
         ensures kept { self.new ≡ self.old }
     {
-        let name = entry.name();
-        if entry.links.length as usize == name.len() {
-            return Ok(Text::lent(name));
+        if entry.length as usize == entry.name.len() {
+            return Ok(Text::lent(entry.name));
         }
         match class {
-            Class::Ada => Ok(Text::owned(ada(alloc, name)?)),
+            Class::Ada => Ok(Text::owned(ada(alloc, entry.name)?)),
             // Of the others only C++ changes names.
             _ => Ok(Text::owned(self.scoped(alloc, entry)?)),
         }
     }
 
     // The name behind the components of its scope.
-    fn scoped(&mut self, alloc: Global, entry: &Indexed<'f>) -> Result<Vec<u8>, NoMemory>
+    fn scoped(&mut self, alloc: Global, entry: &LinkedEntry<'f>) -> Result<Vec<u8>, NoMemory>
         requires { HasLink self.old entry.now }
         ensures value { ForLink self.old entry.now (λ p k. IfOk result (λ v. option_map (scoped_name k.path) (name_in k) ≡ Some v.items)) }
         ensures kept { self.new ≡ self.old }
     {
-        go_around_end(&mut self.around, &mut self.references, alloc, entry)?;
-        behind(alloc, self.around.front.as_slice(), entry.name())
+        go_around(&mut self.around, &mut self.references, alloc, entry)?;
+        behind(alloc, self.around.front.as_slice(), entry.name)
     }
 }
 

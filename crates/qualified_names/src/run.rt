@@ -5,13 +5,11 @@ ghost use Rattle.std.specs.Arc.{arc_value};
 ghost use Rattle.index_model.specs.Entries.{entries_of};
 ghost use Rattle.qualified_names.specs.Files.{AreLinkedOfFile, ForLinkedRun};
 ghost use Rattle.qualified_names.specs.Indexed.{ForLinksOf, HaveLinks};
-ghost use Rattle.qualified_names.specs.Nodes.{indexed_nodes};
 
 use crate::entry::push_entries;
 use crate::names::Names;
-use crate::nodes::IndexedNodes;
 use file_image::Image;
-use index_model::{Linked, List, Run, Shard};
+use index_model::{Linked, LinkedEntry, List, Run, Shard};
 use ix_base::NoMemory;
 use std::alloc::Global;
 use std::sync::Arc;
@@ -35,23 +33,21 @@ pub fn run_of<'f>(
     ensures { ForLinkedRun image.now (map arc_value shards.now) (map arc_value linked.now) k (λ p ks. IfOk result (λ run. run ≡ entries_of p ks)) }
 {
     let mut names = Names::new(alloc, image, shards)?;
-    entries_of(alloc, &mut names, &shards[k], &linked[k])
+    entries_of(alloc, &mut names, linked[k].entries.as_slice())
 }
 
-// The entries of a shard, with what the references of its entries give.
+// The entries of a run, by what the references of its indexed entries give.
 fn entries_of<'f>(
     alloc: Global,
     names: &mut Names<'_, 'f>,
-    shard: &Shard<'f>,
-    linked: &Linked<'f>,
+    linked: &[LinkedEntry<'f>],
 ) -> Result<Run<'f>, NoMemory>
-    requires { HaveLinks names.old (indexed_nodes shard.now.nodes linked.now.entries) }
-    ensures { ForLinksOf names.old (indexed_nodes shard.now.nodes linked.now.entries) (λ p ks. IfOk result (λ run. run ≡ entries_of p ks)) }
+    requires { HaveLinks names.old linked.now }
+    ensures { ForLinksOf names.old linked.now (λ p ks. IfOk result (λ run. run ≡ entries_of p ks)) }
 {
-    let mut entries = Vec::with_capacity(alloc, linked.entries.as_slice().len())?;
-    let mut left = IndexedNodes::of(shard, linked);
-    while let Some(indexed) = left.next() {
-        push_entries(&mut entries, names, alloc, &indexed)?;
+    let mut entries = Vec::with_capacity(alloc, linked.len())?;
+    for entry in linked {
+        push_entries(&mut entries, names, alloc, entry)?;
     }
     Ok(List::of(entries))
 }

@@ -8,12 +8,12 @@ ghost use Rattle.qualified_names.specs.Indexed.{ForAnyLink};
 ghost use Rattle.qualified_names.specs.Sought.{ForCounted, is_main_by};
 ghost use Rattle.qualified_names.specs.declared.sought.Sought.TheVariants.{Said, Named};
 
-use crate::indexed::Indexed;
-use entry_rules::{Class, class, is_static};
+use entry_rules::{Class, class};
+use index_model::LinkedEntry;
 use parent_resolve::Languages;
 
 // The tag of a subprogram (DWARF 5, section 7.5.3).
-const SUBPROGRAM: u64 = 0x2e;
+const SUBPROGRAM: u16 = 0x2e;
 
 // The name of the main program in C and C++.
 const MAIN: &[u8] = b"main";
@@ -29,7 +29,7 @@ pub(crate) enum Sought {
 
 impl Sought {
     /// Whether an indexed entry is told to be the main program. It isn't one in a unit without a language.
-    pub(crate) fn tells(self, languages: &mut Languages<'_, '_>, entry: &Indexed<'_>) -> bool
+    pub(crate) fn tells(self, languages: &mut Languages<'_, '_>, entry: &LinkedEntry<'_>) -> bool
         ensures value { ForCounted languages.old entry.now (λ p k. result ≡ is_main_by p self k) }
         ensures kept { languages.new ≡ languages.old }
     {
@@ -40,43 +40,43 @@ impl Sought {
     }
 }
 
-fn is_said(languages: &mut Languages<'_, '_>, entry: &Indexed<'_>) -> bool
+fn is_said(languages: &mut Languages<'_, '_>, entry: &LinkedEntry<'_>) -> bool
     ensures value { ForCounted languages.old entry.now (λ p k. result ≡ is_main_by p Said k) }
     ensures kept { languages.new ≡ languages.old }
 {
-    if !entry.node.main {
+    if !entry.main {
         return false;
     }
-    languages.of(entry.node.unit) != 0
+    languages.of(entry.unit) != 0
 }
 
-fn is_named(languages: &mut Languages<'_, '_>, entry: &Indexed<'_>) -> bool
+fn is_named(languages: &mut Languages<'_, '_>, entry: &LinkedEntry<'_>) -> bool
     ensures value { ForCounted languages.old entry.now (λ p k. result ≡ is_main_by p Named k) }
     ensures kept { languages.new ≡ languages.old }
 {
     if !has_main_name(entry) {
         return false;
     }
-    may_be_named_main(entry, class(languages.of(entry.node.unit)))
+    may_be_named_main(entry, class(languages.of(entry.unit)))
 }
 
 // Whether the entry is a subprogram with the qualified name `main`, if its class is C or C++.
-fn has_main_name(entry: &Indexed<'_>) -> bool
+fn has_main_name(entry: &LinkedEntry<'_>) -> bool
     ensures { ForAnyLink entry.now (λ k. is_c_or_cxx k.class ≡ true → result ≡ (k.entry.item.tag == subprogram && bytes_eq (full_name k) (codes "main"))) }
 {
-    entry.node.tag == SUBPROGRAM && is_called_main(entry)
+    entry.tag == SUBPROGRAM && is_called_main(entry)
 }
 
 // Whether the qualified name is `main`, if the class is C or C++: a longer one has components.
-fn is_called_main(entry: &Indexed<'_>) -> bool
+fn is_called_main(entry: &LinkedEntry<'_>) -> bool
     ensures { ForAnyLink entry.now (λ k. is_c_or_cxx k.class ≡ true → result ≡ bytes_eq (full_name k) (codes "main")) }
 {
-    entry.links.length as usize == MAIN.len() && entry.name() == MAIN
+    entry.length as usize == MAIN.len() && entry.name == MAIN
 }
 
 // Whether a subprogram that is named so is main: in C and C++, where it isn't static.
-fn may_be_named_main(entry: &Indexed<'_>, class: Class) -> bool
+fn may_be_named_main(entry: &LinkedEntry<'_>, class: Class) -> bool
     ensures { ForAnyLink entry.now (λ k. class ≡ k.class → result ≡ (is_c_or_cxx k.class && not (is_link_static k))) }
 {
-    matches!(class, Class::C | Class::Cxx) && !is_static(&entry.facts(class))
+    matches!(class, Class::C | Class::Cxx) && !entry.local
 }

@@ -1,15 +1,18 @@
-use Rattle.std.proofs.Common.{subst}
+use Rattle.std.proofs.Common.{sym, subst}
 use Rattle.ix_base.specs.declared.fault.Stop.{Stop}
+use Rattle.index_model.specs.Chains.{chain_end}
 use Rattle.index_model.specs.Gives.{StopsAs}
 use Rattle.index_model.specs.Meaning.{at_place}
 use Rattle.index_model.specs.Names.{scope_path}
-use Rattle.qualified_names.proofs.LinkLaws.{no_fault}
+use Rattle.qualified_names.proofs.LinkLaws.{is_around_end, no_fault, parts}
 use Rattle.qualified_names.proofs.links.components_of.Goals as goal
 
 pub unreachable-requires : goal.unreachable-requires
 unreachable-requires c =
-    let h = c.requires in
-    let at = c.args.end.now.offset in
-    let meaning = scope_path h.program h.entry in
-    let stops = subst (λ (s : Stop). StopsAs s (at_place at meaning)) c.in-Err-Fault.field-0-is (c.in-Err-Fault.ensures.value h.program h.file h.entry h.there h.is) in
-    no_fault c.in-Err-Fault.field-0-0 at meaning h.path h.path_is stops
+    let r = c.requires in
+    let x = c.args.entry.now in
+    let end = chain_end r.link.entry r.link.chain in
+    let around = is_around_end r.program x r.link r.is in
+    let meaning = scope_path r.program end in
+    let stops = subst (λ (s : Stop). StopsAs s (at_place x.offset meaning)) c.in-Err-Fault.field-0-is (c.in-Err-Fault.ensures.value r.program r.file end around.there (sym around.is)) in
+    no_fault c.in-Err-Fault.field-0-0 x.offset meaning r.link.path (parts r.program x r.link r.is).path stops

@@ -1,16 +1,11 @@
-use Rattle.std.proofs.Common.{map, sym, subst, ◌∙◌, arith}
-use Rattle.std.proofs.lemmas.List.{length-map}
+use Rattle.std.proofs.Common.{map, sym, subst, ◌∙◌}
 use Rattle.std.specs.Arc.{arc_value}
 use Rattle.index_model.specs.Links.{indexed_in}
 use Rattle.index_model.specs.Program.{Program}
 use Rattle.index_model.specs.Shards.{AreShardsOf}
 use Rattle.qualified_names.proofs.Mains.{class_here, language_here, main_given, no_main, none_found, one_found}
-use Rattle.qualified_names.proofs.RunLaws.{as_many, file_links, file_zip}
+use Rattle.qualified_names.proofs.RunLaws.{file_links, file_zip}
 use Rattle.qualified_names.proofs.main_program.main_of.Goals as goal
-
-pub main_entry-requires : goal.main_entry-requires
-main_entry-requires c =
-    omega (arith, as_many c.args.image.now (map arc_value c.args.shards.now) (map arc_value c.args.linked.now) c.requires, length-map c.args.shards.now arc_value, length-map c.args.linked.now arc_value)
 
 pub name_of-requires : goal.name_of-requires
 name_of-requires c =
