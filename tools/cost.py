@@ -33,7 +33,7 @@ LOOK_NAMES = ["look", "names", "FILE", "STRINGS", "name", "zz"]
 TABLES = "tables of abbreviations that overlap are read each by itself"
 TEXTS = "names that are one text are compared one by one"
 LONG = "the answer itself is that long"
-LISTS = "a list of ranges is read for each that has it"
+LISTS = "lists of ranges that begin inside one another are read one by one"
 IMPORTS = "the importers of a partial unit are looked for one by one"
 
 # Kind, first size, words, and why it may grow with the square.
@@ -56,8 +56,8 @@ ROWS = [
     (programs.one_hash, 10000, NAMES, None),
     (programs.many_names, 50000, GDB8, None),
     (programs.many_names, 50000, NAMES, None),
-    (programs.ranges_of_all_units, 500, ASK, LISTS),
-    (programs.ranges_of_all_functions, 500, ASK, LISTS),
+    (programs.ranges_of_all_units, 8000, ASK, None),
+    (programs.ranges_of_all_functions, 8000, ASK, None),
     (programs.ends_of_a_list, 500, ASK, LISTS),
     (programs.imports, 20000, ASK, IMPORTS),
     (programs.long_scopes, 1000, GDB8, LONG),

@@ -1,6 +1,6 @@
 -- The ranges of the units, one unit after the other.
 use Rattle.std.proofs.Common.{◌≡◌, ℕ, zero, suc, ◌+◌, ◌<◌, List, [], ◌∷◌, ◌++◌, length, map, flat_map, take, drop, append-nil, Result, Ok, Err, refl, sym, ap, subst, ◌∙◌, arith}
-use Rattle.std.specs.Prelude.{Contains}
+use Rattle.std.specs.Prelude.{Contains, IsOkAnd}
 use Rattle.std.proofs.lemmas.Grind.{flat_map-append}
 use Rattle.std.proofs.lemmas.List.{take-append-drop}
 use Rattle.common_laws.proofs.Members.{contains_here, contains_later}
@@ -21,18 +21,21 @@ use Rattle.index_model.specs.Faults.{program_of, links_of, all_ranges}
 use Rattle.index_model.specs.Gives.{StopsAs}
 use Rattle.index_model.specs.Links.{Link}
 use Rattle.index_model.specs.Meaning.{◌>>=◌, each}
+use Rattle.index_model.specs.Pieces.{IsPieces}
 use Rattle.index_model.specs.Program.{Walked, Program}
 use Rattle.index_model.specs.Ranges.{ranges_of, unit_ranges, ranges_in}
 use Rattle.index_model.specs.Shards.{AreShardsOf}
 use Rattle.index_model.proofs.Meanings.{bind_ok, same_ok}
 use Rattle.index_model.proofs.ShardRoots.{Numbered, program_numbered}
 use Rattle.parent_resolve.proofs.RunLinks.{each_append}
+use Rattle.range_lists.specs.declared.found.FoundRanges.{FoundRanges}
+use Rattle.range_lists.specs.Found.{AreRead, IsAdded}
+use Rattle.range_lists.specs.Same.{with_unit, of_unit, HaveSameUnits}
 use Rattle.range_lists.specs.Units.{AreLinkedOf, ForUnit}
+use Rattle.range_lists.proofs.SameUnits.{same_front}
 use Rattle.qualified_names.specs.Files.{AreLinkedOfFile, ForLinks}
 use Rattle.index_pool.specs.Files.{AreFirstRanges}
-
-abbrev pub with_unit : ℕ → Range → UnitRange
-with_unit n r = record { unit = n; range = r }
+use Rattle.index_pool.proofs.Lists.{ok_and, and_ok}
 
 -- ---- the next unit
 
@@ -52,7 +55,7 @@ next_walk (w ∷ ws) m (suc n) h lt =
 -- ---- the ranges of one unit more
 
 module _ (p : Program) (ks : List Link) where
-  one_more : (front : List Walked) (w : Walked) (n : ℕ) (old : List UnitRange) (rs : List Range) → ranges_in p ks front ≡ Ok old → w.number ≡ n → ranges_of p ks w ≡ Ok rs → ranges_in p ks (front ++ w ∷ []) ≡ Ok (old ++ map (with_unit n) rs)
+  one_more : (front : List Walked) (w : Walked) (n : ℕ) (old : List UnitRange) (rs : List Range) → ranges_in p ks front ≡ Ok old → w.number ≡ n → ranges_of p ks w ≡ Ok rs → ranges_in p ks (front ++ w ∷ []) ≡ Ok (old ++ of_unit n rs)
   unfolding ranges_in unit_ranges
   one_more front w n old rs first number own =
       let b = bind_ok (each (unit_ranges p ks) front) (λ rs. Ok (flat_map (λ r. r) rs)) old first in
@@ -87,7 +90,7 @@ module _ (p : Program) (ks : List Link) where
 
 -- ---- one unit more of a file
 
-module _ (image : Image) (shards : List Shard) (linked : List Linked) (r : AreLinkedOfFile image shards linked) (n : ℕ) (within : ForLinks image (λ p ks. n < length p.walks)) (old : List UnitRange) (before : AreFirstRanges image n old) where
+module _ (image : Image) (shards : List Shard) (linked : List Linked) (r : AreLinkedOfFile image shards linked) (n : ℕ) (within : ForLinks image (λ p ks. n < length p.walks)) (found : FoundRanges) (before : AreFirstRanges image n found) where
   -- what the ranges of the next unit say
   next_says : (P : Result (List Range) Fault → Type 0) → ForUnit image shards linked n P → (p : Program) → program_of image.file ≡ Ok p → (ks : List Link) → links_of p ≡ Ok ks → (w : NextWalk p.walks 0 n) × P (ranges_of p ks w.walk)
   next_says P says p file ks links =
@@ -97,18 +100,34 @@ module _ (image : Image) (shards : List Shard) (linked : List Linked) (r : AreLi
       let h = at p same in
       (w, says p ks file links h.0 h.1 w.walk w.member (omega (arith, w.number)))
 
-  pub unit_more : (rs : List Range) → ForUnit image shards linked n (λ m. m ≡ Ok rs) → ForLinks image (λ p ks. ranges_in p ks (take (n + 1) p.walks) ≡ Ok (old ++ map (with_unit n) rs))
-  unit_more rs says p file ks links =
-      let x = next_says (λ m. m ≡ Ok rs) says p file ks links in
-      let next : n + 1 ≡ suc n = omega arith in
-      ap (λ (k : ℕ). ranges_in p ks (take k p.walks)) next ∙ ap (ranges_in p ks) x.0.more ∙ one_more p ks (take n p.walks) x.0.walk n old rs (before p file ks links) (omega (arith, x.0.number)) x.1
+  -- what an answer for the next unit says, by what was found before
+  abbrev Says : (Result (List Range) Fault → Type 0) → Type 0
+  Says P = AreRead image.sections found → ForUnit image shards linked n P
 
-  pub unit_stops : (s : Stop) → ForUnit image shards linked n (λ m. StopsAs s m) → ForLinks image (λ p ks. StopsAs s (ranges_in p ks (take (n + 1) p.walks)))
+  pub unit_more : (new : FoundRanges) → Says (λ m. IsOkAnd m (IsAdded image.sections n found new)) → AreFirstRanges image (n + 1) new
+  unit_more new says p file ks links =
+      let b = before p file ks links in
+      let old = ok_and (ranges_in p ks (take n p.walks)) (HaveSameUnits found.ranges.items) b.1 in
+      let x = next_says (λ m. IsOkAnd m (IsAdded image.sections n found new)) (says b.0) p file ks links in
+      let own = ok_and (ranges_of p ks x.0.walk) (IsAdded image.sections n found new) x.1 in
+      let next : n + 1 ≡ suc n = omega arith in
+      let all = ap (λ (k : ℕ). ranges_in p ks (take k p.walks)) next ∙ ap (ranges_in p ks) x.0.more ∙ one_more p ks (take n p.walks) x.0.walk n old.0 own.0 old.1 (omega (arith, x.0.number)) own.1 in
+      (own.2.read, and_ok (ranges_in p ks (take (n + 1) p.walks)) (old.0 ++ of_unit n own.0) (HaveSameUnits new.ranges.items) all (λ a. own.2.same a ∙ same_front found.ranges.items old.0 (of_unit n own.0) old.2 a))
+
+  pub unit_stops : (s : Stop) → Says (StopsAs s) → ForLinks image (λ p ks. StopsAs s (ranges_in p ks (take (n + 1) p.walks)))
   unit_stops stops.Memory says p file ks links = tt
   unit_stops (stops.Fault f) says p file ks links =
-      let x = next_says (λ m. m ≡ Err f) says p file ks links in
+      let b = before p file ks links in
+      let old = ok_and (ranges_in p ks (take n p.walks)) (HaveSameUnits found.ranges.items) b.1 in
+      let x = next_says (λ m. m ≡ Err f) (says b.0) p file ks links in
       let next : n + 1 ≡ suc n = omega arith in
-      ap (λ (k : ℕ). ranges_in p ks (take k p.walks)) next ∙ ap (ranges_in p ks) x.0.more ∙ one_wrong p ks (take n p.walks) x.0.walk old f (before p file ks links) x.1
+      ap (λ (k : ℕ). ranges_in p ks (take k p.walks)) next ∙ ap (ranges_in p ks) x.0.more ∙ one_wrong p ks (take n p.walks) x.0.walk old.0 f old.1 x.1
+
+-- ---- pieces
+
+-- what shows the same units has the same pieces
+pub same_pieces : (us rs ps : List UnitRange) → HaveSameUnits us rs → IsPieces us ps → IsPieces rs ps
+same_pieces us rs ps same is = record { apart = is.apart; same = λ a. is.same a ∙ same a }
 
 -- ---- how many units there are
 

@@ -28,8 +28,8 @@ pub(crate) fn summary<'f>(
     requires { AreLinkedOfFile image.now (map arc_value shards.now) (map arc_value linked.now) }
     ensures { ForLinks image.now (λ p ks. GivesFor (λ m rs. IsSummaryOf image.now (summary_seen m) rs) result (all_ranges p ks)) }
 {
-    let ranges = all_ranges(alloc, image, shards, linked)?;
-    let map = AddressMap::build(alloc, &ranges)?;
+    let found = all_ranges(alloc, image, shards, linked)?;
+    let map = AddressMap::build(alloc, found.ranges())?;
     let main = main_of(alloc, image, shards, linked)?;
     Ok(Summary { main, map })
 }

@@ -16,7 +16,9 @@ use Rattle.index_model.specs.Program.{Walked, root_of}
 use Rattle.index_model.specs.Strings.{base_of}
 use Rattle.index_model.specs.RangeLists.{End, Base, Bounds, Offsets, EntryReader, indexed_address, address_of, one, two, long, plain, fixed, kind_reader, kind_at, pair_at, list_at, list_offset, list_of}
 use Rattle.index_model.specs.Ranges.{bounds, first_base, ranges_by}
-use Rattle.range_lists.specs.Lists.{kept}
+use Rattle.range_lists.specs.Lists.{kept, reader_for}
+use Rattle.range_lists.specs.declared.list_entry.Format.{Format}
+use Rattle.range_lists.specs.declared.list_entry.Format.TheVariants.{Pairs, Kinds}
 use Rattle.range_lists.specs.Homes.{as_value, as_high, unit_with}
 use Rattle.range_lists.specs.declared.home.Home.{Home}
 use Rattle.index_model.specs.declared.shard.Raw.{Raw}
@@ -49,10 +51,10 @@ kind_by look i = some_or (number 1 i) BAD_RANGE >>= λ kind. kind_reader (
     (7, two long fixed plain) ∷
     []) kind.0 kind.1
 
-module _ (ss : List Section) (w v : Walked) (h : Alike w v) where
+module _ (ss : List Section) (w v : Walked) (addresses : base_of 0x73 w ≡ base_of 0x73 v) where
   indexed_same : (n : ℕ) → indexed_address ss w n ≡ indexed_address ss v n
   unfolding indexed_address
-  indexed_same n = ap (address_behind ss n) h.addresses
+  indexed_same n = ap (address_behind ss n) addresses
 
   look_same : indexed_address ss w ≡ indexed_address ss v
   look_same = λ i n. indexed_same n i
@@ -61,10 +63,16 @@ module _ (ss : List Section) (w v : Walked) (h : Alike w v) where
   unfolding kind_at
   kind_same = ap kind_by look_same
 
+  -- lists of units with one base of addresses are read alike
+  pub reader_same : (format : Format) → reader_for format ss w ≡ reader_for format ss v
+  reader_same Pairs = refl
+  reader_same Kinds = kind_same
+
+module _ (ss : List Section) (w v : Walked) (h : Alike w v) where
   address_same : (x : Value) → address_of ss w x ≡ address_of ss v x
   unfolding address_of
   address_same (Addr a) = refl
-  address_same (AddrIndex n) = indexed_same n
+  address_same (AddrIndex n) = indexed_same ss w v h.addresses n
   address_same other = refl
 
   offset_same : (n : ℕ) → list_offset ss w n ≡ list_offset ss v n
@@ -75,9 +83,9 @@ module _ (ss : List Section) (w v : Walked) (h : Alike w v) where
   unfolding list_of
   list_same base (RangeIndex n) =
       ap (λ (o : Result ℕ ℕ). o >>= list_at (kind_at ss w) base (section_bytes ss (codes ".debug_rnglists"))) (offset_same n) ∙
-      ap (λ (read : EntryReader). list_offset ss v n >>= list_at read base (section_bytes ss (codes ".debug_rnglists"))) kind_same
+      ap (λ (read : EntryReader). list_offset ss v n >>= list_at read base (section_bytes ss (codes ".debug_rnglists"))) (kind_same ss w v h.addresses)
   list_same base (Offset o) =
-      ap (λ (read : EntryReader). cond (eqb w.unit.version 5) (list_at read base (section_bytes ss (codes ".debug_rnglists")) o) (list_at pair_at base (section_bytes ss (codes ".debug_ranges")) o)) kind_same ∙
+      ap (λ (read : EntryReader). cond (eqb w.unit.version 5) (list_at read base (section_bytes ss (codes ".debug_rnglists")) o) (list_at pair_at base (section_bytes ss (codes ".debug_ranges")) o)) (kind_same ss w v h.addresses) ∙
       ap (λ (u : UnitHeader). cond (eqb u.version 5) (list_at (kind_at ss v) base (section_bytes ss (codes ".debug_rnglists")) o) (list_at pair_at base (section_bytes ss (codes ".debug_ranges")) o)) h.unit
   list_same base other = refl
 

@@ -1,26 +1,31 @@
 -- Lists of ranges, entry by entry.
 use Rattle.std.proofs.Common.{◌≡◌, ℕ, zero, suc, ◌+◌, ◌<◌, ◌≤◌, Bool, true, false, cond, List, [], ◌∷◌, ◌++◌, append_assoc, length, drop, filter, min, Some, None, Result, Ok, Err, refl, ap, sym, ◌∙◌, arith, ⊎_elim}
-use Rattle.std.proofs.lemmas.List.{append-nil, drop_all}
+use Rattle.std.proofs.lemmas.List.{append-nil, drop_all, map-append}
 use Rattle.std.proofs.lemmas.Bool.{cases_lt, eq-eqb, ne_eqb}
 use Rattle.ix_base.specs.declared.code.TheConstants.{BAD_RANGE}
 use Rattle.ix_base.specs.Reading.{Input}
 use Rattle.index_model.specs.declared.range.Range.{Range}
+use Rattle.index_model.specs.declared.range.UnitRange.{UnitRange}
 use Rattle.index_model.specs.Meaning.{◌>>=◌}
-use Rattle.index_model.specs.Sections.{Section, section_bytes}
+use Rattle.index_model.specs.Sections.{Section}
 use Rattle.index_model.specs.Forms.{Offset, RangeIndex}
-use Rattle.std.specs.Prelude.{codes}
 use Rattle.index_model.specs.Program.{Walked}
 use Rattle.index_model.specs.RangeLists.{ListEntry, End, Base, Bounds, Offsets, EntryReader, with_entry, list_from, list_at, pair_at, kind_at, list_offset, list_of, top}
 use Rattle.index_model.specs.Ranges.{is_kept}
 use Rattle.range_lists.specs.declared.list_entry.Format.{Format}
 use Rattle.range_lists.specs.declared.list_entry.Format.TheVariants.{Pairs, Kinds}
-use Rattle.range_lists.specs.Lists.{reader_for, kept, behind, range_in, base_behind, capped}
+use Rattle.range_lists.specs.Same.{with_unit, of_unit}
+use Rattle.range_lists.specs.Lists.{reader_for, lists_in, kept, behind, range_in, base_behind, capped}
+
+-- these ranges, and those of the meaning
+abbrev pub before : {E : Type 0} → List Range → Result (List Range) E → Result (List Range) E
+before front ranges = ranges >>= λ rs. Ok (front ++ rs)
 
 abbrev given : List Range → Result (List Range) ℕ
 given rs = Ok rs
 
 -- a range before others
-one_more : (r : Range) (more : Result (List Range) ℕ) → kept (more >>= λ rs. Ok (r ∷ rs)) ≡ behind (filter is_kept (r ∷ [])) (kept more)
+one_more : (r : Range) (more : Result (List Range) ℕ) → kept (more >>= λ rs. Ok (r ∷ rs)) ≡ before (filter is_kept (r ∷ [])) (kept more)
 one_more r (Ok rs) = by (is_kept r)
   where
     by : (b : Bool) → given (cond b (r ∷ filter is_kept rs) (filter is_kept rs)) ≡ given (cond b (r ∷ []) [] ++ filter is_kept rs)
@@ -28,16 +33,16 @@ one_more r (Ok rs) = by (is_kept r)
     by false = refl
 one_more r (Err e) = refl
 
-none_more : (more : Result (List Range) ℕ) → more ≡ behind [] more
+none_more : (more : Result (List Range) ℕ) → more ≡ before [] more
 none_more (Ok rs) = refl
 none_more (Err e) = refl
 
 -- an entry behind which the list goes on
-goes_on : (e : ListEntry) (base next : ℕ) (later : ℕ → Result (List Range) ℕ) → base_behind e base ≡ Some next → kept (with_entry e base later) ≡ behind (range_in e base) (kept (later next))
+goes_on : (e : ListEntry) (base next : ℕ) (later : ℕ → Result (List Range) ℕ) → base_behind e base ≡ Some next → kept (with_entry e base later) ≡ before (range_in e base) (kept (later next))
 goes_on End base next later is = absurd cc
 goes_on (Base b) base next later is = let same : b ≡ next = cc in ap (λ (k : ℕ). kept (later k)) same ∙ none_more (kept (later next))
-goes_on (Bounds low end) base next later is = let same : base ≡ next = cc in one_more (record { low = low; end = end }) (later base) ∙ ap (λ (k : ℕ). behind (range_in (Bounds low end) base) (kept (later k))) same
-goes_on (Offsets low end) base next later is = let same : base ≡ next = cc in one_more (record { low = base + low; end = base + end }) (later base) ∙ ap (λ (k : ℕ). behind (range_in (Offsets low end) base) (kept (later k))) same
+goes_on (Bounds low end) base next later is = let same : base ≡ next = cc in one_more (record { low = low; end = end }) (later base) ∙ ap (λ (k : ℕ). before (range_in (Bounds low end) base) (kept (later k))) same
+goes_on (Offsets low end) base next later is = let same : base ≡ next = cc in one_more (record { low = base + low; end = base + end }) (later base) ∙ ap (λ (k : ℕ). before (range_in (Offsets low end) base) (kept (later k))) same
 
 ends : (e : ListEntry) (base : ℕ) (later : ℕ → Result (List Range) ℕ) → base_behind e base ≡ None → with_entry e base later ≡ Ok []
 ends End base later is = refl
@@ -45,30 +50,30 @@ ends (Base b) base later is = absurd cc
 ends (Bounds low end) base later is = absurd cc
 ends (Offsets low end) base later is = absurd cc
 
-behind_both : (xs ys : List Range) (more : Result (List Range) ℕ) → behind xs (behind ys more) ≡ behind (xs ++ ys) more
-behind_both xs ys (Ok rs) = rw append_assoc refl
-behind_both xs ys (Err e) = refl
+behind_both : (unit : ℕ) (xs : List UnitRange) (ys : List Range) (more : Result (List Range) ℕ) → behind unit xs (before ys more) ≡ behind unit (xs ++ of_unit unit ys) more
+behind_both unit xs ys (Ok rs) = ap {B = Result (List UnitRange) ℕ} (λ (us : List UnitRange). Ok (xs ++ us)) (map-append (with_unit unit) ys rs) ∙ ap {B = Result (List UnitRange) ℕ} (λ (us : List UnitRange). Ok us) (sym (append_assoc xs (of_unit unit ys) (of_unit unit rs)))
+behind_both unit xs ys (Err e) = refl
 
-module _ (read : EntryReader) (n base : ℕ) (i : Input) (front : List Range) where
-  pub list_more : (e : ListEntry) (left : Input) (next : ℕ) → read i ≡ Ok (e, left) → base_behind e base ≡ Some next → behind front (kept (list_from (suc n) read base i)) ≡ behind (front ++ range_in e base) (kept (list_from n read next left))
+module _ (read : EntryReader) (n base : ℕ) (i : Input) (unit : ℕ) (front : List UnitRange) where
+  pub list_more : (e : ListEntry) (left : Input) (next : ℕ) → read i ≡ Ok (e, left) → base_behind e base ≡ Some next → behind unit front (kept (list_from (suc n) read base i)) ≡ behind unit (front ++ of_unit unit (range_in e base)) (kept (list_from n read next left))
   unfolding list_from
   list_more e left next is on =
-      ap (λ (r : Result (ListEntry × Input) ℕ). behind front (kept (r >>= λ e. with_entry e.0 base (λ b. list_from n read b e.1)))) is ∙
-      ap (behind front) (goes_on e base next (λ b. list_from n read b left) on) ∙
-      behind_both front (range_in e base) (kept (list_from n read next left))
+      ap (λ (r : Result (ListEntry × Input) ℕ). behind unit front (kept (r >>= λ e. with_entry e.0 base (λ b. list_from n read b e.1)))) is ∙
+      ap (behind unit front) (goes_on e base next (λ b. list_from n read b left) on) ∙
+      behind_both unit front (range_in e base) (kept (list_from n read next left))
 
-  pub list_ends : (e : ListEntry) (left : Input) → read i ≡ Ok (e, left) → base_behind e base ≡ None → behind front (kept (list_from (suc n) read base i)) ≡ Ok front
+  pub list_ends : (e : ListEntry) (left : Input) → read i ≡ Ok (e, left) → base_behind e base ≡ None → behind unit front (kept (list_from (suc n) read base i)) ≡ Ok front
   unfolding list_from
   list_ends e left is off =
-      ap (λ (r : Result (ListEntry × Input) ℕ). behind front (kept (r >>= λ e. with_entry e.0 base (λ b. list_from n read b e.1)))) is ∙
-      ap (λ (r : Result (List Range) ℕ). behind front (kept r)) (ends e base (λ b. list_from n read b left) off) ∙
-      ap {B = Result (List Range) ℕ} (λ (rs : List Range). Ok rs) (append-nil front)
+      ap (λ (r : Result (ListEntry × Input) ℕ). behind unit front (kept (r >>= λ e. with_entry e.0 base (λ b. list_from n read b e.1)))) is ∙
+      ap (λ (r : Result (List Range) ℕ). behind unit front (kept r)) (ends e base (λ b. list_from n read b left) off) ∙
+      ap {B = Result (List UnitRange) ℕ} (λ (us : List UnitRange). Ok us) (append-nil front)
 
-  pub list_cut : (code : ℕ) → read i ≡ Err code → behind front (kept (list_from (suc n) read base i)) ≡ Err code
+  pub list_cut : (code : ℕ) → read i ≡ Err code → behind unit front (kept (list_from (suc n) read base i)) ≡ Err code
   unfolding list_from
-  list_cut code is = ap (λ (r : Result (ListEntry × Input) ℕ). behind front (kept (r >>= λ e. with_entry e.0 base (λ b. list_from n read b e.1)))) is
+  list_cut code is = ap (λ (r : Result (ListEntry × Input) ℕ). behind unit front (kept (r >>= λ e. with_entry e.0 base (λ b. list_from n read b e.1)))) is
 
-  pub list_out : behind front (kept (list_from zero read base i)) ≡ Err BAD_RANGE
+  pub list_out : behind unit front (kept (list_from zero read base i)) ≡ Err BAD_RANGE
   unfolding list_from
   list_out = refl
 
@@ -99,10 +104,10 @@ list_capped format ss w base bytes place small = ⊎_elim
 
 module _ (ss : List Section) (w : Walked) (base : ℕ) where
   abbrev new : List ℕ
-  new = section_bytes ss (codes ".debug_rnglists")
+  new = lists_in Kinds ss
 
   abbrev old : List ℕ
-  old = section_bytes ss (codes ".debug_ranges")
+  old = lists_in Pairs ss
 
   indexed : (o : Result ℕ ℕ) (place : ℕ) → length new < top → capped o ≡ Ok place → (o >>= list_at (kind_at ss w) base new) ≡ list_at (reader_for Kinds ss w) base new place
   indexed (Ok p) place small is = let same : min p top ≡ place = cc in sym (list_capped Kinds ss w base new p small) ∙ ap (λ (k : ℕ). list_at (kind_at ss w) base new k) same

@@ -1,5 +1,5 @@
 -- What a call gives that may be refused, where the place of a fault isn't known yet.
-use Rattle.std.specs.Prelude.{◌≡◌, ℕ, Result, Ok, Err}
+use Rattle.std.specs.Prelude.{◌≡◌, ℕ, Result, Ok, Err, IsOkAnd}
 use Rattle.range_lists.specs.declared.refusal.Refusal.{Refusal}
 use Rattle.range_lists.specs.declared.refusal.Refusal.TheVariants.{Code, Memory}
 
@@ -12,3 +12,8 @@ RefusedAs Memory meaning = Unit {0}
 abbrev pub GivesOrRefused : {X Y : Type 0} → (X → Y) → Result X Refusal → Result Y ℕ → Type 0
 GivesOrRefused view (Ok x) meaning = meaning ≡ Ok (view x)
 GivesOrRefused view (Err refusal) meaning = RefusedAs refusal meaning
+
+-- The answer stands for the meaning: the relation holds of both values at Ok, and Err has the code of what is first wrong. Want of memory is free.
+abbrev pub RefusedOr : {X Y : Type 0} → (X → Y → Type 0) → Result X Refusal → Result Y ℕ → Type 0
+RefusedOr StandsFor (Ok x) meaning = IsOkAnd meaning (StandsFor x)
+RefusedOr StandsFor (Err refusal) meaning = RefusedAs refusal meaning

@@ -1,11 +1,13 @@
 -- Lists of ranges, entry by entry.
-use Rattle.std.specs.Prelude.{ℕ, ◌+◌, List, [], ◌∷◌, ◌++◌, filter, min, Option, Some, None, Result, Ok}
+use Rattle.std.specs.Prelude.{ℕ, ◌+◌, List, [], ◌∷◌, ◌++◌, filter, min, Option, Some, None, Result, Ok, codes}
 use Rattle.index_model.specs.declared.range.Range.{Range}
+use Rattle.index_model.specs.declared.range.UnitRange.{UnitRange}
 use Rattle.index_model.specs.Meaning.{◌>>=◌}
-use Rattle.index_model.specs.Sections.{Section}
+use Rattle.index_model.specs.Sections.{Section, section_bytes}
 use Rattle.index_model.specs.Program.{Walked}
 use Rattle.index_model.specs.RangeLists as meant
 use Rattle.index_model.specs.Ranges.{is_kept}
+use Rattle.range_lists.specs.Same.{of_unit}
 use Rattle.range_lists.specs.declared.list_entry.Format.{Format}
 use Rattle.range_lists.specs.declared.list_entry.Format.TheVariants.{Pairs, Kinds}
 use Rattle.range_lists.specs.declared.list_entry.Entry.{Entry}
@@ -24,6 +26,11 @@ abbrev pub reader_for : Format → List Section → Walked → meant.EntryReader
 reader_for Pairs ss w = meant.pair_at
 reader_for Kinds ss w = meant.kind_at ss w
 
+-- the section in which lists of a format stand
+abbrev pub lists_in : Format → List Section → List ℕ
+lists_in Pairs ss = section_bytes ss (codes ".debug_ranges")
+lists_in Kinds ss = section_bytes ss (codes ".debug_rnglists")
+
 -- those of the ranges that count
 abbrev pub kept : Result (List Range) ℕ → Result (List Range) ℕ
 kept ranges = ranges >>= λ rs. Ok (filter is_kept rs)
@@ -33,9 +40,9 @@ abbrev pub as_list : Option Range → List Range
 as_list None = []
 as_list (Some r) = r ∷ []
 
--- these ranges, and those of the meaning
-abbrev pub behind : {E : Type 0} → List Range → Result (List Range) E → Result (List Range) E
-behind front ranges = ranges >>= λ rs. Ok (front ++ rs)
+-- these ranges, and behind them those of the meaning as ranges of the unit
+abbrev pub behind : {E : Type 0} → ℕ → List UnitRange → Result (List Range) E → Result (List UnitRange) E
+behind unit front ranges = ranges >>= λ rs. Ok (front ++ of_unit unit rs)
 
 -- the range of an entry, if it has one that counts
 abbrev pub range_in : meant.ListEntry → ℕ → List Range

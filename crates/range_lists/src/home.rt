@@ -21,6 +21,8 @@ const ADDRESS_SIZE: u64 = 8;
 #[derive(Clone, Copy)]
 pub(crate) struct Home<'f> {
     pub(crate) sections: &'f Sections<'f>,
+    /// The number of the unit in section order.
+    pub(crate) number: u32,
     pub(crate) header: Unit,
     /// Where the unit's part of `.debug_addr` begins.
     pub(crate) addr_base: Option<u64>,

@@ -6,6 +6,7 @@
 //! subprograms.
 #![tactic(auto)]
 
+mod found;
 mod home;
 mod list_entry;
 mod lists;
@@ -15,5 +16,5 @@ mod run;
 mod unit;
 mod unit_nodes;
 
-pub use index_model::Range;
-pub use unit::unit_ranges;
+pub use found::FoundRanges;
+pub use index_model::UnitRange;

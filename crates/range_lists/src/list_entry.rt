@@ -11,7 +11,7 @@ use ix_base::Cursor;
 use ix_base::code::BAD_RANGE;
 
 /// How a list is written.
-#[derive(Clone, Copy)]
+#[derive(Clone, Copy, PartialEq, Eq, PartialOrd, Ord, Drop)]
 pub(crate) enum Format {
     /// Pairs of addresses, in `.debug_ranges`.
     Pairs,

@@ -1,19 +1,22 @@
 //! Lists of ranges, in `.debug_ranges` and `.debug_rnglists` (DWARF 5, sections 2.17.3 and 7.25).
 
-ghost use Rattle.std.specs.Prelude.{◌≡◌, ◌+◌, ◌++◌, ◌∷◌, [], filter, codes, OnOk};
+ghost use Rattle.std.specs.Prelude.{◌≡◌, ◌+◌, ◌++◌, ◌<◌, ◌∷◌, [], codes, filter, length, IfOk, None, Some, OnOk};
 ghost use Rattle.index_model.specs.Gives.{GivesAlways};
-ghost use Rattle.index_model.specs.RangeLists.{list_at, list_of, list_offset, kind_at, pair_at};
+ghost use Rattle.index_model.specs.RangeLists.{list_at, list_of, list_offset, top};
 ghost use Rattle.index_model.specs.Ranges.{is_kept, ranges_by};
 ghost use Rattle.index_model.specs.Sections.{section_bytes};
 ghost use Rattle.index_model.specs.Strings.{offset_size};
-ghost use Rattle.range_lists.specs.Gives.{GivesOrRefused};
+ghost use Rattle.range_lists.specs.Found.{AreRead, IsAdded};
+ghost use Rattle.range_lists.specs.Gives.{GivesOrRefused, RefusedOr};
 ghost use Rattle.range_lists.specs.Homes.{as_value, unit_with};
-ghost use Rattle.range_lists.specs.Lists.{entry_seen, reader_for, kept, behind, capped, as_list, range_in, base_behind};
+ghost use Rattle.range_lists.specs.Lists.{entry_seen, reader_for, lists_in, kept, behind, capped, as_list, range_in, base_behind};
+ghost use Rattle.range_lists.specs.Same.{of_unit};
 
+use crate::found::{FoundRanges, RangeList};
 use crate::home::{Home, cursor_at};
 use crate::list_entry::{Entry, Format};
 use crate::refusal::Refusal;
-use index_model::{Range, Raw};
+use index_model::{Range, Raw, UnitRange};
 use ix_base::code::{BAD_RANGE, NO_BASE};
 use ix_base::{Cursor, NoMemory};
 
@@ -29,12 +32,16 @@ pub(crate) fn range_from(base: u64, low: u64, end: u64) -> Option<Range>
     Some(Range { low, end })
 }
 
-// Adds a range that counts.
-pub(crate) fn add_range(ranges: &mut Vec<Range>, range: Option<Range>) -> Result<(), NoMemory>
-    ensures { OnOk result (ranges.new.items ≡ ranges.old.items ++ as_list range) }
+// Adds a range of the unit, if it counts.
+pub(crate) fn add_range(
+    ranges: &mut Vec<UnitRange>,
+    unit: u32,
+    range: Option<Range>,
+) -> Result<(), NoMemory>
+    ensures { OnOk result (ranges.new.items ≡ ranges.old.items ++ of_unit unit (as_list range)) }
 {
     match range {
-        Some(range) => Ok(ranges.push(range)?),
+        Some(range) => Ok(ranges.push(UnitRange { unit, range })?),
         None => Ok(()),
     }
 }
@@ -71,18 +78,18 @@ impl Entry {
     }
 }
 
-impl Home<'_> {
+impl<'f> Home<'f> {
     // Adds the ranges of the list at a place of a section.
     #[tactic(auto, unfolding(index_model::specs::RangeLists::list_at))]
     fn add_list_at(
         &self,
-        ranges: &mut Vec<Range>,
+        ranges: &mut Vec<UnitRange>,
         format: Format,
         first_base: u64,
         bytes: &[u8],
         place: u64,
     ) -> Result<(), Refusal>
-        ensures { GivesOrRefused (λ _. ranges.new.items) result (behind ranges.old.items (kept (list_at (reader_for format self.now.sections.now (unit_with self.now)) first_base bytes.now place))) }
+        ensures { GivesOrRefused (λ _. ranges.new.items) result (behind self.now.number ranges.old.items (kept (list_at (reader_for format self.now.sections.now (unit_with self.now)) first_base bytes.now place))) }
     {
         if place > bytes.len() as u64 {
             return Err(Refusal::Code(BAD_RANGE));
@@ -95,7 +102,7 @@ impl Home<'_> {
             let Some(next) = entry.base_behind(base) else {
                 return Ok(());
             };
-            add_range(ranges, entry.range(base))?;
+            add_range(ranges, self.number, entry.range(base))?;
             base = next;
         }
         Err(Refusal::Code(BAD_RANGE))
@@ -103,7 +110,8 @@ impl Home<'_> {
 
     // Where the list of an index begins in `.debug_rnglists`. A place that is too high counts as the greatest.
     fn list_place(&self, index: u64) -> Result<u64, u8>
-        ensures { GivesAlways (λ place. place) result (capped (list_offset self.now.sections.now (unit_with self.now) index)) }
+        ensures place { GivesAlways (λ place. place) result (capped (list_offset self.now.sections.now (unit_with self.now) index)) }
+        ensures short { IfOk result (λ _. length (section_bytes self.now.sections.now (codes ".debug_rnglists")) < top) }
     {
         let base = self.rnglists_base.ok_or(NO_BASE)?;
         let size = offset_size(self.header.wide);
@@ -114,29 +122,61 @@ impl Home<'_> {
         Ok(base.saturating_add(offset))
     }
 
+    // The section in which lists of a format stand.
+    fn lists_in(&self, format: Format) -> &'f [u8]
+        ensures value { result.now ≡ lists_in format self.now.sections.now }
+        ensures small { length result.now < top }
+    {
+        match format {
+            Format::Pairs => self.sections.debug_ranges(),
+            Format::Kinds => self.sections.debug_rnglists(),
+        }
+    }
+
+    // Adds the ranges of the list at a place, unless it was read before.
+    fn add_list_once(
+        &self,
+        found: &mut FoundRanges,
+        format: Format,
+        first_base: u64,
+        place: u64,
+    ) -> Result<(), Refusal>
+        ensures { AreRead self.now.sections.now found.old → RefusedOr (λ _. IsAdded self.now.sections.now self.now.number found.old found.new) result (kept (list_at (reader_for format self.now.sections.now (unit_with self.now)) first_base (lists_in format self.now.sections.now) place)) }
+    {
+        let list = RangeList {
+            format,
+            place,
+            base: first_base,
+            addr_base: self.addr_base,
+        };
+        if found.has(list) {
+            return Ok(());
+        }
+        let lists = self.lists_in(format);
+        self.add_list_at(&mut found.ranges, format, first_base, lists, place)?;
+        Ok(found.note(list)?)
+    }
+
     // Adds the ranges of a list.
     #[tactic(auto, unfolding(index_model::specs::RangeLists::list_of))]
     fn add_list_from(
         &self,
-        ranges: &mut Vec<Range>,
+        found: &mut FoundRanges,
         first_base: u64,
         list: Raw,
     ) -> Result<(), Refusal>
-        ensures { GivesOrRefused (λ _. ranges.new.items) result (behind ranges.old.items (kept (list_of self.now.sections.now (unit_with self.now) first_base (as_value list)))) }
+        ensures { AreRead self.now.sections.now found.old → RefusedOr (λ _. IsAdded self.now.sections.now self.now.number found.old found.new) result (kept (list_of self.now.sections.now (unit_with self.now) first_base (as_value list))) }
     {
         match list {
             Raw::RangeIndex(index) => {
                 let place = self.list_place(index)?;
-                let lists = self.sections.debug_rnglists();
-                self.add_list_at(ranges, Format::Kinds, first_base, lists, place)
+                self.add_list_once(found, Format::Kinds, first_base, place)
             }
             Raw::Offset(place) => {
                 if self.header.version == 5 {
-                    let lists = self.sections.debug_rnglists();
-                    self.add_list_at(ranges, Format::Kinds, first_base, lists, place)
+                    self.add_list_once(found, Format::Kinds, first_base, place)
                 } else {
-                    let lists = self.sections.debug_ranges();
-                    self.add_list_at(ranges, Format::Pairs, first_base, lists, place)
+                    self.add_list_once(found, Format::Pairs, first_base, place)
                 }
             }
             Raw::Address(_) | Raw::AddressIndex(_) | Raw::Constant(_) => {
@@ -147,10 +187,10 @@ impl Home<'_> {
 
     /// Adds the ranges of a list, which counts from the low_pc of the root at first. Those that don't count are left out.
     #[tactic(auto, unfolding(index_model::specs::Ranges::ranges_by))]
-    pub(crate) fn add_list(&self, ranges: &mut Vec<Range>, list: Raw) -> Result<(), Refusal>
-        ensures { GivesOrRefused (λ _. ranges.new.items) result (behind ranges.old.items (kept (ranges_by self.now.sections.now (unit_with self.now) (Some (as_value list)) None None))) }
+    pub(crate) fn add_list(&self, found: &mut FoundRanges, list: Raw) -> Result<(), Refusal>
+        ensures { AreRead self.now.sections.now found.old → RefusedOr (λ _. IsAdded self.now.sections.now self.now.number found.old found.new) result (kept (ranges_by self.now.sections.now (unit_with self.now) (Some (as_value list)) None None)) }
     {
         let first_base = self.first_base()?;
-        self.add_list_from(ranges, first_base, list)
+        self.add_list_from(found, first_base, list)
     }
 }

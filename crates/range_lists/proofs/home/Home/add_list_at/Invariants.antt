@@ -6,4 +6,4 @@ use Rattle.range_lists.proofs.home.Home.add_list_at.Given as goal
 
 -- the ranges so far, and those that are still to come
 abbrev pub invariant-entries : goal.invariant-entries
-invariant-entries l = behind l.ranges.items (kept (list_from (l.end - l.counter) (reader_for l.format l.self.sections.now (unit_with l.self)) l.base l.cursor)) ≡ behind l.fn.ranges.items (kept (list_at (reader_for l.format l.self.sections.now (unit_with l.self)) l.first_base l.bytes l.place))
+invariant-entries l = behind l.self.number l.ranges.items (kept (list_from (l.end - l.counter) (reader_for l.format l.self.sections.now (unit_with l.self)) l.base l.cursor)) ≡ behind l.self.number l.fn.ranges.items (kept (list_at (reader_for l.format l.self.sections.now (unit_with l.self)) l.first_base l.bytes l.place))

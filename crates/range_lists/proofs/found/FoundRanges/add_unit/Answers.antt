@@ -15,14 +15,14 @@ use Rattle.index_model.proofs.FirstSome.{first_map}
 use Rattle.range_lists.specs.Units.{IsLinkedRun}
 use Rattle.range_lists.proofs.Runs.{none_passes, none_first, zip_length}
 use Rattle.range_lists.proofs.UnitRanges.{root_there, found_at}
-use Rattle.range_lists.proofs.unit.unit_ranges.Goals as goal
+use Rattle.range_lists.proofs.found.FoundRanges.add_unit.Goals as goal
 
 some : Root → Option Root
 some r = Some r
 
 pub returns-in_default : goal.returns-in_default
 unfolding some
-returns-in_default c p ks file links h own w wc number =
+returns-in_default c read p ks file links h own w wc number =
     let unit = c.args.unit in
     let shards = c.args.shards.now in
     let there = root_there c.args.image.now.file p file (map arc_value shards) h w wc unit number in
@@ -31,7 +31,7 @@ returns-in_default c p ks file links h own w wc number =
     absurd cc
 
 pub returns-in-Some-get : goal.returns-in-Some-get
-returns-in-Some-get c p ks file links h own w wc number =
+returns-in-Some-get c read p ks file links h own w wc number =
     let unit = c.args.unit in
     let shards = c.args.shards.now in
     let linked = c.args.linked.now in
@@ -44,11 +44,11 @@ returns-in-Some-get c p ks file links h own w wc number =
     let lt = ltb-true place (length linked) (sym c.in-Some-get.ensures.lookup.0) in
     let its = slice_of_map arc_value linked place _ lt ∙ ap (λ (x : Linked). Some x) (ap arc_value (sym c.in-Some-get.ensures.lookup.1) ∙ sym c.deref-in-Some-get.ensures) in
     let on = ap (λ (x : Shard). is_some (root_in unit x)) same ∙ (position-Some (λ x. is_some (root_in unit (arc_value x))) shards place item (sym c.run_of.ensures.value ∙ c.in-Some.is)).1 in
-    let r = found_at c.args.image.now c.ranges_in_run.ensures.of_file p ks file links (map arc_value shards) (map arc_value linked) h own w wc unit number place s l is its on in
-    rw r.1 (c.ranges_in_run.ensures.ranges w r.0)
+    let r = found_at c.args.image.now c.add_in_run.ensures.of_file p ks file links (map arc_value shards) (map arc_value linked) h own w wc unit number place s l is its on in
+    rw r.1 (c.add_in_run.ensures.ranges read w r.0)
 
 pub returns-in-None : goal.returns-in-None
-returns-in-None c p ks file links h own w wc number =
+returns-in-None c read p ks file links h own w wc number =
     let shards = c.args.shards.now in
     let linked = c.args.linked.now in
     let short = ltb-false c.in-Some.place (length linked) (sym c.in-None.ensures.lookup.0) in

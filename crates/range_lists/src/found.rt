@@ -1,0 +1,70 @@
+//! The ranges that were found so far, and the lists that were read for them.
+//!
+//! Many units, and many subprograms of one unit, may name one list. Behind ranges that have all its addresses it shows no other
+//! unit, so each list is read once.
+
+ghost use Rattle.std.specs.Prelude.{◌≡◌, ◌⊎◌, [], Contains, IsTrue, List, OnOk};
+ghost use Rattle.index_model.specs.Sections.{Section};
+ghost use Rattle.range_lists.specs.Found.{AreRead};
+ghost use Rattle.range_lists.specs.declared.found.RangeList.{RangeList};
+
+use crate::list_entry::Format;
+use index_model::UnitRange;
+use ix_base::NoMemory;
+use std::alloc::Global;
+use std::collections::BTreeSet;
+
+/// A list, by all that its ranges depend on.
+#[derive(Clone, Copy, PartialEq, Eq, PartialOrd, Ord, Drop)]
+pub(crate) struct RangeList {
+    pub(crate) format: Format,
+    /// Where it begins in its section.
+    pub(crate) place: u64,
+    /// The base from which it counts at first.
+    pub(crate) base: u64,
+    /// Where the unit's part of `.debug_addr` begins.
+    pub(crate) addr_base: Option<u64>,
+}
+
+/// Ranges of the first units of a file, which show the same unit at each address as all ranges of these units.
+#[derive(Drop)]
+pub struct FoundRanges {
+    pub(crate) ranges: Vec<UnitRange>,
+    pub(crate) lists: BTreeSet<RangeList>,
+}
+
+impl FoundRanges {
+    /// Those of no units.
+    pub fn none(alloc: Global) -> FoundRanges
+        ensures ranges { result.ranges.items ≡ [] }
+        ensures lists { (ss : List Section) → AreRead ss result }
+    {
+        FoundRanges {
+            ranges: Vec::new(alloc),
+            lists: BTreeSet::new(alloc),
+        }
+    }
+
+    /// The ranges, in section order of their units.
+    pub fn ranges(&self) -> &[UnitRange]
+        ensures { result.now ≡ self.now.ranges.items }
+    {
+        self.ranges.as_slice()
+    }
+
+    // Whether a list was read.
+    pub(crate) fn has(&self, list: RangeList) -> bool
+        ensures { IsTrue result → Contains self.now.lists.keys list }
+    {
+        self.lists.contains(&list)
+    }
+
+    // Remembers that a list was read.
+    pub(crate) fn note(&mut self, list: RangeList) -> Result<(), NoMemory>
+        ensures ranges { OnOk result (self.new.ranges ≡ self.old.ranges) }
+        ensures lists { OnOk result ((other : RangeList) → Contains self.new.lists.keys other → (list ≡ other) ⊎ Contains self.old.lists.keys other) }
+    {
+        self.lists.insert(list)?;
+        Ok(())
+    }
+}
