@@ -17,8 +17,8 @@ use Rattle.reach_model.proofs.Places.{places_fit}
 use Rattle.elf_add.specs.Adders.{Adder, adder_of}
 use Rattle.add_command.specs.Adds.{ForProgram, HasRoom, OfAdded}
 use Rattle.add_command.specs.Programs.{gdb_section, nothing, staged, AddStops, FillStops, FinishStops, FitsKind, HasRoomForOne, IsIndexOf, SectionStops}
-use Rattle.add_command.specs.declared.program.Stop.{Stop}
-use Rattle.add_command.specs.declared.program.Stop.TheVariants as stops
+use Rattle.add_command.specs.declared.program.NotAdded.{NotAdded}
+use Rattle.add_command.specs.declared.program.NotAdded.TheVariants as stops
 
 -- a `.gdb_index` of either version
 abbrev pub IsGdb : CacheKind → Type 0
@@ -36,7 +36,7 @@ gdb_room Gdb8 file sections g h = h
 gdb_room Gdb9 file sections g h = h
 gdb_room Names file sections g h = absurd g
 
-pub gdb_stops : (kind : CacheKind) (file : List ℕ) (sections : List Section) → IsGdb kind → (stop : Stop) → SectionStops file sections (codes ".gdb_index") stop → FillStops kind file sections stop
+pub gdb_stops : (kind : CacheKind) (file : List ℕ) (sections : List Section) → IsGdb kind → (stop : NotAdded) → SectionStops file sections (codes ".gdb_index") stop → FillStops kind file sections stop
 gdb_stops Gdb8 file sections g stops.Present h = h
 gdb_stops Gdb8 file sections g stops.TooMany h = h
 gdb_stops Gdb8 file sections g stops.TooLarge h = h
@@ -49,11 +49,11 @@ gdb_stops Names file sections g stop h = absurd g
 
 -- ---- the section of a `.gdb_index` alone
 
-pub gdb_errs : (kind : CacheKind) (file : List ℕ) (sections : List Section) → IsGdb kind → (r : Result (Unit {0}) Stop) → IfErr r (SectionStops file sections (codes ".gdb_index")) → IfErr r (FillStops kind file sections)
+pub gdb_errs : (kind : CacheKind) (file : List ℕ) (sections : List Section) → IsGdb kind → (r : Result (Unit {0}) NotAdded) → IfErr r (SectionStops file sections (codes ".gdb_index")) → IfErr r (FillStops kind file sections)
 gdb_errs kind file sections g (Ok x) h = tt
 gdb_errs kind file sections g (Err stop) h = gdb_stops kind file sections g stop h
 
-pub gdb_rooms : (kind : CacheKind) (file : List ℕ) (sections : List Section) → IsGdb kind → (r : Result (Unit {0}) Stop) → OnOk r (HasRoomForOne file sections (codes ".gdb_index")) → OnOk r (HasRoom kind file sections)
+pub gdb_rooms : (kind : CacheKind) (file : List ℕ) (sections : List Section) → IsGdb kind → (r : Result (Unit {0}) NotAdded) → OnOk r (HasRoomForOne file sections (codes ".gdb_index")) → OnOk r (HasRoom kind file sections)
 gdb_rooms kind file sections g (Ok x) h = gdb_room kind file sections g h
 gdb_rooms kind file sections g (Err stop) h = tt
 
@@ -108,13 +108,13 @@ module _ (file : List ℕ) (kind : CacheKind) (c : Cache) (index : IsIndexOf fil
   pub of_index : (c ≡ DoesNotFit → ⊥) → addition_of (cache_in kind index.built) ≡ Some (staged kind c)
   of_index fits = rw (← index.holds) (staged_is kind c fits)
 
-  stops_at : (stop : Stop) → FillStops kind file index.built.program.sections stop → AddStops file kind stop
+  stops_at : (stop : NotAdded) → FillStops kind file index.built.program.sections stop → AddStops file kind stop
   stops_at stops.Present h = record { built = index.built; accepted = index.accepted; holds = h }
   stops_at stops.TooMany h = record { built = index.built; accepted = index.accepted; holds = h }
   stops_at stops.TooLarge h = absurd h
   stops_at stops.Memory h = tt
 
-  stops_last : HasRoom kind file index.built.program.sections → (stop : Stop) → FinishStops c stop → AddStops file kind stop
+  stops_last : HasRoom kind file index.built.program.sections → (stop : NotAdded) → FinishStops c stop → AddStops file kind stop
   stops_last room stops.Present h = absurd h
   stops_last room stops.TooMany h = absurd h
   stops_last room stops.TooLarge h = record { built = index.built; accepted = index.accepted; holds = (room, sym index.holds ∙ h) }
@@ -137,10 +137,10 @@ module _ (file : List ℕ) (kind : CacheKind) (c : Cache) (index : IsIndexOf fil
     room_here : HasRoom kind a.file a.sections → HasRoom kind file index.built.program.sections
     room_here room = subst (λ (x : Adder). HasRoom kind x.file x.sections) adder_is room
 
-    pub stops_program : (stop : Stop) → FillStops kind a.file a.sections stop → AddStops file kind stop
+    pub stops_program : (stop : NotAdded) → FillStops kind a.file a.sections stop → AddStops file kind stop
     stops_program stop h = stops_at stop (subst (λ (x : Adder). FillStops kind x.file x.sections stop) adder_is h)
 
-    pub finish_stops : HasRoom kind a.file a.sections → (stop : Stop) → FinishStops c stop → AddStops file kind stop
+    pub finish_stops : HasRoom kind a.file a.sections → (stop : NotAdded) → FinishStops c stop → AddStops file kind stop
     finish_stops room stop h = stops_last (room_here room) stop h
 
     module _ (new : Adder) (is : new ≡ record a { addition = staged kind c }) where

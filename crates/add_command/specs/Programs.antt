@@ -9,8 +9,8 @@ use Rattle.reach_model.specs.AddedIndex.{is_crowded, is_indexed, most_sections}
 use Rattle.elf_add.specs.declared.adder.AddStop.{AddStop}
 use Rattle.elf_add.specs.declared.adder.AddStop.TheVariants as adds
 use Rattle.add_command.specs.Adds.{ForProgram, HasIndex, HasNoRoom, HasTooLarge}
-use Rattle.add_command.specs.declared.program.Stop.{Stop}
-use Rattle.add_command.specs.declared.program.Stop.TheVariants as stops
+use Rattle.add_command.specs.declared.program.NotAdded.{NotAdded}
+use Rattle.add_command.specs.declared.program.NotAdded.TheVariants as stops
 
 -- nothing is added yet
 abbrev pub nothing : Addition
@@ -53,7 +53,7 @@ IsIndexOf file kind cache = ForProgram file kind (λ f sections c. cache ≡ c)
 -- ---- why it stopped
 
 -- an adder's reason as the command's
-abbrev pub reason : AddStop → Stop
+abbrev pub reason : AddStop → NotAdded
 reason adds.Present = stops.Present
 reason adds.TooMany = stops.TooMany
 reason adds.Memory = stops.Memory
@@ -67,7 +67,7 @@ abbrev pub is_full_with : ℕ → List ℕ → Bool
 is_full_with n file = nat_lt most_sections (section_count file + n)
 
 -- the name of the first section that is added forbids it, or the number
-abbrev pub SectionStops : List ℕ → List Section → List ℕ → Stop → Type 0
+abbrev pub SectionStops : List ℕ → List Section → List ℕ → NotAdded → Type 0
 SectionStops file sections name stops.Present = is_there sections name ≡ true
 SectionStops file sections name stops.TooMany = (is_there sections name ≡ false) × (is_full_with 1 file ≡ true)
 SectionStops file sections name stops.TooLarge = ⊥
@@ -82,28 +82,28 @@ abbrev pub lacks_strings : List ℕ → List Section → Bool
 lacks_strings file sections = not (is_there sections debug_str) && is_full_with 2 file
 
 -- the number of sections forbids strings
-abbrev pub StringsStop : List ℕ → List Section → Stop → Type 0
+abbrev pub StringsStop : List ℕ → List Section → NotAdded → Type 0
 StringsStop file sections stops.Present = ⊥
 StringsStop file sections stops.TooMany = lacks_strings file sections ≡ true
 StringsStop file sections stops.TooLarge = ⊥
 StringsStop file sections stops.Memory = ⊥
 
 -- the sections of the program forbid it
-abbrev pub FillStops : CacheKind → List ℕ → List Section → Stop → Type 0
+abbrev pub FillStops : CacheKind → List ℕ → List Section → NotAdded → Type 0
 FillStops kind file sections stops.Present = is_indexed kind sections ≡ true
 FillStops kind file sections stops.TooMany = (is_indexed kind sections ≡ false) × (is_crowded kind file sections ≡ true)
 FillStops kind file sections stops.TooLarge = ⊥
 FillStops kind file sections stops.Memory = ⊤
 
 -- the format can't hold the index; memory is taken where it can
-abbrev pub FinishStops : Cache → Stop → Type 0
+abbrev pub FinishStops : Cache → NotAdded → Type 0
 FinishStops cache stops.Present = ⊥
 FinishStops cache stops.TooMany = ⊥
 FinishStops cache stops.TooLarge = cache ≡ DoesNotFit
 FinishStops cache stops.Memory = cache ≡ DoesNotFit → ⊥
 
 -- the program forbids it
-abbrev pub AddStops : List ℕ → CacheKind → Stop → Type 0
+abbrev pub AddStops : List ℕ → CacheKind → NotAdded → Type 0
 AddStops file kind stops.Present = ForProgram file kind (HasIndex kind)
 AddStops file kind stops.TooMany = ForProgram file kind (HasNoRoom kind)
 AddStops file kind stops.TooLarge = ForProgram file kind (HasTooLarge kind)

@@ -4,10 +4,10 @@ use Rattle.index_model.specs.declared.job.CacheKind.{CacheKind}
 use Rattle.command_base.specs.declared.status.Status.{Status}
 use Rattle.command_base.specs.declared.status.Status.TheVariants.{Answered, StoreFault, NoMemory, IndexTooLarge, AlreadyIndexed, TooManySections}
 use Rattle.add_command.specs.Adds.{ForProgram, HasIndex, HasNoRoom, HasTooLarge}
-use Rattle.add_command.specs.declared.program.Stop.{Stop}
-use Rattle.add_command.specs.declared.program.Stop.TheVariants as stops
+use Rattle.add_command.specs.declared.program.NotAdded.{NotAdded}
+use Rattle.add_command.specs.declared.program.NotAdded.TheVariants as stops
 
-abbrev pub stop_status : Stop → Status
+abbrev pub stop_status : NotAdded → Status
 stop_status stops.Present = AlreadyIndexed
 stop_status stops.TooMany = TooManySections
 stop_status stops.TooLarge = IndexTooLarge

@@ -20,7 +20,7 @@ use std::alloc::Global;
 
 /// Why a program isn't given its index.
 #[derive(Clone, Copy)]
-pub(crate) enum Stop {
+pub(crate) enum NotAdded {
     /// It has a section for such an index.
     Present,
     /// It has no room for one more section.
@@ -30,16 +30,16 @@ pub(crate) enum Stop {
     Memory,
 }
 
-impl Stop {
+impl NotAdded {
     /// How a command ends whose program isn't given its index.
     pub(crate) fn status(self) -> Status
         ensures { result ≡ stop_status self }
     {
         match self {
-            Stop::Present => Status::AlreadyIndexed,
-            Stop::TooMany => Status::TooManySections,
-            Stop::TooLarge => Status::IndexTooLarge,
-            Stop::Memory => Status::NoMemory,
+            NotAdded::Present => Status::AlreadyIndexed,
+            NotAdded::TooMany => Status::TooManySections,
+            NotAdded::TooLarge => Status::IndexTooLarge,
+            NotAdded::Memory => Status::NoMemory,
         }
     }
 }
@@ -50,7 +50,7 @@ pub(crate) fn with_index<'f>(
     file: &'f [u8],
     kind: CacheKind,
     cache: &'f Cache,
-) -> Result<Vec<u8>, Stop>
+) -> Result<Vec<u8>, NotAdded>
     requires index { IsIndexOf file.now kind (cache_seen cache.now) }
     requires small { length file.now ≤ MAX_FILE_BYTES }
     ensures ok { IfOk result (λ bytes. ForProgram file.now kind (OfAdded kind (λ b. b ≡ bytes.items))) }
@@ -61,29 +61,29 @@ pub(crate) fn with_index<'f>(
             Ok(()) => finish(adder, cache),
             Err(stop) => Err(stop),
         },
-        Err(_) => Err(Stop::Memory),
+        Err(_) => Err(NotAdded::Memory),
     }
 }
 
 // The program with what was added for this index.
-fn finish(adder: Adder<'_>, cache: &Cache) -> Result<Vec<u8>, Stop>
+fn finish(adder: Adder<'_>, cache: &Cache) -> Result<Vec<u8>, NotAdded>
     requires { (cache_seen cache.now ≡ DoesNotFit → ⊥) → HavePlaces (names_start adder.file adder.sections adder.addition) (new_sections adder.file adder.sections adder.addition) }
     ensures ok { IfOk result (λ bytes. bytes.items ≡ added adder.entry.file adder.entry.sections adder.entry.addition) }
     ensures fits { OnOk result (cache_seen cache.now ≡ DoesNotFit → ⊥) }
     ensures err { IfErr result (FinishStops (cache_seen cache.now)) }
 {
     if let Cache::TooLarge = cache {
-        return Err(Stop::TooLarge);
+        return Err(NotAdded::TooLarge);
     }
     match adder.finish() {
         Ok(bytes) => Ok(bytes),
-        Err(_) => Err(Stop::Memory),
+        Err(_) => Err(NotAdded::Memory),
     }
 }
 
 // Adds the section of an index, and its strings. An index that its format can't hold is taken for one of no bytes, since what the
 // program's sections forbid comes first.
-fn add_index<'f>(adder: &mut Adder<'f>, kind: CacheKind, cache: &'f Cache) -> Result<(), Stop>
+fn add_index<'f>(adder: &mut Adder<'f>, kind: CacheKind, cache: &'f Cache) -> Result<(), NotAdded>
     requires fresh { adder.old.addition ≡ nothing }
     requires fits { FitsKind kind (cache_seen cache.now) }
     ensures ok { OnOk result (adder.new ≡ record adder.old { addition = staged kind (cache_seen cache.now) }) }
@@ -101,7 +101,7 @@ fn add_index<'f>(adder: &mut Adder<'f>, kind: CacheKind, cache: &'f Cache) -> Re
 }
 
 // Adds the section of a `.debug_names`, and its strings.
-fn add_names<'f>(adder: &mut Adder<'f>, names: &'f [u8], strings: &'f [u8]) -> Result<(), Stop>
+fn add_names<'f>(adder: &mut Adder<'f>, names: &'f [u8], strings: &'f [u8]) -> Result<(), NotAdded>
     requires fresh { adder.old.addition ≡ nothing }
     ensures ok { OnOk result (adder.new ≡ record adder.old { addition = names_section names.now strings.now }) }
     ensures room { OnOk result (HasRoom Names adder.old.file adder.old.sections) }
@@ -114,7 +114,7 @@ fn add_names<'f>(adder: &mut Adder<'f>, names: &'f [u8], strings: &'f [u8]) -> R
 }
 
 // Adds the first section.
-fn add_section<'f>(adder: &mut Adder<'f>, name: &'f [u8], bytes: &'f [u8]) -> Result<(), Stop>
+fn add_section<'f>(adder: &mut Adder<'f>, name: &'f [u8], bytes: &'f [u8]) -> Result<(), NotAdded>
     requires fresh { adder.old.addition ≡ nothing }
     requires ended { AllOf (λ b. (b == 0) ≡ false) name.now }
     requires other { bytes_eq name.now debug_str ≡ false }
@@ -129,7 +129,7 @@ fn add_section<'f>(adder: &mut Adder<'f>, name: &'f [u8], bytes: &'f [u8]) -> Re
 }
 
 // Adds strings behind one section.
-fn add_strings<'f>(adder: &mut Adder<'f>, strings: &'f [u8]) -> Result<(), Stop>
+fn add_strings<'f>(adder: &mut Adder<'f>, strings: &'f [u8]) -> Result<(), NotAdded>
     requires one { length adder.old.addition.sections ≡ 1 }
     requires first { adder.old.addition.strings ≡ None }
     ensures ok { OnOk result (adder.new ≡ record adder.old { addition = record adder.old.addition { strings = Some strings.now } }) }
@@ -143,12 +143,12 @@ fn add_strings<'f>(adder: &mut Adder<'f>, strings: &'f [u8]) -> Result<(), Stop>
 }
 
 // The same reason.
-fn stopped(stop: AddStop) -> Stop
+fn stopped(stop: AddStop) -> NotAdded
     ensures { result ≡ reason stop }
 {
     match stop {
-        AddStop::Present => Stop::Present,
-        AddStop::TooMany => Stop::TooMany,
-        AddStop::Memory => Stop::Memory,
+        AddStop::Present => NotAdded::Present,
+        AddStop::TooMany => NotAdded::TooMany,
+        AddStop::Memory => NotAdded::Memory,
     }
 }

@@ -26,7 +26,7 @@ use Rattle.aranges_read.specs.Tables.{HasTheUnitsOf}
 use Rattle.command_base.specs.Replies.{SaysReply, Wrote}
 use Rattle.command_base.specs.declared.status.Status.{Status}
 use Rattle.command_base.specs.declared.status.Status.TheVariants.{Answered, Refused, Usage, ReadFault, StoreFault, WriteFault, NoMemory, IndexRefused, TableRefused, IndexTooLarge, FileTooBig, AlreadyIndexed, TooManySections, InputFault, InputTooLong, Stopped}
-use Rattle.command_base.specs.declared.status.Table.TheVariants.{Addresses, Lines}
+use Rattle.command_base.specs.declared.status.RefusedTable.TheVariants.{Addresses, Lines}
 use Rattle.command_base.proofs.ReplyLaws.{wrote_refused, wrote_weaker}
 use Rattle.aranges_command.specs.Compared.{SaysComparison, SaysFault}
 use Rattle.aranges_command.specs.Comparisons.{IsMapOf, SaysAranges, sets_of}

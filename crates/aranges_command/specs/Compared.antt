@@ -5,7 +5,7 @@ use Rattle.reach_model.specs.AddressTexts.{text_of_aranges_fault, text_of_compar
 use Rattle.reach_model.specs.declared.difference.Difference.{Difference}
 use Rattle.command_base.specs.declared.status.Status.{Status}
 use Rattle.command_base.specs.declared.status.Status.TheVariants.{Answered, TableRefused}
-use Rattle.command_base.specs.declared.status.Table.TheVariants.{Addresses}
+use Rattle.command_base.specs.declared.status.RefusedTable.TheVariants.{Addresses}
 
 -- the line of a comparison
 abbrev pub SaysComparison : Option Difference → Status → List ℕ → Type 0

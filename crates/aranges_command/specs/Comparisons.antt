@@ -15,7 +15,7 @@ use Rattle.command_base.specs.Replies.{IsRefusalOf}
 use Rattle.command_base.specs.Tables.{SaysTable, SaysTableFault}
 use Rattle.command_base.specs.declared.status.Status.{Status}
 use Rattle.command_base.specs.declared.status.Status.TheVariants.{Answered, Refused, TableRefused}
-use Rattle.command_base.specs.declared.status.Table.TheVariants.{Addresses}
+use Rattle.command_base.specs.declared.status.RefusedTable.TheVariants.{Addresses}
 
 -- what the address table of a program is read as
 abbrev pub sets_of : Built → Result (List AddressSet) Fault

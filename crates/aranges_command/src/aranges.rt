@@ -13,7 +13,7 @@ ghost use Rattle.aranges_command.specs.Compared.{SaysComparison, SaysFault};
 use crate::line::{comparison_line, refusal_line};
 use address_map::AddressMap;
 use aranges_read::{compare, read};
-use command_base::{Status, Table, ended, refuse};
+use command_base::{RefusedTable, Status, ended, refuse};
 use file_image::Image;
 use index_board::Reader;
 use index_model::CacheKind;
@@ -118,7 +118,7 @@ fn refuse_table<K: Sink>(alloc: Global, fault: Fault, out: &mut K) -> Status
     match refusal_line(alloc, fault) {
         Ok(line) => ended(
             write_all(out, line.as_bytes()),
-            Status::TableRefused(Table::Addresses),
+            Status::TableRefused(RefusedTable::Addresses),
         ),
         Err(_) => Status::NoMemory,
     }

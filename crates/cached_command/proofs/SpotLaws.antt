@@ -22,7 +22,7 @@ use Rattle.cached_command.specs.Buildings.{CausesOfBuilt, CausesTied, IsAnswerSa
 use Rattle.cached_command.specs.Cached.{HasMissed, SaysTied}
 use Rattle.cached_command.specs.Caches.{id_of, FaultsEarly, IsCached, IsIndexOf, IsMissed, IsTooLarge, failed, hit, nowhere as unplaced, stale, stored, unread, unsaved, without_id}
 use Rattle.cached_command.specs.Places.{Spot, early, here, nowhere, place_seen, spot_in, spot_of, IsSpotOf}
-use Rattle.cached_command.specs.declared.place.Place.{Place}
+use Rattle.cached_command.specs.declared.place.KeptFile.{KeptFile}
 use Rattle.cached_command.specs.Savings.{text_of_saved, IsSaved}
 use Rattle.cached_command.specs.declared.save.Saved.{Saved}
 use Rattle.cached_command.specs.declared.save.Saved.TheVariants as saves
@@ -31,14 +31,14 @@ use Rattle.cached_command.proofs.FilesLaws.{saved_since}
 
 -- ---- a place
 
-abbrev pub spot_behind : Option (Bor Place) → Option Spot
+abbrev pub spot_behind : Option (Bor KeptFile) → Option Spot
 spot_behind o = option_map (λ p. place_seen p.now) o
 
-behind_is : (o : Option (Bor Place)) → spot_behind o ≡ option_map place_seen (option_copied o)
+behind_is : (o : Option (Bor KeptFile)) → spot_behind o ≡ option_map place_seen (option_copied o)
 behind_is None = refl
 behind_is (Some p) = refl
 
-none_behind : (o : Option (Bor Place)) → spot_behind o ≡ None → o ≡ None
+none_behind : (o : Option (Bor KeptFile)) → spot_behind o ≡ None → o ≡ None
 none_behind None is = refl
 none_behind (Some p) is = absurd (cc is)
 
@@ -58,7 +58,7 @@ module _ (file store : List ℕ) where
   spot_is None is = early is.0 is.1
   spot_is (Some image) is = by_id image is (build_id_of image.sections) refl
 
-  module _ (o : Option (Bor Place)) (place : Option Place) (image : Option Image) (same : option_copied o ≡ place) (seen : option_map place_seen place ≡ spot_of image store) (is : IsImage (image_of file) image) where
+  module _ (o : Option (Bor KeptFile)) (place : Option KeptFile) (image : Option Image) (same : option_copied o ≡ place) (seen : option_map place_seen place ≡ spot_of image store) (is : IsImage (image_of file) image) where
     pub place_is : spot_behind o ≡ spot_of image store
     place_is = behind_is o ∙ ap (option_map place_seen) same ∙ seen
 
@@ -74,7 +74,7 @@ module _ (file store : List ℕ) where
   pub early_spot : (f : Fault) → FaultsEarly file f → (image : Option Image) → IsImage (image_of file) image → spot_of image store ≡ None
   early_spot f e image is = ap (λ (i : Option Image). spot_of i store) (early_none f e image is)
 
-  pub early_place : (f : Fault) → FaultsEarly file f → (o : Option (Bor Place)) (place : Option Place) (image : Option Image) → option_copied o ≡ place → option_map place_seen place ≡ spot_of image store → IsImage (image_of file) image → o ≡ None
+  pub early_place : (f : Fault) → FaultsEarly file f → (o : Option (Bor KeptFile)) (place : Option KeptFile) (image : Option Image) → option_copied o ≡ place → option_map place_seen place ≡ spot_of image store → IsImage (image_of file) image → o ≡ None
   early_place f e o place image same seen is = none_behind o (place_is o place image same seen is ∙ early_spot f e image is)
 
   -- and the file has it

@@ -5,7 +5,7 @@ use Rattle.ix_base.specs.declared.fault.Fault.{Fault}
 use Rattle.file_image.specs.Images.{Image}
 use Rattle.reach_model.specs.BuildIds.{build_id_of, cache_name}
 use Rattle.cached_command.specs.Caches.{id_of, FaultsEarly}
-use Rattle.cached_command.specs.declared.place.Place.{Place}
+use Rattle.cached_command.specs.declared.place.KeptFile.{KeptFile}
 
 -- the build-id of a program, and the name of its index
 pub record Spot : Type 0 where
@@ -16,7 +16,7 @@ pub record Spot : Type 0 where
 abbrev pub spot_in : List ℕ → List ℕ → Spot
 spot_in store id = record { id = id; name = cache_name store id }
 
-abbrev pub place_seen : Place → Spot
+abbrev pub place_seen : KeptFile → Spot
 place_seen place = record { id = place.id.now; name = string_bytes place.name }
 
 -- that of a program with this image, if it has a build-id

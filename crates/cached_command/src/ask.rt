@@ -10,7 +10,7 @@ ghost use Rattle.cached_command.specs.Places.{place_seen};
 ghost use Rattle.cached_command.specs.Askings.{CausesOfHit, IsMissedAt, OnEnded, OnMissed, SaysHit};
 
 use crate::kept::read_kept;
-use crate::place::Place;
+use crate::place::KeptFile;
 use crate::tell::tell;
 use command_base::{ReadStop, Status, ended};
 use index_cache::open;
@@ -32,7 +32,7 @@ pub(crate) enum Asked {
 /// Writes the answer of the index that is kept at a place, if there is one.
 pub(crate) fn ask<F: Shelf, K: Sink>(
     alloc: Global,
-    place: Option<&Place<'_>>,
+    place: Option<&KeptFile<'_>>,
     question: &Question<'_>,
     shelf: &mut F,
     out: &mut K,
@@ -58,7 +58,7 @@ pub(crate) fn ask<F: Shelf, K: Sink>(
 // Writes the answer of the index that is kept at this place.
 fn ask_at<F: Shelf, K: Sink>(
     alloc: Global,
-    place: &Place<'_>,
+    place: &KeptFile<'_>,
     question: &Question<'_>,
     shelf: &mut F,
     out: &mut K,

@@ -21,7 +21,7 @@ ghost use Rattle.cached_command.specs.Buildings.{CausesOfBuilt, CausesOfSaved, C
 ghost use Rattle.cached_command.specs.Places.{place_seen};
 
 use crate::ask::{Asked, ask};
-use crate::place::{Place, place_of};
+use crate::place::{KeptFile, place_of};
 use crate::save::save;
 use crate::tell::{stale_text, tell_behind};
 use command_base::{Status, ended, refuse};
@@ -41,7 +41,7 @@ use std::thread::Threads;
 #[derive(Clone, Copy)]
 struct Miss<'p> {
     /// Where the index is to be kept, if the program has such a place.
-    place: Option<&'p Place<'p>>,
+    place: Option<&'p KeptFile<'p>>,
     /// The fault of what is kept there, if it was read.
     stale: Option<Fault>,
 }

@@ -11,7 +11,7 @@ use std::alloc::Global;
 
 /// Where the index of a program is kept.
 #[derive(Drop)]
-pub(crate) struct Place<'f> {
+pub(crate) struct KeptFile<'f> {
     /// The program's build-id.
     pub(crate) id: &'f [u8],
     pub(crate) name: String,
@@ -22,7 +22,7 @@ pub(crate) fn place_of<'f>(
     alloc: Global,
     image: Option<&Image<'f>>,
     store: &str,
-) -> Result<Option<Place<'f>>, NoMemory>
+) -> Result<Option<KeptFile<'f>>, NoMemory>
     ensures place { IfOk result (λ place. option_map place_seen place ≡ spot_of (option_map (λ i. i.now) image.entry) store.now) }
     ensures id { IfOk result (λ place. IfSome place (λ p. IsBuildId p.id.now)) }
 {
@@ -33,5 +33,5 @@ pub(crate) fn place_of<'f>(
         return Ok(None);
     };
     let name = cache_name(alloc, store, id)?;
-    Ok(Some(Place { id, name }))
+    Ok(Some(KeptFile { id, name }))
 }

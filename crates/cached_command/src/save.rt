@@ -7,7 +7,7 @@ ghost use Rattle.reach_model.specs.BuildIds.{IsBuildId};
 ghost use Rattle.cached_command.specs.Places.{place_seen};
 ghost use Rattle.cached_command.specs.Savings.{text_of_saved, IsSaved};
 
-use crate::place::Place;
+use crate::place::KeptFile;
 use index_cache::make;
 use ix_base::NoMemory;
 use outside::{Failed, Shelf};
@@ -35,7 +35,7 @@ impl Saved {
 /// Keeps an index at its place, if it has one. All memory is taken before the store.
 pub(crate) fn save<F: Shelf>(
     alloc: Global,
-    place: Option<&Place<'_>>,
+    place: Option<&KeptFile<'_>>,
     index: &[u8],
     shelf: &mut F,
 ) -> Result<Saved, NoMemory>

@@ -12,7 +12,7 @@ use Rattle.outside.specs.declared.shelf.Failed.{Failed}
 use Rattle.outside.specs.Written.{Appends, AppendsPrefix}
 use Rattle.command_base.specs.Replies.{SaysReply, Wrote, status_after, status_of_reply}
 use Rattle.command_base.specs.declared.status.Status.{Status}
-use Rattle.command_base.specs.declared.status.Table.{Table}
+use Rattle.command_base.specs.declared.status.RefusedTable.{RefusedTable}
 use Rattle.command_base.specs.declared.status.Status.TheVariants.{Answered, Refused, Usage, ReadFault, StoreFault, WriteFault, NoMemory, IndexRefused, TableRefused, IndexTooLarge, FileTooBig, AlreadyIndexed, TooManySections, InputFault, InputTooLong, Stopped}
 
 -- ---- what is written
@@ -110,7 +110,7 @@ module _ (Says : Status → List ℕ → Type 0) (old new : Option (List ℕ)) (
   sent_refusal (Ok x) says all part = (text, says, all)
   sent_refusal (Err e) says all part = (IndexRefused, text, says, part)
 
-  pub sent_table : (table : Table) (r : Result (Unit {0}) Failed) → Says (TableRefused table) text → OnOk r (Appends old new text) → OnErr r (AppendsPrefix old new text) → Wrote Says (status_after r (TableRefused table)) old new
+  pub sent_table : (table : RefusedTable) (r : Result (Unit {0}) Failed) → Says (TableRefused table) text → OnOk r (Appends old new text) → OnErr r (AppendsPrefix old new text) → Wrote Says (status_after r (TableRefused table)) old new
   sent_table table (Ok x) says all part = (text, says, all)
   sent_table table (Err e) says all part = (TableRefused table, text, says, part)
 

@@ -10,4 +10,4 @@ mod status;
 pub use file::{ReadStop, read_file};
 pub use gdb::{answer_by_gdb, look_gdb};
 pub use reply::{ended, refuse, write};
-pub use status::{Status, Table};
+pub use status::{RefusedTable, Status};

@@ -5,7 +5,7 @@ ghost use Rattle.command_base.specs.Statuses.{status_code};
 
 /// A table of a program that may be refused by itself.
 #[derive(Clone, Copy)]
-pub enum Table {
+pub enum RefusedTable {
     /// `.debug_aranges`.
     Addresses,
     /// The line table of a unit.
@@ -34,7 +34,7 @@ pub enum Status {
     /// The bytes of an index have a fault.
     IndexRefused,
     /// A table of the program, which has no fault otherwise, has one.
-    TableRefused(Table),
+    TableRefused(RefusedTable),
     /// The format can't hold the index.
     IndexTooLarge,
     /// A file is longer than its limit.
@@ -69,8 +69,8 @@ impl Status {
             Status::InputTooLong => 11,
             Status::AlreadyIndexed => 12,
             Status::TooManySections => 13,
-            Status::TableRefused(Table::Addresses) => 14,
-            Status::TableRefused(Table::Lines) => 15,
+            Status::TableRefused(RefusedTable::Addresses) => 14,
+            Status::TableRefused(RefusedTable::Lines) => 15,
             Status::Stopped => 7,
         }
     }

@@ -5,7 +5,7 @@ use Rattle.std.proofs.lemmas.List.{append-nil, map-append, drop_all, drop_more}
 use Rattle.ix_base.specs.Reading.{Input, ◌>>=◌}
 use Rattle.index_model.proofs.Meanings.{bind_some}
 use Rattle.index_model.specs.NameAbbreviations.{Attribute, Spec, values}
-use Rattle.debugnames_read.specs.declared.abbreviation.Spec.{Spec as ReadSpec}
+use Rattle.debugnames_read.specs.declared.abbreviation.IndexSpec.{IndexSpec as ReadSpec}
 use Rattle.debugnames_read.specs.Specs.{spec_seen}
 use Rattle.debugnames_read.specs.Counting.{is_wanted, kept_behind, none_kept}
 use Rattle.debugnames_read.specs.Values.{Kept, first_values, kept_of, value_by, with_value}

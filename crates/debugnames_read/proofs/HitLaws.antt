@@ -17,9 +17,9 @@ use Rattle.index_model.specs.NameIndexRead.{entries_at, entries_of_name, has_has
 use Rattle.index_model.specs.NameAbbreviations.{Abbreviation}
 use Rattle.index_model.specs.NameTables.{Tables}
 use Rattle.index_model.specs.Strings.{offset_size}
-use Rattle.debugnames_read.specs.declared.buckets.Sought.{Sought}
-use Rattle.debugnames_read.specs.declared.buckets.Span.{Span}
-use Rattle.debugnames_read.specs.declared.names.Names.{Names}
+use Rattle.debugnames_read.specs.declared.buckets.AskedName.{AskedName}
+use Rattle.debugnames_read.specs.declared.buckets.NameNumbers.{NameNumbers}
+use Rattle.debugnames_read.specs.declared.names.IndexTables.{IndexTables}
 use Rattle.debugnames_read.specs.declared.tables.Tables.{Tables as ReadTables}
 use Rattle.debugnames_read.specs.Abbreviations.{abbreviations_in}
 use Rattle.debugnames_read.specs.Hits.{entries_left, IsList}
@@ -177,7 +177,7 @@ module _ (t : ReadTables) where
 
 -- ---- names of an index without a fault
 
-module _ (n : Names) (opened : IsOpened n) where
+module _ (n : IndexTables) (opened : IsOpened n) where
   abbrev t : Tables
   t = tables_of n
 
@@ -224,7 +224,7 @@ module _ (n : Names) (opened : IsOpened n) where
       shorter false x = absurd cc
 
   -- all entries of a name lie in what covers it
-  pub all_hits : (name : List ℕ) (s : Span) → s.from ≤ s.to → s.to ≤ t.counts.names → Covers n name s → name_index_hits (index_seen n) name ≡ hits_between n name s.from s.to
+  pub all_hits : (name : List ℕ) (s : NameNumbers) → s.from ≤ s.to → s.to ≤ t.counts.names → Covers n name s → name_index_hits (index_seen n) name ≡ hits_between n name s.from s.to
   all_hits name s order within covers =
       hits_are t n.strings.now n.base opened name
       ∙ ap (flat_map (hits_at t)) (covered (is_named n name) t.counts.names s.from s.to order within covers)
@@ -255,7 +255,7 @@ module _ (n : Names) (opened : IsOpened n) where
         record { some_begin = p.some; from = omega (arith, p.before); own_names = all_own t k (omega (arith, lt, hash_total n.tables some)) in_its_bucket }
 
   -- a name with another hash isn't the one that is looked for
-  pub other_name : (s : Sought) (k : ℕ) → IsHashOf t s → k < t.counts.names → is_other_hash t k s.hash ≡ true → is_named n s.name.now k ≡ false
+  pub other_name : (s : AskedName) (k : ℕ) → IsHashOf t s → k < t.counts.names → is_other_hash t k s.hash ≡ true → is_named n s.name.now k ≡ false
   other_name s k hash lt other = by s.hash hash other (is_named n s.name.now k) refl
     where
       by : (o : Option ℕ) → IfSome o (λ h. (h ≡ name_hash s.name.now) × (list_any (λ c. leb 0x80 c) s.name.now ≡ false) × (0 < t.counts.buckets)) → is_other_hash t k o ≡ true → (b : Bool) → is_named n s.name.now k ≡ b → b ≡ false

@@ -14,7 +14,7 @@ use Rattle.index_model.specs.NameIndexRead.{NameHit, entries_at, entries_of_name
 use Rattle.index_model.specs.NameTables.{Tables}
 use Rattle.index_model.specs.Strings.{offset_size}
 use Rattle.index_model.proofs.FirstFaults.{then_none, then_some}
-use Rattle.debugnames_read.specs.declared.names.Names.{Names}
+use Rattle.debugnames_read.specs.declared.names.IndexTables.{IndexTables}
 use Rattle.debugnames_read.specs.Names.{list_at, string_at, tables_of, up_to}
 use Rattle.string_ends.specs.declared.formula.Formula.TheVariants.{NameIndex}
 use Rattle.string_ends.specs.declared.hashed.Hashed.{Hashed}
@@ -221,7 +221,7 @@ module _ {B : Type 0} (f : ℕ → Result B Fault) where
   fault_from_none i n le = ap at_numbers (up_to_none i n le)
 
 -- what is known of the place where the string of a name begins is known of the string
-pub hashed_text : (n : Names) (k : ℕ) (h : Hashed) (text : List ℕ) → string_at (tables_of n) n.strings.now n.base k ≡ Some text → IsHashed NameIndex n.strings.now (nth (tables_of n).strings.numbers k - n.base) h → (h.hash ≡ name_hash text) × (h.is_beyond_ascii ≡ has_beyond_ascii text)
+pub hashed_text : (n : IndexTables) (k : ℕ) (h : Hashed) (text : List ℕ) → string_at (tables_of n) n.strings.now n.base k ≡ Some text → IsHashed NameIndex n.strings.now (nth (tables_of n).strings.numbers k - n.base) h → (h.hash ≡ name_hash text) × (h.is_beyond_ascii ≡ has_beyond_ascii text)
 hashed_text n k h text there known = elim (cases_lt (nth (tables_of n).strings.numbers k) n.base) as (λ _. (h.hash ≡ name_hash text) × (h.is_beyond_ascii ≡ has_beyond_ascii text)) [
   | inl lt ↦ let none : None ≡ Some text = sym (string_below (tables_of n) n.strings.now n.base k lt) ∙ there in absurd cc
   | inr le ↦

@@ -3,7 +3,7 @@ use Rattle.std.specs.Prelude.{◌≡◌, ℕ, ◌==◌, Bool, ◌&&◌, ◌||◌
 use Rattle.std.specs.Option.{is_none}
 use Rattle.ix_base.specs.Reading.{Input, ◌>>=◌}
 use Rattle.index_model.specs.NameAbbreviations.{Spec as SpecOf}
-use Rattle.debugnames_read.specs.declared.abbreviation.Spec.{Spec}
+use Rattle.debugnames_read.specs.declared.abbreviation.IndexSpec.{IndexSpec}
 use Rattle.debugnames_read.specs.Specs.{spec_seen}
 use Rattle.debugnames_read.specs.Values.{Kept, first_values, value_by, with_value}
 
@@ -21,5 +21,5 @@ abbrev pub is_wanted : Kept → ℕ → Bool
 is_wanted k attribute = attribute == 1 && is_none k.compile_unit || (attribute == 2 && is_none k.type_unit || attribute == 3 && is_none k.die_offset)
 
 -- these attributes have the first values of all
-abbrev pub AreCounting : List SpecOf → List Spec → Type 0
+abbrev pub AreCounting : List SpecOf → List IndexSpec → Type 0
 AreCounting all counting = (wide : Bool) (i : Input) → first_values wide (map spec_seen counting) i ≡ first_values wide all i

@@ -3,9 +3,9 @@ use Rattle.std.specs.Prelude.{IsOk, ℕ, ◌+◌, ◌≤◌, List, [], ◌++◌,
 use Rattle.ix_base.specs.Reading.{Input}
 use Rattle.index_model.specs.NameIndexRead.{NameHit, entries_at}
 use Rattle.index_model.specs.NameTables.{Tables}
-use Rattle.debugnames_read.specs.declared.buckets.Sought.{Sought}
+use Rattle.debugnames_read.specs.declared.buckets.AskedName.{AskedName}
 use Rattle.debugnames_read.specs.declared.hits.Left.{Left}
-use Rattle.debugnames_read.specs.declared.names.Names.{Names}
+use Rattle.debugnames_read.specs.declared.names.IndexTables.{IndexTables}
 use Rattle.debugnames_read.specs.Abbreviations.{abbreviations_in}
 use Rattle.debugnames_read.specs.Names.{hits_between, tables_of, IsHashOf, IsOpened}
 use Rattle.debugnames_read.specs.Results.{list_in}
@@ -21,16 +21,16 @@ IsList t None = Unit {0}
 IsList t (Some i) = IsOk (entries_at t (abbreviations_in t.abbreviations) (length i.rest + 1) i)
 
 -- the entries of the list, and those of the names behind it
-abbrev pub hits_left : Names → List ℕ → Left → List NameHit
+abbrev pub hits_left : IndexTables → List ℕ → Left → List NameHit
 hits_left n name l = entries_left (tables_of n) l.entries ++ hits_between n name l.names.from l.names.to
 
 -- what is left is of the index
-pub record IsLeft (n : Names) (l : Left) : Type 0 where
+pub record IsLeft (n : IndexTables) (l : Left) : Type 0 where
   pub list : IsList (tables_of n) l.entries
   pub names : l.names.to ≤ (tables_of n).counts.names
 
 -- a look-up in an index without a fault
-pub record IsLookUp (n : Names) (s : Sought) (l : Left) : Type 0 where
+pub record IsLookUp (n : IndexTables) (s : AskedName) (l : Left) : Type 0 where
   pub opened : IsOpened n
   pub hash : IsHashOf (tables_of n) s
   pub left : IsLeft n l

@@ -3,10 +3,10 @@ use Rattle.std.specs.Prelude.{IsOk, ◌+◌, Bool, ◌&&◌, ◌==◌, List, [],
 use Rattle.ix_base.specs.declared.fault.Fault.{Fault}
 use Rattle.ix_base.specs.Reading.{Input, uleb, ◌>>=◌}
 use Rattle.index_model.specs.NameAbbreviations.{Spec as SpecOf, specs_at}
-use Rattle.debugnames_read.specs.declared.abbreviation.Spec.{Spec}
+use Rattle.debugnames_read.specs.declared.abbreviation.IndexSpec.{IndexSpec}
 
 -- an attribute and its form
-abbrev pub spec_seen : Spec → SpecOf
+abbrev pub spec_seen : IndexSpec → SpecOf
 spec_seen s = record { attribute = s.attribute; form = s.form }
 
 -- the attribute and the form at the front

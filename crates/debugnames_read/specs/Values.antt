@@ -3,12 +3,12 @@ use Rattle.std.specs.Prelude.{ℕ, ◌==◌, Bool, if◌then◌else◌, List, fi
 use Rattle.std.specs.Option.{option_or}
 use Rattle.ix_base.specs.Reading.{Input, ◌>>=◌}
 use Rattle.index_model.specs.NameAbbreviations.{Attribute, Spec as SpecOf, forms, value_of, values}
-use Rattle.debugnames_read.specs.declared.form.Value.{Value}
-use Rattle.debugnames_read.specs.declared.form.Value.TheVariants as of
-use Rattle.debugnames_read.specs.declared.attributes.Attributes.{Attributes}
+use Rattle.debugnames_read.specs.declared.form.IndexValue.{IndexValue}
+use Rattle.debugnames_read.specs.declared.form.IndexValue.TheVariants as of
+use Rattle.debugnames_read.specs.declared.attributes.IndexAttributes.{IndexAttributes}
 
 -- a number, or none
-abbrev pub value_seen : Value → Option ℕ
+abbrev pub value_seen : IndexValue → Option ℕ
 value_seen (of.Number n) = Some n
 value_seen of.NotANumber = None
 
@@ -23,7 +23,7 @@ pub record Kept : Type 0 where
   pub die_offset : Option (Option ℕ)
 
 -- what was found
-abbrev pub kept_seen : Attributes → Kept
+abbrev pub kept_seen : IndexAttributes → Kept
 kept_seen a = record { compile_unit = option_map value_seen a.compile_unit; type_unit = option_map value_seen a.type_unit; die_offset = option_map value_seen a.die_offset }
 
 -- the first values of the attributes that count

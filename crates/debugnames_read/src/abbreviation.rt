@@ -14,7 +14,7 @@ use ix_base::{Cursor, Fault};
 
 /// An index attribute and its form.
 #[derive(Clone, Copy)]
-pub(crate) struct Spec {
+pub(crate) struct IndexSpec {
     pub attribute: u64,
     pub form: u64,
 }
@@ -28,16 +28,16 @@ pub(crate) struct Abbreviation<'a> {
     ghost read: { HasSpecs specs },
 }
 
-impl Spec {
+impl IndexSpec {
     /// The attribute and the form at the cursor.
     #[tactic(auto, unfolding(crate::specs::Specs::spec_at))]
-    pub fn read(cursor: &mut Cursor<'_>) -> Option<Spec>
+    pub fn read(cursor: &mut Cursor<'_>) -> Option<IndexSpec>
         ensures value { Reads spec_seen spec_at cursor.old cursor.new result }
         ensures place { MovesOn cursor.old cursor.new }
     {
         let attribute = cursor.uleb()?;
         let form = cursor.uleb()?;
-        Some(Spec { attribute, form })
+        Some(IndexSpec { attribute, form })
     }
 
     /// Whether it ends the attributes of an abbreviation.
@@ -109,7 +109,7 @@ fn pass_specs(wrong: Fault, cursor: &mut Cursor<'_>) -> Result<(), Fault>
 {
     // There are fewer attributes than bytes.
     'attributes: for _ in 0..cursor.rest().len() + 1 {
-        let Some(spec) = Spec::read(cursor) else {
+        let Some(spec) = IndexSpec::read(cursor) else {
             return Err(wrong);
         };
         if spec.is_last() {

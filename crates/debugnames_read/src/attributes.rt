@@ -7,33 +7,25 @@ ghost use Rattle.debugnames_read.specs.Specs.{spec_seen, specs_in, HasSpecs};
 ghost use Rattle.index_model.specs.NameIndexRead.{number_or_none};
 ghost use Rattle.debugnames_read.specs.Values.{first_values, kept_of, kept_seen, value_seen, with_value};
 
-use crate::abbreviation::Spec;
-use crate::form::{Value, read_value};
+use crate::abbreviation::IndexSpec;
+use crate::form::{IndexValue, read_value};
+use dwarf_codes::index_attribute::{DW_IDX_compile_unit, DW_IDX_die_offset, DW_IDX_type_unit};
 use ix_base::Cursor;
-
-/// The compile unit, by its place in its list.
-const COMPILE_UNIT: u64 = 1;
-
-/// The type unit, by its place among local and then foreign ones.
-const TYPE_UNIT: u64 = 2;
-
-/// The offset of the entry in its unit.
-const DIE_OFFSET: u64 = 3;
 
 /// The first value of each attribute that counts.
 #[derive(Clone, Copy)]
-pub(crate) struct Attributes {
-    pub compile_unit: Option<Value>,
-    pub type_unit: Option<Value>,
-    pub die_offset: Option<Value>,
+pub(crate) struct IndexAttributes {
+    pub compile_unit: Option<IndexValue>,
+    pub type_unit: Option<IndexValue>,
+    pub die_offset: Option<IndexValue>,
 }
 
-impl Attributes {
+impl IndexAttributes {
     /// None was read yet.
-    pub fn none() -> Attributes
+    pub fn none() -> IndexAttributes
         ensures { kept_seen result ≡ kept_of [] }
     {
-        Attributes {
+        IndexAttributes {
             compile_unit: None,
             type_unit: None,
             die_offset: None,
@@ -45,34 +37,38 @@ impl Attributes {
         ensures { result ≡ is_wanted (kept_seen self.now) attribute }
     {
         match attribute {
-            COMPILE_UNIT => self.compile_unit.is_none(),
-            TYPE_UNIT => self.type_unit.is_none(),
-            DIE_OFFSET => self.die_offset.is_none(),
+            DW_IDX_compile_unit => self.compile_unit.is_none(),
+            DW_IDX_type_unit => self.type_unit.is_none(),
+            DW_IDX_die_offset => self.die_offset.is_none(),
             _ => false,
         }
     }
 
     /// Keeps the value of an attribute, if it counts and has none yet.
-    pub fn keep(&mut self, attribute: u64, value: Value)
+    pub fn keep(&mut self, attribute: u64, value: IndexValue)
         ensures { kept_seen self.new ≡ with_value (kept_seen self.old) attribute (value_seen value) }
     {
         match attribute {
-            COMPILE_UNIT => self.compile_unit = self.compile_unit.or(Some(value)),
-            TYPE_UNIT => self.type_unit = self.type_unit.or(Some(value)),
-            DIE_OFFSET => self.die_offset = self.die_offset.or(Some(value)),
+            DW_IDX_compile_unit => self.compile_unit = self.compile_unit.or(Some(value)),
+            DW_IDX_type_unit => self.type_unit = self.type_unit.or(Some(value)),
+            DW_IDX_die_offset => self.die_offset = self.die_offset.or(Some(value)),
             _ => {}
         }
     }
 
     /// The values of attributes at the cursor, each in its form. Those that don't count are passed.
-    pub fn read(wide: bool, mut specs: Cursor<'_>, cursor: &mut Cursor<'_>) -> Option<Attributes>
+    pub fn read(
+        wide: bool,
+        mut specs: Cursor<'_>,
+        cursor: &mut Cursor<'_>,
+    ) -> Option<IndexAttributes>
         requires { HasSpecs specs }
         ensures value { Reads kept_seen (first_values wide (specs_in specs.entry)) cursor.old cursor.new result }
         ensures place { MovesOn cursor.old cursor.new }
     {
-        let mut found = Attributes::none();
+        let mut found = IndexAttributes::none();
         'attributes: for _ in 0..specs.rest().len() + 1 {
-            let spec = Spec::read(&mut specs)?;
+            let spec = IndexSpec::read(&mut specs)?;
             if spec.is_last() {
                 return Some(found);
             }
@@ -83,11 +79,15 @@ impl Attributes {
     }
 
     /// The same of attributes that were listed.
-    pub fn read_listed(wide: bool, specs: &[Spec], cursor: &mut Cursor<'_>) -> Option<Attributes>
+    pub fn read_listed(
+        wide: bool,
+        specs: &[IndexSpec],
+        cursor: &mut Cursor<'_>,
+    ) -> Option<IndexAttributes>
         ensures value { Reads kept_seen (first_values wide (map spec_seen specs.now)) cursor.old cursor.new result }
         ensures place { MovesOn cursor.old cursor.new }
     {
-        let mut found = Attributes::none();
+        let mut found = IndexAttributes::none();
         for listed in specs {
             let value = read_value(wide, listed.form, cursor)?;
             found.keep(listed.attribute, value);
@@ -97,12 +97,12 @@ impl Attributes {
 }
 
 /// The number that an attribute has, if it is there. None where its value isn't a number.
-pub(crate) fn number_in(value: Option<Value>) -> Option<Option<u64>>
+pub(crate) fn number_in(value: Option<IndexValue>) -> Option<Option<u64>>
     ensures { result ≡ number_or_none (option_map value_seen value) }
 {
     match value {
         None => Some(None),
-        Some(Value::Number(number)) => Some(Some(number)),
-        Some(Value::NotANumber) => None,
+        Some(IndexValue::Number(number)) => Some(Some(number)),
+        Some(IndexValue::NotANumber) => None,
     }
 }

@@ -7,19 +7,19 @@ ghost use Rattle.debugnames_read.specs.Names.{is_named, is_other_hash, tables_of
 ghost use Rattle.debugnames_read.specs.Tables.{tables_seen};
 
 use crate::hash::{is_beyond_ascii, name_hash};
-use crate::names::Names;
+use crate::names::IndexTables;
 use crate::tables::Tables;
 
 /// A name that is looked for, and its hash where the names are found by their hashes.
 #[derive(Clone, Copy)]
-pub(crate) struct Sought<'n> {
+pub(crate) struct AskedName<'n> {
     pub name: &'n [u8],
     pub hash: Option<u32>,
 }
 
 /// The numbers of names from one up to another, which isn't among them.
 #[derive(Clone, Copy)]
-pub(crate) struct Span {
+pub(crate) struct NameNumbers {
     pub from: usize,
     pub to: usize,
 }
@@ -82,23 +82,23 @@ impl<'a> Tables<'a> {
     }
 }
 
-impl<'a> Names<'a> {
+impl<'a> IndexTables<'a> {
     /// A name, with its hash where there are buckets and the name has no byte from 80 on.
-    pub fn sought<'n>(&self, name: &'n [u8]) -> Sought<'n>
+    pub fn sought<'n>(&self, name: &'n [u8]) -> AskedName<'n>
         ensures name { result.name.now ≡ name.now }
         ensures hash { IsHashOf (tables_of self.now) result }
     {
         if self.tables.counts.buckets == 0 || is_beyond_ascii(name) {
-            return Sought { name, hash: None };
+            return AskedName { name, hash: None };
         }
-        Sought {
+        AskedName {
             name,
             hash: Some(name_hash(name)),
         }
     }
 
     /// The names among which all are that have the name: those of its bucket, or else all.
-    pub fn span(&self, sought: &Sought<'_>) -> Span
+    pub fn span(&self, sought: &AskedName<'_>) -> NameNumbers
         requires opened { IsOpened self.now }
         requires hash { IsHashOf (tables_of self.now) sought.now }
         ensures within { result.from ≤ result.to × result.to ≤ (tables_of self.now).counts.names }
@@ -106,7 +106,7 @@ impl<'a> Names<'a> {
     {
         match sought.hash {
             Some(hash) => self.bucket_span(hash),
-            None => Span {
+            None => NameNumbers {
                 from: 0,
                 to: self.len(),
             },
@@ -114,7 +114,7 @@ impl<'a> Names<'a> {
     }
 
     // The names of the bucket of a hash.
-    fn bucket_span(&self, hash: u32) -> Span
+    fn bucket_span(&self, hash: u32) -> NameNumbers
         requires opened { IsOpened self.now }
         requires some { 0 < (tables_of self.now).counts.buckets }
         ensures within { result.from ≤ result.to × result.to ≤ (tables_of self.now).counts.names }
@@ -123,16 +123,16 @@ impl<'a> Names<'a> {
         let own = (hash % self.tables.counts.buckets) as usize;
         let begin = self.tables.buckets.get(own) as usize;
         if begin == 0 {
-            return Span { from: 0, to: 0 };
+            return NameNumbers { from: 0, to: 0 };
         }
-        Span {
+        NameNumbers {
             from: begin - 1,
             to: self.tables.end_of(own, begin - 1),
         }
     }
 
     // Whether a name is the one that is looked for. Its hash is compared first.
-    fn is_named(&self, number: usize, sought: &Sought<'_>) -> bool
+    fn is_named(&self, number: usize, sought: &AskedName<'_>) -> bool
         requires opened { IsOpened self.now }
         requires hash { IsHashOf (tables_of self.now) sought.now }
         requires within { number < (tables_of self.now).counts.names }
@@ -145,7 +145,7 @@ impl<'a> Names<'a> {
     }
 
     /// The first number of a span whose name is the one that is looked for.
-    pub fn first(&self, sought: &Sought<'_>, span: Span) -> Option<usize>
+    pub fn first(&self, sought: &AskedName<'_>, span: NameNumbers) -> Option<usize>
         requires opened { IsOpened self.now }
         requires hash { IsHashOf (tables_of self.now) sought.now }
         requires within { span.to ≤ (tables_of self.now).counts.names }

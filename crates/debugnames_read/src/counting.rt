@@ -8,9 +8,10 @@ ghost use Rattle.debugnames_read.specs.Counting.{AreCounting};
 ghost use Rattle.debugnames_read.specs.Specs.{specs_in, HasSpecs};
 ghost use Rattle.debugnames_read.specs.Values.{first_values, kept_seen};
 
-use crate::abbreviation::{Abbreviation, Spec};
-use crate::attributes::Attributes;
-use crate::form::{FLAG_PRESENT, Value};
+use crate::abbreviation::{Abbreviation, IndexSpec};
+use crate::attributes::IndexAttributes;
+use crate::form::IndexValue;
+use dwarf_codes::form::DW_FORM_flag_present;
 use ix_base::Cursor;
 use std::alloc::Global;
 
@@ -18,15 +19,15 @@ use std::alloc::Global;
 #[derive(Drop)]
 pub(crate) struct KnownAbbreviation<'a> {
     pub abbreviation: Abbreviation<'a>,
-    counting: Vec<Spec>,
+    counting: Vec<IndexSpec>,
     ghost counts: { AreCounting (specs_in abbreviation.specs) counting.items },
 }
 
 /// An abbreviation that was looked for, with the attributes that an entry has to read where they were listed.
 #[derive(Drop)]
-pub(crate) struct Found<'k, 'a> {
+pub(crate) struct FoundAbbreviation<'k, 'a> {
     pub abbreviation: Abbreviation<'a>,
-    counting: Option<&'k [Spec]>,
+    counting: Option<&'k [IndexSpec]>,
     ghost counts: { ForSome counting (λ list. AreCounting (specs_in abbreviation.specs) list.now) },
 }
 
@@ -43,60 +44,60 @@ impl<'a> KnownAbbreviation<'a> {
     }
 
     /// The same abbreviation again.
-    pub fn found(&self) -> Found<'_, 'a>
+    pub fn found(&self) -> FoundAbbreviation<'_, 'a>
         ensures { abbreviation_seen result.abbreviation ≡ abbreviation_seen self.now.abbreviation }
     {
-        Found {
+        FoundAbbreviation {
             abbreviation: self.abbreviation.again(),
             counting: Some(&self.counting),
         }
     }
 }
 
-impl<'k, 'a> Found<'k, 'a> {
+impl<'k, 'a> FoundAbbreviation<'k, 'a> {
     /// An abbreviation whose attributes weren't listed.
-    pub fn unlisted(abbreviation: Abbreviation<'a>) -> Found<'k, 'a>
+    pub fn unlisted(abbreviation: Abbreviation<'a>) -> FoundAbbreviation<'k, 'a>
         ensures { abbreviation_seen result.abbreviation ≡ abbreviation_seen abbreviation.entry }
     {
-        Found {
+        FoundAbbreviation {
             abbreviation,
             counting: None,
         }
     }
 
     /// The values of the attributes of an entry at the cursor.
-    pub fn read(&self, wide: bool, cursor: &mut Cursor<'_>) -> Option<Attributes>
+    pub fn read(&self, wide: bool, cursor: &mut Cursor<'_>) -> Option<IndexAttributes>
         ensures value { Reads kept_seen (first_values wide (specs_in self.now.abbreviation.specs)) cursor.old cursor.new result }
         ensures place { MovesOn cursor.old cursor.new }
     {
         match self.counting {
-            Some(list) => Attributes::read_listed(wide, list, cursor),
-            None => Attributes::read(wide, self.abbreviation.specs.copied(), cursor),
+            Some(list) => IndexAttributes::read_listed(wide, list, cursor),
+            None => IndexAttributes::read(wide, self.abbreviation.specs.copied(), cursor),
         }
     }
 }
 
 // The attributes of an abbreviation but for those that neither have bytes nor count. An entry that reads these alone costs no
 // more than its bytes, however many attributes its abbreviation has. None where no memory is left for them.
-fn counting(alloc: Global, mut specs: Cursor<'_>) -> Option<Vec<Spec>>
+fn counting(alloc: Global, mut specs: Cursor<'_>) -> Option<Vec<IndexSpec>>
     requires { HasSpecs specs }
     ensures { IfSome result (λ list. AreCounting (specs_in specs.entry) list.items) }
 {
     let mut list = Vec::new(alloc);
     // As an entry would fill it, whatever its values are.
-    let mut found = Attributes::none();
+    let mut found = IndexAttributes::none();
     'attributes: for _ in 0..specs.rest().len() + 1 {
-        let spec = Spec::read(&mut specs)?;
+        let spec = IndexSpec::read(&mut specs)?;
         if spec.is_last() {
             return Some(list);
         }
-        if spec.form == FLAG_PRESENT && !found.wants(spec.attribute) {
+        if spec.form == DW_FORM_flag_present && !found.wants(spec.attribute) {
             continue;
         }
         let Ok(()) = list.push(spec) else {
             return None;
         };
-        found.keep(spec.attribute, Value::NotANumber);
+        found.keep(spec.attribute, IndexValue::NotANumber);
     }
     None
 }

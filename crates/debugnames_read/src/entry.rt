@@ -10,9 +10,9 @@ ghost use Rattle.debugnames_read.specs.Names.{tables_of};
 ghost use Rattle.debugnames_read.specs.Tables.{tables_seen};
 ghost use Rattle.debugnames_read.specs.Values.{kept_seen};
 
-use crate::attributes::{Attributes, number_in};
+use crate::attributes::{IndexAttributes, number_in};
 use crate::header::fault;
-use crate::names::Names;
+use crate::names::IndexTables;
 use crate::tables::Tables;
 use index_model::index_code::NAMES_ENTRY_POOL;
 use ix_base::{Cursor, Fault};
@@ -41,7 +41,7 @@ pub struct NameHit {
     pub offset: u64,
 }
 
-impl<'a> Names<'a> {
+impl<'a> IndexTables<'a> {
     /// The entry at the cursor, None where the code 0 ends the entries, or the fault that it is cut, has an unknown code or
     /// doesn't say its unit and its offset.
     #[tactic(auto, unfolding(crate::specs::Entries::entry_at))]
@@ -73,7 +73,7 @@ impl<'a> Names<'a> {
 impl<'a> Tables<'a> {
     // What the attributes of an entry say.
     #[tactic(auto, unfolding(crate::specs::Entries::hit_by))]
-    fn hit(&self, tag: u64, attributes: &Attributes) -> Option<NameHit>
+    fn hit(&self, tag: u64, attributes: &IndexAttributes) -> Option<NameHit>
         ensures { option_map hit_seen result ≡ hit_by (tables_seen self.now) tag (kept_seen attributes.now) }
     {
         let compile = number_in(attributes.compile_unit)?;

@@ -6,7 +6,7 @@ ghost use Rattle.index_model.specs.NameIndexRead.{has_hash};
 ghost use Rattle.debugnames_read.specs.Hashed.{IsHashOfName};
 ghost use Rattle.debugnames_read.specs.Names.{string_at, tables_of};
 
-use crate::names::Names;
+use crate::names::IndexTables;
 use std::alloc::Global;
 use string_ends::{Formula, Hashed, hashes_of};
 
@@ -17,7 +17,7 @@ pub(crate) fn hash_at(hashes: &[Option<Hashed>], number: usize) -> Option<Hashed
     hashes.get(number).copied().unwrap_or(None)
 }
 
-impl Names<'_> {
+impl IndexTables<'_> {
     /// What is known of each name, of which some may be missing: all where names have no hashes or no memory is left.
     pub fn hashes(&self, alloc: Global) -> Vec<Option<Hashed>>
         ensures { (k : ℕ) → IsHashOfName self.now k (slice_index_or result.items k None) }

@@ -7,17 +7,17 @@ ghost use Rattle.debugnames_read.specs.Entries.{hit_seen};
 ghost use Rattle.debugnames_read.specs.Hits.{entries_left, hits_left, IsLeft, IsList};
 ghost use Rattle.debugnames_read.specs.Names.{index_seen, tables_of, IsHashOf, IsOpened};
 
-use crate::buckets::{Sought, Span};
+use crate::buckets::{AskedName, NameNumbers};
 use crate::entry::NameHit;
-use crate::names::Names;
+use crate::names::IndexTables;
 use ix_base::Cursor;
 use std::marker::Model;
 
 /// The entries of a name that are still to come, in the order of the table. Contracts see them as a list.
 #[derive(Drop)]
 pub struct NameHits<'i, 'a> {
-    names: &'i Names<'a>,
-    sought: Sought<'a>,
+    names: &'i IndexTables<'a>,
+    sought: AskedName<'a>,
     left: Left<'a>,
 }
 
@@ -25,7 +25,7 @@ pub struct NameHits<'i, 'a> {
 #[derive(Drop)]
 pub(crate) struct Left<'a> {
     entries: Option<Cursor<'a>>,
-    names: Span,
+    names: NameNumbers,
 }
 
 impl<'i, 'a> Model for NameHits<'i, 'a> {
@@ -43,7 +43,7 @@ impl<'i, 'a> Model for NameHits<'i, 'a> {
 
 impl<'i, 'a> NameHits<'i, 'a> {
     /// The entries of a name of an index without a fault.
-    pub(crate) fn of(names: &'i Names<'a>, name: &[u8]) -> NameHits<'i, 'a>
+    pub(crate) fn of(names: &'i IndexTables<'a>, name: &[u8]) -> NameHits<'i, 'a>
         requires { IsOpened names.now }
         ensures { result ≡ name_index_hits (index_seen names.now) name.now }
     {
@@ -56,13 +56,13 @@ impl<'i, 'a> NameHits<'i, 'a> {
         let Some(name) = names.string(first) else {
             return NameHits::none(names);
         };
-        let sought = Sought {
+        let sought = AskedName {
             name,
             hash: asked.hash,
         };
         let left = Left {
             entries: names.tables.entries_of(first),
-            names: Span {
+            names: NameNumbers {
                 from: first + 1,
                 to: span.to,
             },
@@ -75,19 +75,19 @@ impl<'i, 'a> NameHits<'i, 'a> {
     }
 
     // No entries.
-    fn none(names: &'i Names<'a>) -> NameHits<'i, 'a>
+    fn none(names: &'i IndexTables<'a>) -> NameHits<'i, 'a>
         requires { IsOpened names.now }
         ensures { result ≡ [] }
     {
         NameHits {
             names,
-            sought: Sought {
+            sought: AskedName {
                 name: &[],
                 hash: None,
             },
             left: Left {
                 entries: None,
-                names: Span { from: 0, to: 0 },
+                names: NameNumbers { from: 0, to: 0 },
             },
         }
     }
@@ -105,9 +105,9 @@ impl<'i, 'a> Iterator for NameHits<'i, 'a> {
     }
 }
 
-impl<'a> Names<'a> {
+impl<'a> IndexTables<'a> {
     // The next entry of what is left.
-    fn next_hit(&self, sought: &Sought<'a>, left: &mut Left<'a>) -> Option<NameHit>
+    fn next_hit(&self, sought: &AskedName<'a>, left: &mut Left<'a>) -> Option<NameHit>
         requires opened { IsOpened self.now }
         requires hash { IsHashOf (tables_of self.now) sought.now }
         requires left { IsLeft self.now left.old }

@@ -9,8 +9,8 @@ ghost use Rattle.debugnames_read.specs.Tables.{tables_seen};
 
 use crate::header::fault;
 use crate::hits::NameHits;
-use crate::known::Known;
-use crate::names::Names;
+use crate::known::AbbreviationsByCode;
+use crate::names::IndexTables;
 use crate::tables::Tables;
 use index_model::index_code::NAMES_BUCKET;
 use ix_base::Fault;
@@ -20,7 +20,7 @@ use std::marker::Model;
 /// A `.debug_names` without a fault, and the strings of its names. It borrows the bytes, and contracts see what they mean.
 #[derive(Drop)]
 pub struct NameIndex<'a> {
-    names: Names<'a>,
+    names: IndexTables<'a>,
 }
 
 impl<'a> Model for NameIndex<'a> {
@@ -54,9 +54,9 @@ impl<'a> NameIndex<'a> {
         ensures { GivesAlways (λ i. i) result (name_index names.now strings.now base) }
     {
         let tables = Tables::open(names)?;
-        let known = Known::read(alloc, &tables.abbreviations)?;
+        let known = AbbreviationsByCode::read(alloc, &tables.abbreviations)?;
         check_buckets(&tables)?;
-        let names = Names {
+        let names = IndexTables {
             tables,
             known,
             strings,

@@ -7,7 +7,7 @@ ghost use Rattle.debugnames_read.specs.Abbreviations.{abbreviation_seen, abbrevi
 ghost use Rattle.debugnames_read.specs.Known.{first_with, found_seen, IsKnown};
 
 use crate::abbreviation::Abbreviation;
-use crate::counting::{Found, KnownAbbreviation};
+use crate::counting::{FoundAbbreviation, KnownAbbreviation};
 use crate::header::fault;
 use index_model::index_code::NAMES_ABBREVIATION;
 use ix_base::{Cursor, Fault};
@@ -17,17 +17,17 @@ use std::collections::BTreeMap;
 /// The abbreviations of an index by their codes, of several with one code the first. Where no memory was left to hold them
 /// there are none, and each is looked for in its area.
 #[derive(Drop)]
-pub(crate) struct Known<'a> {
+pub(crate) struct AbbreviationsByCode<'a> {
     by_code: Option<BTreeMap<u64, KnownAbbreviation<'a>>>,
 }
 
-impl<'a> Known<'a> {
+impl<'a> AbbreviationsByCode<'a> {
     /// The abbreviations of an area, or their first fault.
-    pub fn read(alloc: Global, area: &Cursor<'a>) -> Result<Known<'a>, Fault>
+    pub fn read(alloc: Global, area: &Cursor<'a>) -> Result<AbbreviationsByCode<'a>, Fault>
         ensures fault { wrong_in result ≡ wrong_in (abbreviations area.now) }
         ensures known { IfOk result (λ k. IsKnown [] (abbreviations_in area.now) k) }
     {
-        let mut known = Known {
+        let mut known = AbbreviationsByCode {
             by_code: Some(BTreeMap::new(alloc)),
         };
         let mut cursor = area.copied();
@@ -62,14 +62,14 @@ impl<'a> Known<'a> {
     }
 
     /// The first abbreviation of the area with a code.
-    pub fn find(&self, area: &Cursor<'a>, code: u64) -> Option<Found<'_, 'a>>
+    pub fn find(&self, area: &Cursor<'a>, code: u64) -> Option<FoundAbbreviation<'_, 'a>>
         requires right { IsOk (abbreviations area.now) }
         requires known { IsKnown [] (abbreviations_in area.now) self.now }
         ensures { option_map found_seen result ≡ first_with code (abbreviations_in area.now) }
     {
         match &self.by_code {
             Some(by_code) => Some(by_code.get(&code)?.found()),
-            None => Some(Found::unlisted(Abbreviation::find(area, code)?)),
+            None => Some(FoundAbbreviation::unlisted(Abbreviation::find(area, code)?)),
         }
     }
 }

@@ -16,7 +16,7 @@ use crate::checked::Checked;
 use crate::hash::{is_beyond_ascii, name_hash};
 use crate::hashes::hash_at;
 use crate::header::fault;
-use crate::known::Known;
+use crate::known::AbbreviationsByCode;
 use crate::tables::Tables;
 use index_model::index_code::{NAMES_BUCKET, NAMES_ENTRY_POOL, NAMES_HASH, NAMES_STRING_OFFSET};
 use ix_base::{Cursor, Fault};
@@ -25,10 +25,10 @@ use string_ends::{Hashed, is_text, last_end, text_at};
 
 /// The tables of an index, and the strings of its names. The abbreviations have no fault.
 #[derive(Drop)]
-pub(crate) struct Names<'a> {
+pub(crate) struct IndexTables<'a> {
     pub tables: Tables<'a>,
     /// The abbreviations of the tables.
-    pub known: Known<'a>,
+    pub known: AbbreviationsByCode<'a>,
     /// The string section from `base` on.
     pub strings: &'a [u8],
     pub base: u64,
@@ -36,7 +36,7 @@ pub(crate) struct Names<'a> {
     ghost known_all: { IsKnown [] (abbreviations_in (tables_seen tables).abbreviations) known },
 }
 
-impl<'a> Names<'a> {
+impl<'a> IndexTables<'a> {
     ghost use Rattle.debugnames_read.specs.Hashed.{IsHashOfName};
     ghost use Rattle.debugnames_read.specs.Names.{string_at, tables_of, IsRight};
 

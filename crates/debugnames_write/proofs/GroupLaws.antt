@@ -8,8 +8,8 @@ use Rattle.index_model.specs.NameIndex.{Indexed}
 use Rattle.index_model.specs.Ordered.{ascending, bytes_lt}
 use Rattle.query_engine.specs.Pairs.{ComesBefore}
 use Rattle.query_engine.proofs.TextOrder.{eq_from_same, eq_from_other, before_itself, before_trans, before_or_same, filter_piece}
-use Rattle.debugnames_write.specs.declared.groups.Group.{Group}
-use Rattle.debugnames_write.specs.declared.item.Item.{Item}
+use Rattle.debugnames_write.specs.declared.groups.NameEntries.{NameEntries}
+use Rattle.debugnames_write.specs.declared.item.IndexEntry.{IndexEntry}
 use Rattle.debugnames_write.specs.Groups.{item_names, name_at, AreSorted, GoesOnAt, IsGroupOf, AreGroupsOf, group_names, entries_named}
 use Rattle.index_model.specs.Order.{Rises}
 use Rattle.debugnames_write.specs.Seen.{item_seen, items_seen}
@@ -18,11 +18,11 @@ use Rattle.index_model.proofs.Orders.{bytes_order, rises_from_pairs, ascending_i
 use Rattle.debugnames_write.proofs.Orders.{lt_from_before}
 
 -- the name of a group
-abbrev pub group_at : List Group → ℕ → List ℕ
+abbrev pub group_at : List NameEntries → ℕ → List ℕ
 group_at gs k = get_or (group_names gs) k []
 
 -- the groups of the entries below start, and from start on to i a name that goes on
-pub record AreGroupsTo (items : List Item) (gs : List Group) (start i : ℕ) : Type 0 where
+pub record AreGroupsTo (items : List IndexEntry) (gs : List NameEntries) (start i : ℕ) : Type 0 where
   pub upto : start ≤ i
   pub goes_on : start < i → i < length items
   pub same : (j : ℕ) → start ≤ j → j ≤ i → j < length items → name_at items j ≡ name_at items start
@@ -32,7 +32,7 @@ pub record AreGroupsTo (items : List Item) (gs : List Group) (start i : ℕ) : T
   pub below : (k y : ℕ) → k < length gs → start ≤ y → y < length items → ComesBefore (group_at gs k) (name_at items y)
   pub all : (y : ℕ) → y < start → (k : ℕ) × (k < length gs) × (group_at gs k ≡ name_at items y)
 
-pub groups_none : (items : List Item) → AreGroupsTo items [] 0 0
+pub groups_none : (items : List IndexEntry) → AreGroupsTo items [] 0 0
 groups_none items = record {
   upto = omega arith;
   goes_on = λ lt. absurd (omega arith);
@@ -44,7 +44,7 @@ groups_none items = record {
   all = λ y lt. absurd (omega arith);
 }
 
-pub groups_on : (items : List Item) (gs : List Group) (start i : ℕ) → AreGroupsTo items gs start i → GoesOnAt items (i + 1) → AreGroupsTo items gs start (i + 1)
+pub groups_on : (items : List IndexEntry) (gs : List NameEntries) (start i : ℕ) → AreGroupsTo items gs start i → GoesOnAt items (i + 1) → AreGroupsTo items gs start (i + 1)
 groups_on items gs start i h on = record {
   upto = omega (arith, h.upto);
   goes_on = λ _. on.within;
@@ -64,7 +64,7 @@ groups_on items gs start i h on = record {
 
 -- ---- a new group
 
-seen_name : (items : List Item) (k : ℕ) (d : Indexed) → k < length items → (get_or (items_seen items) k d).name ≡ name_at items k
+seen_name : (items : List IndexEntry) (k : ℕ) (d : Indexed) → k < length items → (get_or (items_seen items) k d).name ≡ name_at items k
 seen_name [] k d lt = absurd (omega arith)
 seen_name (x ∷ xs) zero d lt = refl
 seen_name (x ∷ xs) (suc k) d lt = seen_name xs k d (omega arith)
@@ -72,7 +72,7 @@ seen_name (x ∷ xs) (suc k) d lt = seen_name xs k d (omega arith)
 abbrev no_entry : Indexed
 no_entry = record { name = []; tag = 0; types = false; unit = 0; offset = 0 }
 
-module _ (items : List Item) (gs : List Group) (start i : ℕ) (sorted : AreSorted items) (within : i < length items) (h : AreGroupsTo items gs start i) (ends : GoesOnAt items (i + 1) → ⊥) where
+module _ (items : List IndexEntry) (gs : List NameEntries) (start i : ℕ) (sorted : AreSorted items) (within : i < length items) (h : AreGroupsTo items gs start i) (ends : GoesOnAt items (i + 1) → ⊥) where
   -- a later name comes behind
   behind : (y : ℕ) → i + 1 ≤ y → y < length items → ComesBefore (name_at items start) (name_at items y)
   behind y from lt =
@@ -113,7 +113,7 @@ module _ (items : List Item) (gs : List Group) (start i : ℕ) (sorted : AreSort
       (λ k from to. own_name k (omega arith) (h.same k from (omega arith) (omega arith)))
       (λ k from to. other_name k (omega (arith, size)) (λ same. before_itself (name_at items start) (rw same at (behind k (omega arith) (omega (arith, size))))))
 
-  module _ (g : Group) (named : g.name.now ≡ name_at items i) (has_items : g.items.now ≡ take ((i + 1) - start) (drop start items)) where
+  module _ (g : NameEntries) (named : g.name.now ≡ name_at items i) (has_items : g.items.now ≡ take ((i + 1) - start) (drop start items)) where
     starts : g.name.now ≡ name_at items start
     starts = named ∙ h.same i h.upto (omega arith) within
 
@@ -124,10 +124,10 @@ module _ (items : List Item) (gs : List Group) (start i : ℕ) (sorted : AreSort
         ap items_seen has_items ∙ cut ∙ sym piece ∙ ap (λ (w : List ℕ). entries_named w (items_seen items)) (sym starts)
 
     names_push : group_names (gs ++ g ∷ []) ≡ group_names gs ++ g.name.now ∷ []
-    names_push = map-append (λ (g : Group). g.name.now) gs (g ∷ [])
+    names_push = map-append (λ (g : NameEntries). g.name.now) gs (g ∷ [])
 
     long : length (group_names gs) ≡ length gs
-    long = length-map gs (λ (g : Group). g.name.now)
+    long = length-map gs (λ (g : NameEntries). g.name.now)
 
     old_at : (k : ℕ) → k < length gs → group_at (gs ++ g ∷ []) k ≡ group_at gs k
     old_at k lt = ap (λ (w : List (List ℕ)). get_or w k []) names_push ∙ get_or_append_left (group_names gs) (g.name.now ∷ []) [] k (omega (arith, long))
@@ -163,7 +163,7 @@ module _ (items : List Item) (gs : List Group) (start i : ℕ) (sorted : AreSort
 
 -- ---- all groups
 
-module _ (items : List Item) (gs : List Group) (start i : ℕ) (end : length items ≤ i) (h : AreGroupsTo items gs start i) where
+module _ (items : List IndexEntry) (gs : List NameEntries) (start i : ℕ) (end : length items ≤ i) (h : AreGroupsTo items gs start i) where
   whole : length items ≤ start
   whole = elim (cases_lt start i) [
     | inl low ↦ absurd (omega (arith, h.goes_on low))
@@ -171,10 +171,10 @@ module _ (items : List Item) (gs : List Group) (start i : ℕ) (end : length ite
   ]
 
   names_long : length (group_names gs) ≡ length gs
-  names_long = length-map gs (λ (g : Group). g.name.now)
+  names_long = length-map gs (λ (g : NameEntries). g.name.now)
 
   items_long : length (item_names items) ≡ length items
-  items_long = length-map items (λ (i : Item). i.name.now)
+  items_long = length-map items (λ (i : IndexEntry). i.name.now)
 
   entry_names : map (λ e. e.name) (items_seen items) ≡ item_names items
   entry_names = map-map (λ (e : Indexed). e.name) item_seen items

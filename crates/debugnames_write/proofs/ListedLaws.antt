@@ -23,7 +23,7 @@ use Rattle.query_engine.proofs.OrderLaws.{flat_push}
 use Rattle.query_engine.proofs.PlacedEntries.{entries_at_places, places_within}
 use Rattle.query_engine.proofs.RankLaws.{same_index}
 use Rattle.query_engine.proofs.TextOrder.{same_from_eq, eq_from_same, eq_from_other, before_itself, before_trans}
-use Rattle.debugnames_write.specs.declared.item.Item.{Item}
+use Rattle.debugnames_write.specs.declared.item.IndexEntry.{IndexEntry}
 use Rattle.debugnames_write.specs.Groups.{AreSorted, SameByName, entries_named, item_names}
 use Rattle.debugnames_write.specs.Seen.{item_seen, items_seen}
 use Rattle.debugnames_write.proofs.Lists.{map-map}
@@ -245,7 +245,7 @@ module _ (all : List Indexed) (ts : List (List ℕ)) (up : Ascend ts) where
 
 -- ---- all of it
 
-module _ (units : List UnitHeader) (es : List Entry) (order : List ℕ) (h : AreByText ByListed es order) (items : List Item) (made : items_seen items ≡ all_indexed units (entries_at es order)) where
+module _ (units : List UnitHeader) (es : List Entry) (order : List ℕ) (h : AreByText ByListed es order) (items : List IndexEntry) (made : items_seen items ≡ all_indexed units (entries_at es order)) where
   abbrev entries : List Indexed
   entries = all_indexed units es
 
@@ -273,7 +273,7 @@ module _ (units : List UnitHeader) (es : List Entry) (order : List ℕ) (h : Are
   sorted_listed =
       let names : map (λ (e : Indexed). e.name) (first entries h.texts h.ascending (length h.texts)) ≡ item_names items = ap (map (λ (e : Indexed). e.name)) (sym in_order) ∙ map-map (λ (e : Indexed). e.name) item_seen items in
       let up = (subst (Grows entries h.texts h.ascending (length h.texts)) names (grown entries h.texts h.ascending (length h.texts) (omega arith))).rising in
-      λ i j le lt. up i j le (omega (arith, length-map items (λ (x : Item). x.name.now)))
+      λ i j le lt. up i j le (omega (arith, length-map items (λ (x : IndexEntry). x.name.now)))
 
 -- ---- rows
 
@@ -315,10 +315,10 @@ same_rows es fs same = ascending_is row_lt row_order (map row_of es) (rows_of fs
 
 -- ---- entries as items
 
-abbrev item_from : Indexed → Item
+abbrev item_from : Indexed → IndexEntry
 item_from e = record { name = record { ref_ptr = (0, 0); now = e.name }; row = record { tag = e.tag; types = e.types }; unit = e.unit; offset = e.offset }
 
-abbrev pub items_from : List Indexed → List Item
+abbrev pub items_from : List Indexed → List IndexEntry
 items_from = map item_from
 
 pub items_from_seen : (es : List Indexed) → items_seen (items_from es) ≡ es

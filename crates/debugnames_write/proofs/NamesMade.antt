@@ -5,7 +5,7 @@ use Rattle.std.proofs.lemmas.List.{get_or-map, length-map, map_push, map_more}
 use Rattle.index_model.specs.Hashes.{name_hash}
 use Rattle.index_model.specs.Layout.{ended}
 use Rattle.index_model.specs.Ordered.{bytes_lt}
-use Rattle.debugnames_write.specs.declared.groups.Group.{Group}
+use Rattle.debugnames_write.specs.declared.groups.NameEntries.{NameEntries}
 use Rattle.debugnames_write.specs.declared.name.Name.{Name}
 use Rattle.debugnames_write.specs.Groups.{group_names}
 use Rattle.debugnames_write.specs.Names.{kept_of_name, kept_of_group, IsNameOf}
@@ -13,15 +13,15 @@ use Rattle.index_model.specs.Order.{Rises}
 use Rattle.debugnames_write.proofs.NameLaws.{string_is}
 use Rattle.debugnames_write.proofs.PoolLaws.{flat_map_at, flat_map_up}
 
-module _ (gs : List Group) (k : ℕ) (d : Group) (lt : k < length gs) where
+module _ (gs : List NameEntries) (k : ℕ) (d : NameEntries) (lt : k < length gs) where
   abbrev name : List ℕ
   name = (get_or gs k d).name.now
 
   many : length (group_names gs) ≡ length gs
-  many = length-map gs (λ (g : Group). g.name.now)
+  many = length-map gs (λ (g : NameEntries). g.name.now)
 
   own : (get_or gs k d).name.now ≡ get_or (group_names gs) k (get_or gs k d).name.now
-  own = sym (get_or-map (λ (g : Group). g.name.now) gs k d (get_or gs k d).name.now lt)
+  own = sym (get_or-map (λ (g : NameEntries). g.name.now) gs k d (get_or gs k d).name.now lt)
 
   within : k < length (group_names gs)
   within = omega (arith, many)

@@ -9,7 +9,7 @@ use Rattle.common_laws.proofs.Appended.{flat_map-map}
 use Rattle.index_model.specs.Layout.{below, u32_bytes, ended, start_of}
 use Rattle.index_model.specs.NameIndex.{Row as IndexRow, uleb_bytes, entry_bytes, row_eq}
 use Rattle.index_model.specs.Ordered.{place_of}
-use Rattle.debugnames_write.specs.declared.item.Item.{Item}
+use Rattle.debugnames_write.specs.declared.item.IndexEntry.{IndexEntry}
 use Rattle.debugnames_write.specs.declared.name.Name.{Name}
 use Rattle.debugnames_write.specs.declared.pool.PoolPlaces.{PoolPlaces}
 use Rattle.debugnames_write.specs.Laid.{entries_bytes, groups_bytes, pool_bytes}
@@ -34,18 +34,18 @@ flat_map_up f xs i x lt is = let h = length-flat_map-take f xs i x lt in rw (←
 
 -- ---- entries
 
-abbrev pub item_bytes : List IndexRow → Item → List ℕ
+abbrev pub item_bytes : List IndexRow → IndexEntry → List ℕ
 item_bytes rows i = entry_bytes rows (item_seen i)
 
-pub item_size : (rows : List IndexRow) (i : Item) → length (item_bytes rows i) ≡ length (uleb_bytes (place_of row_eq (row_seen i.row) rows + 1)) + length (uleb_bytes i.unit) + 4
+pub item_size : (rows : List IndexRow) (i : IndexEntry) → length (item_bytes rows i) ≡ length (uleb_bytes (place_of row_eq (row_seen i.row) rows + 1)) + length (uleb_bytes i.unit) + 4
 item_size rows i =
     let code : List ℕ = uleb_bytes (place_of row_eq (row_seen i.row) rows + 1) in
     length-append (code ++ uleb_bytes i.unit) (u32_bytes i.offset) ∙ ap (λ (n : ℕ). n + 4) (length-append code (uleb_bytes i.unit))
 
-pub entries_are : (rows : List IndexRow) (items : List Item) → entries_bytes rows items ≡ flat_map (item_bytes rows) items ++ 0 ∷ []
+pub entries_are : (rows : List IndexRow) (items : List IndexEntry) → entries_bytes rows items ≡ flat_map (item_bytes rows) items ++ 0 ∷ []
 entries_are rows items = ap ended (flat_map-map (entry_bytes rows) item_seen items)
 
-pub entries_size : (rows : List IndexRow) (items : List Item) → length (entries_bytes rows items) ≡ length (flat_map (item_bytes rows) items) + 1
+pub entries_size : (rows : List IndexRow) (items : List IndexEntry) → length (entries_bytes rows items) ≡ length (flat_map (item_bytes rows) items) + 1
 entries_size rows items = ap (λ (w : List ℕ). length w) (entries_are rows items) ∙ length-append (flat_map (item_bytes rows) items) (0 ∷ [])
 
 -- ---- groups
@@ -61,7 +61,7 @@ pool_start rows names k = start_is (name_bytes rows) names k
 
 -- ---- the loops
 
-module _ (rows : List IndexRow) (items : List Item) (i : ℕ) (d : Item) (lt : i < length items) where
+module _ (rows : List IndexRow) (items : List IndexEntry) (i : ℕ) (d : IndexEntry) (lt : i < length items) where
   is_item : get_or items i d ≡ get_or items i (get_or items i d)
   is_item = get_or_default items i d (get_or items i d) lt
 
@@ -73,14 +73,14 @@ module _ (rows : List IndexRow) (items : List Item) (i : ℕ) (d : Item) (lt : i
       let up = flat_map_up (item_bytes rows) items i (get_or items i d) lt is_item in
       omega (arith, up, item_size rows (get_or items i d), entries_size rows items)
 
-pub group_whole : (rows : List IndexRow) (items : List Item) (i size : ℕ) → length items ≤ i → size ≡ length (flat_map (item_bytes rows) (take i items)) + 1 → size ≡ length (entries_bytes rows items)
+pub group_whole : (rows : List IndexRow) (items : List IndexEntry) (i size : ℕ) → length items ≤ i → size ≡ length (flat_map (item_bytes rows) (take i items)) + 1 → size ≡ length (entries_bytes rows items)
 group_whole rows items i size le is =
-    let whole : length (flat_map (item_bytes rows) (take i items)) ≡ length (flat_map (item_bytes rows) items) = ap (λ (w : List Item). length (flat_map (item_bytes rows) w)) (take_all i items le) in
+    let whole : length (flat_map (item_bytes rows) (take i items)) ≡ length (flat_map (item_bytes rows) items) = ap (λ (w : List IndexEntry). length (flat_map (item_bytes rows) w)) (take_all i items le) in
     omega (arith, entries_size rows items)
 
-pub group_pushed : (rows : List IndexRow) (items : List Item) (i : ℕ) (old out new : List ℕ) → length items ≤ i → out ≡ old ++ flat_map (item_bytes rows) (take i items) → new ≡ out ++ 0 ∷ [] → new ≡ old ++ entries_bytes rows items
+pub group_pushed : (rows : List IndexRow) (items : List IndexEntry) (i : ℕ) (old out new : List ℕ) → length items ≤ i → out ≡ old ++ flat_map (item_bytes rows) (take i items) → new ≡ out ++ 0 ∷ [] → new ≡ old ++ entries_bytes rows items
 group_pushed rows items i old out new le is pushed =
-    pushed ∙ ap (λ (w : List ℕ). w ++ 0 ∷ []) (is ∙ ap (λ (w : List Item). old ++ flat_map (item_bytes rows) w) (take_all i items le))
+    pushed ∙ ap (λ (w : List ℕ). w ++ 0 ∷ []) (is ∙ ap (λ (w : List IndexEntry). old ++ flat_map (item_bytes rows) w) (take_all i items le))
     ∙ append_assoc old (flat_map (item_bytes rows) items) (0 ∷ []) ∙ ap (λ (w : List ℕ). old ++ w) (sym (entries_are rows items))
 
 pub pool_pushed : (rows : List IndexRow) (names : List Name) (i : ℕ) (old out : List ℕ) → length names ≤ i → out ≡ old ++ flat_map (name_bytes rows) (take i names) → out ≡ old ++ pool_bytes rows names

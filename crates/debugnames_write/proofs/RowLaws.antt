@@ -8,7 +8,7 @@ use Rattle.std.proofs.lemmas.List.{get_or-map, length-map, length-take-le, map-a
 use Rattle.std.proofs.lemmas.List.Elements.{Contains-push, Contains-push_cases, Contains-append_left}
 use Rattle.index_model.specs.NameIndex.{Row as IndexRow, row_lt, row_eq, rows_of, row_of}
 use Rattle.index_model.specs.Ordered.{with_item, ascending, place_of}
-use Rattle.debugnames_write.specs.declared.item.Item.{Item}
+use Rattle.debugnames_write.specs.declared.item.IndexEntry.{IndexEntry}
 use Rattle.debugnames_write.specs.declared.item.Row.{Row}
 use Rattle.index_model.specs.Order.{Rises, Adds}
 use Rattle.debugnames_write.specs.Rows.{row_seen}
@@ -130,11 +130,11 @@ row_parts rows row rises i j d le lt e = elim (cases_lt i j) [
 
 -- ---- the rows of entries
 
-abbrev row_in : Item → IndexRow
+abbrev row_in : IndexEntry → IndexRow
 row_in i = row_seen i.row
 
 -- the rows are those of these entries
-pub record AreRowsOf (items : List Item) (rows : List Row) : Type 0 where
+pub record AreRowsOf (items : List IndexEntry) (rows : List Row) : Type 0 where
   pub rises : Rises row_lt (map row_seen rows)
   pub has : (r : IndexRow) → Contains (map row_in items) r → Contains (map row_seen rows) r
   pub only : (r : IndexRow) → Contains (map row_seen rows) r → Contains (map row_in items) r
@@ -142,7 +142,7 @@ pub record AreRowsOf (items : List Item) (rows : List Row) : Type 0 where
 pub rows_none : AreRowsOf [] []
 rows_none = record { rises = tt; has = λ r c. c; only = λ r c. c }
 
-pub rows_more : (items : List Item) (i : ℕ) (x : Item) (rows new : List Row) → i < length items → x ≡ get_or items i x → AreRowsOf (take i items) rows → Rises row_lt (map row_seen new) → Adds (row_seen x.row) (map row_seen rows) (map row_seen new) → AreRowsOf (take (i + 1) items) new
+pub rows_more : (items : List IndexEntry) (i : ℕ) (x : IndexEntry) (rows new : List Row) → i < length items → x ≡ get_or items i x → AreRowsOf (take i items) rows → Rises row_lt (map row_seen new) → Adds (row_seen x.row) (map row_seen rows) (map row_seen new) → AreRowsOf (take (i + 1) items) new
 rows_more items i x rows new lt is h rises adds =
     let front : take (i + 1) items ≡ take i items ++ x ∷ [] = rw (take_more items i x lt, ← is) refl in
     let pushed : map row_in (take (i + 1) items) ≡ map row_in (take i items) ++ row_in x ∷ [] = ap (map row_in) front ∙ map-append row_in (take i items) (x ∷ []) in
@@ -158,16 +158,16 @@ rows_more items i x rows new lt is h rises adds =
       ]);
     }
 
-pub rows_all : (items : List Item) (i : ℕ) (rows : List Row) → length items ≤ i → AreRowsOf (take i items) rows → map row_seen rows ≡ rows_of (items_seen items)
+pub rows_all : (items : List IndexEntry) (i : ℕ) (rows : List Row) → length items ≤ i → AreRowsOf (take i items) rows → map row_seen rows ≡ rows_of (items_seen items)
 rows_all items i rows le h =
     let whole : take i items ≡ items = take_all i items le in
     let named : map row_of (items_seen items) ≡ map row_in items = map-map row_of item_seen items in
     sym (ap (ascending row_lt) named ∙ ascending_is row_lt row_order (map row_in items) (map row_seen rows) h.rises
-    (λ r c. h.has r (subst (λ (w : List Item). Contains (map row_in w) r) (sym whole) c))
-    (λ r c. subst (λ (w : List Item). Contains (map row_in w) r) whole (h.only r c)))
+    (λ r c. h.has r (subst (λ (w : List IndexEntry). Contains (map row_in w) r) (sym whole) c))
+    (λ r c. subst (λ (w : List IndexEntry). Contains (map row_in w) r) whole (h.only r c)))
 
 -- the same with the entry as it is read
-pub rows_next : (items : List Item) (i : ℕ) (d : Item) (rows new : List Row) → i < length items → AreRowsOf (take i items) rows → Rises row_lt (map row_seen new) → Adds (row_seen (get_or items i d).row) (map row_seen rows) (map row_seen new) → AreRowsOf (take (i + 1) items) new
+pub rows_next : (items : List IndexEntry) (i : ℕ) (d : IndexEntry) (rows new : List Row) → i < length items → AreRowsOf (take i items) rows → Rises row_lt (map row_seen new) → Adds (row_seen (get_or items i d).row) (map row_seen rows) (map row_seen new) → AreRowsOf (take (i + 1) items) new
 rows_next items i d rows new lt h rises adds = rows_more items i (get_or items i d) rows new lt (get_or_default items i d (get_or items i d) lt) h rises adds
 
 -- ---- a row that isn't at its place

@@ -5,17 +5,17 @@ use Rattle.std.specs.Prelude.{bytes_eq}
 use Rattle.std.specs.Bool.{MatchBool}
 use Rattle.std.proofs.lemmas.List.{get_or-map}
 use Rattle.query_engine.proofs.TextOrder.{same_from_eq, eq_from_same}
-use Rattle.debugnames_write.specs.declared.item.Item.{Item}
+use Rattle.debugnames_write.specs.declared.item.IndexEntry.{IndexEntry}
 use Rattle.debugnames_write.specs.Groups.{GoesOnAt, name_at}
 
-abbrev name_of : Item → List ℕ
+abbrev name_of : IndexEntry → List ℕ
 name_of i = i.name.now
 
-pub name_of_item : (items : List Item) (k : ℕ) (d : Item) → k < length items → name_at items k ≡ name_of (get_or items k d)
+pub name_of_item : (items : List IndexEntry) (k : ℕ) (d : IndexEntry) → k < length items → name_at items k ≡ name_of (get_or items k d)
 name_of_item items k d lt = get_or-map name_of items k d [] lt
 
 -- two neighbours
-pub goes_on : (items : List Item) (i : ℕ) (d : Item) → 0 < i → i < length items → (b : Bool) → b ≡ bytes_eq (get_or items i d).name.now (get_or items (i - 1) d).name.now → MatchBool b (GoesOnAt items i) (GoesOnAt items i → ⊥)
+pub goes_on : (items : List IndexEntry) (i : ℕ) (d : IndexEntry) → 0 < i → i < length items → (b : Bool) → b ≡ bytes_eq (get_or items i d).name.now (get_or items (i - 1) d).name.now → MatchBool b (GoesOnAt items i) (GoesOnAt items i → ⊥)
 goes_on items i d some lt true e = record {
   within = lt;
   same = name_of_item items i d lt ∙ same_from_eq _ _ (sym e) ∙ sym (name_of_item items (i - 1) d (omega arith));

@@ -14,8 +14,8 @@ use Rattle.index_model.specs.Layout.{below, u32_bytes, ended, start_of}
 use Rattle.index_model.specs.NameIndex.{Indexed, Row as IndexRow, all_indexed, names_in, in_index_order, row_of, row_lt, rows_of, entry_bytes, group, bucket, string_offset, units_of_sort, unit_offsets, abbreviation_table, name_index_bytes}
 use Rattle.index_model.specs.Ordered.{bytes_lt}
 use Rattle.query_engine.proofs.TextOrder.{same_from_eq, eq_from_same}
-use Rattle.debugnames_write.specs.declared.groups.Group.{Group}
-use Rattle.debugnames_write.specs.declared.item.Item.{Item}
+use Rattle.debugnames_write.specs.declared.groups.NameEntries.{NameEntries}
+use Rattle.debugnames_write.specs.declared.item.IndexEntry.{IndexEntry}
 use Rattle.debugnames_write.specs.declared.name.Name.{Name}
 use Rattle.debugnames_write.specs.Groups.{SameByName, IsGroupOf, entries_named, group_names}
 use Rattle.debugnames_write.specs.Laid.{groups_bytes, head_bytes, bucket_bytes, hash_bytes, string_bytes, start_bytes, pool_bytes, laid_out}
@@ -62,7 +62,7 @@ all_unmap P f xs h k d lt = let size = length-map xs f in subst P (get_or-map f 
 pub contains_map : {X Y : Type 0} (f : X → Y) (xs : List X) (x : X) → Contains xs x → Contains (map f xs) (f x)
 contains_map f xs x c = (c.0, (let size = length-map xs f in omega (arith, size, c.1)), get_or-map f xs c.0 x (f x) c.1 ∙ ap f c.2)
 
-pub have_rows : (es : List Indexed) (name : List ℕ) (items : List Item) → items_seen items ≡ entries_named name es → HaveRows (rows_of es) items
+pub have_rows : (es : List Indexed) (name : List ℕ) (items : List IndexEntry) → items_seen items ≡ entries_named name es → HaveRows (rows_of es) items
 have_rows es name items own =
     let all : All (Contains es) (entries_named name es) = All-filter (λ (e : Indexed). bytes_eq e.name name) (Contains es) es (All-contains_itself es) in
     let seen : All (Contains es) (items_seen items) = subst (λ (w : List Indexed). All (Contains es) w) (sym own) all in
@@ -70,7 +70,7 @@ have_rows es name items own =
 
 -- ---- names and groups
 
-module _ (names : List Name) (gs : List Group) (kept : map kept_of_name names ≡ map kept_of_group gs) where
+module _ (names : List Name) (gs : List NameEntries) (kept : map kept_of_name names ≡ map kept_of_group gs) where
   pub kept_texts : texts names ≡ group_names gs
   kept_texts = sym (map-map (λ (p : Kept). p.0) kept_of_name names) ∙ ap (map (λ (p : Kept). p.0)) kept ∙ map-map (λ (p : Kept). p.0) kept_of_group gs
 

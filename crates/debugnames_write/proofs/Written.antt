@@ -12,10 +12,10 @@ use Rattle.index_model.specs.Hashes.{name_hash}
 use Rattle.index_model.specs.Layout.{ended}
 use Rattle.index_model.specs.NameIndex.{Indexed, Row as IndexRow, all_indexed, names_in, in_index_order, rows_of, name_index_bytes, name_index_strings}
 use Rattle.index_model.specs.Ordered.{bytes_lt}
-use Rattle.debugnames_write.specs.declared.groups.Group.{Group}
-use Rattle.debugnames_write.specs.declared.item.Item.{Item}
+use Rattle.debugnames_write.specs.declared.groups.NameEntries.{NameEntries}
+use Rattle.debugnames_write.specs.declared.item.IndexEntry.{IndexEntry}
 use Rattle.debugnames_write.specs.declared.name.Name.{Name}
-use Rattle.debugnames_write.specs.declared.name.Names.{Names}
+use Rattle.debugnames_write.specs.declared.name.NameTable.{NameTable}
 use Rattle.debugnames_write.specs.Conditions.{Fits}
 use Rattle.debugnames_write.specs.Groups.{SameByName, AreGroupsOf, group_names, entries_named}
 use Rattle.debugnames_write.specs.Laid.{laid_out}
@@ -31,7 +31,7 @@ ended_long : (xs : List (List ℕ)) → length xs ≤ length (flat_map ended xs)
 ended_long [] = omega arith
 ended_long (x ∷ xs) = let rest = ended_long xs in omega (arith, rest, length-append (ended x) (flat_map ended xs), length-append x (0 ∷ []))
 
-module _ (units : List UnitHeader) (old : ℕ) (entries : List Entry) (items sorted : List Item) (gs : List Group)
+module _ (units : List UnitHeader) (old : ℕ) (entries : List Entry) (items sorted : List IndexEntry) (gs : List NameEntries)
     (all : items_seen items ≡ all_indexed units entries) (same : SameByName (items_seen items) (items_seen sorted)) (groups : AreGroupsOf (items_seen sorted) gs) where
   pub strings_are : group_names gs ≡ names_in (all_indexed units entries)
   strings_are = groups.names ∙ sym (same_names (items_seen items) (items_seen sorted) same) ∙ ap names_in all
@@ -46,7 +46,7 @@ module _ (units : List UnitHeader) (old : ℕ) (entries : List Entry) (items sor
   pub strings_stop : StringsPass gs old → Fits units old entries → ⊥
   strings_stop pass fits = let long = ap (λ (w : List ℕ). length w) strings_added in let few = fits.strings in omega (arith, long, few, pass)
 
-  module _ (ns : Names) (named : AreNamesOf gs old ns) (names : List Name) (moved : IsPermutation ns.names.items names) (in_order : IsSorted (λ x y. slice_cmp nat_cmp (name_key x) (name_key y)) names) where
+  module _ (ns : NameTable) (named : AreNamesOf gs old ns) (names : List Name) (moved : IsPermutation ns.names.items names) (in_order : IsSorted (λ x y. slice_cmp nat_cmp (name_key x) (name_key y)) names) where
     texts_are : texts ns.names.items ≡ group_names gs
     texts_are = kept_texts ns.names.items gs named.kept
 

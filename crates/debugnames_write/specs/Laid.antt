@@ -3,13 +3,13 @@ use Rattle.std.specs.Prelude.{ℕ, ◌+◌, ◌*◌, true, false, List, [], ◌�
 use Rattle.index_model.specs.declared.unit.Unit.{Unit as UnitHeader}
 use Rattle.index_model.specs.Layout.{below, u16_bytes, u32_bytes, ended, start_of}
 use Rattle.index_model.specs.NameIndex.{Row as IndexRow, unit_offsets, bucket, abbreviation_table, entry_bytes, counts_of}
-use Rattle.debugnames_write.specs.declared.item.Item.{Item}
+use Rattle.debugnames_write.specs.declared.item.IndexEntry.{IndexEntry}
 use Rattle.debugnames_write.specs.declared.name.Name.{Name}
 use Rattle.debugnames_write.specs.declared.units.UnitPlaces.{UnitPlaces}
 use Rattle.debugnames_write.specs.Seen.{items_seen, texts}
 
 -- the entries of a name, and a zero
-abbrev pub entries_bytes : List IndexRow → List Item → List ℕ
+abbrev pub entries_bytes : List IndexRow → List IndexEntry → List ℕ
 entries_bytes rows items = ended (flat_map (entry_bytes rows) (items_seen items))
 
 -- the entries of each name

@@ -5,10 +5,10 @@ use Rattle.std.specs.Cmp.Lexicographic.{slice_cmp}
 use Rattle.index_model.specs.Hashes.{name_hash}
 use Rattle.index_model.specs.Layout.{below, ended, start_of}
 use Rattle.index_model.specs.NameIndex.{Row as IndexRow, string_offset}
-use Rattle.debugnames_write.specs.declared.groups.Group.{Group}
-use Rattle.debugnames_write.specs.declared.item.Item.{Item}
+use Rattle.debugnames_write.specs.declared.groups.NameEntries.{NameEntries}
+use Rattle.debugnames_write.specs.declared.item.IndexEntry.{IndexEntry}
 use Rattle.debugnames_write.specs.declared.name.Name.{Name}
-use Rattle.debugnames_write.specs.declared.name.Names.{Names}
+use Rattle.debugnames_write.specs.declared.name.NameTable.{NameTable}
 use Rattle.debugnames_write.specs.declared.pool.PoolPlaces.{PoolPlaces}
 use Rattle.debugnames_write.specs.Groups.{group_names}
 use Rattle.debugnames_write.specs.Laid.{groups_bytes, pool_bytes}
@@ -17,14 +17,14 @@ use Rattle.debugnames_write.specs.Seen.{name_key}
 
 -- a name with its entries
 abbrev pub Kept : Type 0
-Kept = List ℕ × List Item
+Kept = List ℕ × List IndexEntry
 
 -- what a name keeps of its group
 abbrev pub kept_of_name : Name → Kept
 kept_of_name n = (n.text.now, n.items.now)
 
 -- what a group has
-abbrev pub kept_of_group : Group → Kept
+abbrev pub kept_of_group : NameEntries → Kept
 kept_of_group g = (g.name.now, g.items.now)
 
 -- a name of these strings, which begin at a place of `.debug_str`
@@ -34,22 +34,22 @@ pub record IsNameOf (strings : List (List ℕ)) (old_strings : ℕ) (n : Name) :
   pub string : n.string ≡ string_offset old_strings strings n.text.now
 
 -- the names of these groups in byte order, and the place behind their strings
-pub record AreNamesOf (gs : List Group) (old_strings : ℕ) (ns : Names) : Type 0 where
+pub record AreNamesOf (gs : List NameEntries) (old_strings : ℕ) (ns : NameTable) : Type 0 where
   pub kept : map kept_of_name ns.names.items ≡ map kept_of_group gs
   pub each : All (IsNameOf (group_names gs) old_strings) ns.names.items
   pub end : ns.strings_end ≡ old_strings + length (flat_map ended (group_names gs))
   pub fits : ns.strings_end ≤ 4294967295
 
 -- the same names in the order of the index
-pub record AreSortedNamesOf (gs : List Group) (old_strings : ℕ) (ns : Names) : Type 0 where
-  pub made : Names
+pub record AreSortedNamesOf (gs : List NameEntries) (old_strings : ℕ) (ns : NameTable) : Type 0 where
+  pub made : NameTable
   pub made_are : AreNamesOf gs old_strings made
   pub moved : IsPermutation made.names.items ns.names.items
   pub in_order : IsSorted (λ x y. slice_cmp nat_cmp (name_key x) (name_key y)) ns.names.items
   pub end : ns.strings_end ≡ made.strings_end
 
 -- the strings pass the greatest size of `.debug_str`
-abbrev pub StringsPass : List Group → ℕ → Type 0
+abbrev pub StringsPass : List NameEntries → ℕ → Type 0
 StringsPass gs old_strings = 4294967295 < old_strings + length (flat_map ended (group_names gs))
 
 -- where the entries of each name begin in the pool, and its size
@@ -63,5 +63,5 @@ abbrev pub HaveBuckets : List Name → Type 0
 HaveBuckets names = All (λ n. (n.bucket ≡ name_hash n.text.now % length names) × (n.bucket < length names)) names
 
 -- each of these entries has an abbreviation
-abbrev pub HaveRows : List IndexRow → List Item → Type 0
+abbrev pub HaveRows : List IndexRow → List IndexEntry → Type 0
 HaveRows rows items = All (λ i. Contains rows (row_seen i.row)) items

@@ -1,15 +1,15 @@
 -- What contracts see of entries and of names.
 use Rattle.std.specs.Prelude.{ℕ, List, ◌∷◌, map}
 use Rattle.index_model.specs.NameIndex.{Indexed}
-use Rattle.debugnames_write.specs.declared.item.Item.{Item}
+use Rattle.debugnames_write.specs.declared.item.IndexEntry.{IndexEntry}
 use Rattle.debugnames_write.specs.declared.name.Name.{Name}
 
 -- an entry as the definitions have it
-abbrev pub item_seen : Item → Indexed
+abbrev pub item_seen : IndexEntry → Indexed
 item_seen i = record { name = i.name.now; tag = i.row.tag; types = i.row.types; unit = i.unit; offset = i.offset }
 
 -- the entries
-abbrev pub items_seen : List Item → List Indexed
+abbrev pub items_seen : List IndexEntry → List Indexed
 items_seen items = map item_seen items
 
 -- the bucket and the hash of a name before its bytes

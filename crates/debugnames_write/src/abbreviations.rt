@@ -9,7 +9,7 @@ ghost use Rattle.index_model.specs.Order.{Rises, Adds};
 ghost use Rattle.debugnames_write.specs.Rows.{row_seen};
 ghost use Rattle.debugnames_write.specs.Seen.{items_seen};
 
-use crate::item::{Item, Row};
+use crate::item::{IndexEntry, Row};
 use crate::limits::{MAX_INDEX, grown};
 use crate::numbers::{push_uleb, uleb_size};
 use crate::writer::WriteStop;
@@ -53,7 +53,7 @@ impl Model for Abbreviations {
 
 impl Abbreviations {
     /// The abbreviations of these entries.
-    pub fn of(alloc: Global, items: &[Item<'_>]) -> Result<Abbreviations, AllocError>
+    pub fn of(alloc: Global, items: &[IndexEntry<'_>]) -> Result<Abbreviations, AllocError>
         ensures { IfOk result (λ a. a ≡ rows_of (items_seen items.now)) }
     {
         let mut rows = Vec::new(alloc);

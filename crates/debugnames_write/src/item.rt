@@ -24,7 +24,7 @@ pub(crate) struct Row {
 
 /// An entry as the index has it.
 #[derive(Clone, Copy)]
-pub(crate) struct Item<'r> {
+pub(crate) struct IndexEntry<'r> {
     pub name: &'r [u8],
     pub row: Row,
     /// The unit's place among those of its sort.
@@ -39,7 +39,7 @@ pub(crate) fn sorted_items<'r>(
     units: &[Unit],
     places: &UnitPlaces,
     table: &'r Table<'_>,
-) -> Result<Vec<Item<'r>>, NoMemory>
+) -> Result<Vec<IndexEntry<'r>>, NoMemory>
     requires places { ArePlacesOf units.now places.now }
     requires inside { All (IsInside units.now) table.now }
     requires short { sum_by (λ u. u.length) units.now < 4294967296 }
@@ -57,7 +57,7 @@ fn items_at<'r>(
     places: &UnitPlaces,
     entries: &'r [Entry<'_>],
     order: &[u32],
-) -> Result<Vec<Item<'r>>, AllocError>
+) -> Result<Vec<IndexEntry<'r>>, AllocError>
     requires places { ArePlacesOf units.now places.now }
     requires inside { All (IsInside units.now) entries.now }
     requires short { sum_by (λ u. u.length) units.now < 4294967296 }
@@ -75,7 +75,7 @@ fn items_at<'r>(
 }
 
 // The entry as the index has it; None where its unit stands in `.debug_types`.
-fn item_of<'r>(units: &[Unit], places: &UnitPlaces, entry: &'r Entry<'_>) -> Option<Item<'r>>
+fn item_of<'r>(units: &[Unit], places: &UnitPlaces, entry: &'r Entry<'_>) -> Option<IndexEntry<'r>>
     requires places { ArePlacesOf units.now places.now }
     requires inside { IsInside units.now entry.now }
     requires short { sum_by (λ u. u.length) units.now < 4294967296 }
@@ -85,7 +85,7 @@ fn item_of<'r>(units: &[Unit], places: &UnitPlaces, entry: &'r Entry<'_>) -> Opt
     let unit = &units[entry.unit as usize];
     match unit.part {
         Part::Types => None,
-        Part::Info => Some(Item {
+        Part::Info => Some(IndexEntry {
             name: name_of(entry),
             row: Row {
                 tag: entry.tag,

@@ -11,9 +11,9 @@ ghost use Rattle.debugnames_write.specs.Names.{AreNamesOf, AreSortedNamesOf, Str
 ghost use Rattle.index_model.specs.Order.{Rises};
 ghost use Rattle.debugnames_write.specs.Seen.{name_key};
 
-use crate::groups::Group;
+use crate::groups::NameEntries;
 use crate::hash::name_hash;
-use crate::item::Item;
+use crate::item::IndexEntry;
 use crate::limits::{MAX_STRINGS, grown};
 use crate::writer::WriteStop;
 use std::alloc::{AllocError, Global};
@@ -27,7 +27,7 @@ pub(crate) struct Name<'r> {
     pub text: &'r [u8],
     /// Where the string stands in `.debug_str`.
     pub string: u32,
-    pub items: &'r [Item<'r>],
+    pub items: &'r [IndexEntry<'r>],
 }
 
 impl PartialEq for Name<'_> {
@@ -75,7 +75,7 @@ impl Ord for Name<'_> {
 
 /// The names, and how many bytes `.debug_str` has behind their strings.
 #[derive(Drop)]
-pub(crate) struct Names<'r> {
+pub(crate) struct NameTable<'r> {
     pub names: Vec<Name<'r>>,
     pub strings_end: u64,
 }
@@ -83,9 +83,9 @@ pub(crate) struct Names<'r> {
 /// The names of these groups in the order of the index. Their strings follow the bytes that `.debug_str` has.
 pub(crate) fn sorted_names<'r>(
     alloc: Global,
-    groups: &[Group<'r>],
+    groups: &[NameEntries<'r>],
     old_strings: u64,
-) -> Result<Names<'r>, WriteStop>
+) -> Result<NameTable<'r>, WriteStop>
     requires { Rises bytes_lt (group_names groups.now) }
     ensures { Answers result (AreSortedNamesOf groups.now old_strings) (StringsPass groups.now old_strings) }
 {
@@ -97,21 +97,21 @@ pub(crate) fn sorted_names<'r>(
 // The names of these groups in byte order.
 fn names_of<'r>(
     alloc: Global,
-    groups: &[Group<'r>],
+    groups: &[NameEntries<'r>],
     old_strings: u64,
-) -> Result<Names<'r>, WriteStop>
+) -> Result<NameTable<'r>, WriteStop>
     requires { Rises bytes_lt (group_names groups.now) }
     ensures { Answers result (AreNamesOf groups.now old_strings) (StringsPass groups.now old_strings) }
 {
     let mut names = Vec::with_capacity(alloc, groups.len())?;
     let strings_end = push_names(&mut names, groups, old_strings)?;
-    Ok(Names { names, strings_end })
+    Ok(NameTable { names, strings_end })
 }
 
 // Appends the names to none. Gives the place behind their strings.
 fn push_names<'r>(
     names: &mut Vec<Name<'r>>,
-    groups: &[Group<'r>],
+    groups: &[NameEntries<'r>],
     old_strings: u64,
 ) -> Result<u64, WriteStop>
     requires rises { Rises bytes_lt (group_names groups.now) }

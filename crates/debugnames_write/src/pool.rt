@@ -7,7 +7,7 @@ ghost use Rattle.debugnames_write.specs.Laid.{entries_bytes, groups_bytes, pool_
 ghost use Rattle.debugnames_write.specs.Names.{HaveRows, ArePlacesIn};
 
 use crate::abbreviations::Abbreviations;
-use crate::item::Item;
+use crate::item::IndexEntry;
 use crate::limits::{MAX_INDEX, grown};
 use crate::name::Name;
 use crate::numbers::{push_u32, push_uleb, uleb_size};
@@ -69,7 +69,7 @@ pub(crate) fn push_pool(
 }
 
 // How many bytes the entries of a name and the zero behind them have.
-fn group_size(abbreviations: &Abbreviations, items: &[Item<'_>]) -> Result<u64, WriteStop>
+fn group_size(abbreviations: &Abbreviations, items: &[IndexEntry<'_>]) -> Result<u64, WriteStop>
     requires { HaveRows abbreviations.now items.now }
     ensures { Answers result (λ size. (size ≡ length (entries_bytes abbreviations.now items.now)) × (size ≤ 4294967283)) (4294967283 < length (entries_bytes abbreviations.now items.now)) }
 {
@@ -86,7 +86,7 @@ fn group_size(abbreviations: &Abbreviations, items: &[Item<'_>]) -> Result<u64, 
 fn push_group(
     out: &mut Vec<u8>,
     abbreviations: &Abbreviations,
-    items: &[Item<'_>],
+    items: &[IndexEntry<'_>],
 ) -> Result<(), AllocError>
     requires { HaveRows abbreviations.now items.now }
     ensures { OnOk result (out.new.items ≡ out.old.items ++ entries_bytes abbreviations.now items.now) }

@@ -3,13 +3,13 @@
 ghost use Rattle.std.specs.Prelude.{◌≡◌, flat_map, map, IfOk};
 ghost use Rattle.index_model.specs.Layout.{ended};
 
-use crate::groups::Group;
+use crate::groups::NameEntries;
 use std::alloc::{AllocError, Global};
 
 /// The names, each with a zero, in so many bytes.
 pub(crate) fn strings_of(
     alloc: Global,
-    groups: &[Group<'_>],
+    groups: &[NameEntries<'_>],
     size: usize,
 ) -> Result<Vec<u8>, AllocError>
     ensures { IfOk result (λ v. v.items ≡ flat_map ended (map (λ g. g.name.now) groups.now)) }

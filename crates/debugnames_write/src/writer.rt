@@ -12,7 +12,7 @@ ghost use Rattle.debugnames_write.specs.declared.writer.WriteStop.TheVariants as
 use crate::abbreviations::Abbreviations;
 use crate::groups::groups_of;
 use crate::index::index_bytes;
-use crate::item::{Item, sorted_items};
+use crate::item::{IndexEntry, sorted_items};
 use crate::name::sorted_names;
 use crate::strings::strings_of;
 use crate::units::UnitPlaces;
@@ -95,7 +95,7 @@ fn name_bytes(
     units: &[Unit],
     places: &UnitPlaces,
     abbreviations: &Abbreviations,
-    items: &[Item<'_>],
+    items: &[IndexEntry<'_>],
     old_strings: u64,
 ) -> Result<NameBytes, WriteStop>
     requires units { length units.now ≤ 16777215 }

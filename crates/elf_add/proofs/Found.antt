@@ -3,7 +3,7 @@ use Rattle.std.proofs.Common.{◌≡◌, ℕ, List, [], ◌++◌, map, Option, o
 use Rattle.index_model.specs.Sections.{Section, names, names_index, section_bytes, section_count}
 use Rattle.reach_model.specs.Added.{debug_str, new_sections, strings_alone, strings_index}
 use Rattle.elf_add.specs.declared.pieces.NewSection.{NewSection}
-use Rattle.elf_add.specs.declared.parts.Parts.{Parts}
+use Rattle.elf_add.specs.declared.parts.AddedProgram.{AddedProgram}
 use Rattle.elf_add.specs.Adders.{Adder}
 use Rattle.elf_add.specs.Held.{adder_with}
 use Rattle.elf_add.specs.Parts.{IsPartsOf, IsStrings}
@@ -15,7 +15,7 @@ all_are a i e = ap (λ j. a.addition.sections ++ strings_alone j a.addition.stri
 
 -- the adder a holds a file, sections, a table, what was added and strings
 module _ (a : Adder) (file : List ℕ) (sections : List Section) (table : List ℕ) (added : List NewSection) (strings : Option (List ℕ)) (view : adder_with file sections added strings ≡ a) (of_file : table ≡ file) where
-  pub parts_are : (p : Parts) (all : List NewSection)
+  pub parts_are : (p : AddedProgram) (all : List NewSection)
       → p.file.now ≡ file → p.count ≡ section_count table → p.names_index ≡ names_index table → p.names.now ≡ names file
       → option_map (λ g. g.index) p.strings ≡ strings_index a.file a.sections a.addition
       → IsStrings (section_bytes a.sections debug_str) (unwrap_or a.addition.strings []) p.strings

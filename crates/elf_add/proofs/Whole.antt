@@ -11,7 +11,7 @@ use Rattle.reach_model.specs.Added.{Addition, NewSection as NewSectionOf, added,
 use Rattle.reach_model.specs.AddedSections.{HavePlaces}
 use Rattle.elf_add.specs.declared.pieces.Grown.{Grown}
 use Rattle.elf_add.specs.declared.pieces.Moved.{Moved}
-use Rattle.elf_add.specs.declared.parts.Parts.{Parts}
+use Rattle.elf_add.specs.declared.parts.AddedProgram.{AddedProgram}
 use Rattle.elf_add.specs.declared.old_headers.Changes.{Changes}
 use Rattle.elf_add.specs.Headers.{moved_at, with_place}
 use Rattle.elf_add.specs.Parts.{IsPartsOf, IsStrings, first_behind, first_name_of, name_piece, named_in, names_moved, pieces_of_names, pieces_of_strings, shares_of, strings_grown, strings_moved}
@@ -78,7 +78,7 @@ agree : (f g : ℕ → List ℕ) → ((i : ℕ) → f i ≡ g i) → (xs : List 
 agree f g same [] = refl
 agree f g same (x ∷ xs) = ap (λ ys. ys ++ flat_map f xs) (same x) ∙ ap (λ ys. g x ++ ys) (agree f g same xs)
 
-module _ (p : Parts) (file : List ℕ) (sections : List Section) (addition : Addition) (is : IsPartsOf p file sections addition) where
+module _ (p : AddedProgram) (file : List ℕ) (sections : List Section) (addition : Addition) (is : IsPartsOf p file sections addition) where
   shares_is : shares_of p ≡ shares file sections addition
   shares_is = ap (λ i. is_at i (option_map (λ g. g.index) p.strings)) is.names_index ∙ ap (is_at (names_index file)) is.strings_index
 
@@ -190,7 +190,7 @@ module _ (p : Parts) (file : List ℕ) (sections : List Section) (addition : Add
 -- ---- the whole
 
 -- what the code appends, step by step
-pub record IsJoined (p : Parts) (b1 b2 b3 b4 b5 b6 b7 : List ℕ) (strings names : Option Moved) (count first_name end : ℕ) : Type 0 where
+pub record IsJoined (p : AddedProgram) (b1 b2 b3 b4 b5 b6 b7 : List ℕ) (strings names : Option Moved) (count first_name end : ℕ) : Type 0 where
   pub of_file : b1 ≡ p.file.now
   pub of_strings : b2 ≡ with_pieces b1 (pieces_of_strings p)
   pub of_sections : b3 ≡ with_pieces b2 (map content_of p.added.now)
@@ -204,7 +204,7 @@ pub record IsJoined (p : Parts) (b1 b2 b3 b4 b5 b6 b7 : List ℕ) (strings names
   pub first_is : first_name ≡ first_name_of p
   pub end_is : end ≡ length b2
 
-module _ (p : Parts) (b1 b2 b3 b4 b5 b6 b7 : List ℕ) (strings names : Option Moved) (count first_name end : ℕ) (j : IsJoined p b1 b2 b3 b4 b5 b6 b7 strings names count first_name end) where
+module _ (p : AddedProgram) (b1 b2 b3 b4 b5 b6 b7 : List ℕ) (strings names : Option Moved) (count first_name end : ℕ) (j : IsJoined p b1 b2 b3 b4 b5 b6 b7 strings names count first_name end) where
   -- the ELF header lies in it
   pub joined_long : 64 ≤ length p.file.now → 64 ≤ length b7
   joined_long long =

@@ -13,7 +13,7 @@ ghost use Rattle.elf_add.specs.Parts.{IsStrings};
 ghost use Rattle.elf_add.specs.Pieces.{section_of};
 
 use crate::names::name_bytes;
-use crate::parts::Parts;
+use crate::parts::AddedProgram;
 use crate::pieces::{Grown, NewSection};
 use file_image::{SectionTable, Sections};
 use ix_base::{MAX_FILE_BYTES, NoMemory, Stop};
@@ -121,7 +121,7 @@ impl<'f> Adder<'f> {
     {
         let strings = self.grown_strings();
         let added = all_added(self.added, &strings, self.strings)?;
-        let parts = Parts {
+        let parts = AddedProgram {
             file: self.file,
             count: self.table.count(),
             names_index: self.table.names(),

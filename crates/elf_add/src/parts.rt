@@ -18,7 +18,7 @@ use std::alloc::Global;
 
 /// A program, and what is added to it.
 #[derive(Clone, Copy)]
-pub(crate) struct Parts<'a, 'f> {
+pub(crate) struct AddedProgram<'a, 'f> {
     pub(crate) file: &'f [u8],
     /// How many section headers the file has.
     pub(crate) count: u32,
@@ -31,7 +31,7 @@ pub(crate) struct Parts<'a, 'f> {
     pub(crate) added: &'a [NewSection<'f>],
 }
 
-impl<'f> Parts<'_, 'f> {
+impl<'f> AddedProgram<'_, 'f> {
     /// The bytes of the program with what is added.
     pub(crate) fn joined(&self, alloc: Global) -> Result<Vec<u8>, NoMemory>
         requires long { 64 ≤ length self.now.file.now }

@@ -4,7 +4,7 @@ ghost use Rattle.std.specs.Prelude.{◌≡◌, ◌+◌, ◌<◌, ◌^◌, ◌++�
 ghost use Rattle.elf_make.specs.Packed.{contents, names, name_table, names_at, names_end, section_headers, added_headers};
 
 use crate::header::{SHT_PROGBITS, SHT_STRTAB, push_section_header, push_zeros};
-use crate::layout::Layout;
+use crate::layout::PartOffsets;
 use crate::section::Section;
 use ix_base::NoMemory;
 
@@ -41,7 +41,7 @@ pub(crate) fn push_name_table(file: &mut Vec<u8>, sections: &[Section]) -> Resul
 pub(crate) fn push_section_headers(
     file: &mut Vec<u8>,
     sections: &[Section],
-    layout: &Layout,
+    layout: &PartOffsets,
 ) -> Result<(), NoMemory>
     requires names { length (name_table sections.now) < 4294967296 }
     requires names_at { layout.now.names_at ≡ names_at sections.now }

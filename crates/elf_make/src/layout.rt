@@ -7,7 +7,7 @@ use crate::section::Section;
 
 /// The place of each part behind the ELF header, in bytes from the start of the file.
 #[derive(Clone, Copy)]
-pub(crate) struct Layout {
+pub(crate) struct PartOffsets {
     /// Where `.shstrtab` begins, and with it the contents end.
     pub(crate) names_at: usize,
     /// Where `.shstrtab` ends.
@@ -25,10 +25,10 @@ const HEADER_SIZE: usize = 64;
 // `.shstrtab` with the zero before it and the one behind it.
 const OWN_NAME_SIZE: usize = 11;
 
-impl Layout {
+impl PartOffsets {
     /// The layout for these sections; None where the file's size isn't a `usize`.
     #[tactic(auto, unfolding(crate::specs::Packed::names_at, crate::specs::Packed::names_end, crate::specs::Packed::headers_at))]
-    pub(crate) fn of(sections: &[Section]) -> Option<Layout>
+    pub(crate) fn of(sections: &[Section]) -> Option<PartOffsets>
         ensures names_at { IfSome result (λ l. l.names_at ≡ names_at sections.now) }
         ensures names_end { IfSome result (λ l. l.names_end ≡ names_end sections.now) }
         ensures padding { IfSome result (λ l. l.padding ≡ padding (names_end sections.now)) }
@@ -40,7 +40,7 @@ impl Layout {
         let headers_at = names_end.checked_add(padding)?;
         let headers_size = sections.len().checked_add(2)?.checked_mul(HEADER_SIZE)?;
         let end = headers_at.checked_add(headers_size)?;
-        Some(Layout {
+        Some(PartOffsets {
             names_at,
             names_end,
             padding,

@@ -5,7 +5,7 @@ ghost use Rattle.elf_make.specs.Packed.{name_table, packed};
 
 use crate::body::{push_contents, push_name_table, push_section_headers};
 use crate::header::{push_elf_header, push_zeros};
-use crate::layout::Layout;
+use crate::layout::PartOffsets;
 use crate::section::Section;
 use index_model::List;
 use ix_base::NoMemory;
@@ -67,7 +67,7 @@ impl Packer {
         ensures { IfOk result (λ file. file.items ≡ packed self) }
     {
         let sections = self.sections.as_slice();
-        let layout = Layout::of(sections).ok_or(NoMemory)?;
+        let layout = PartOffsets::of(sections).ok_or(NoMemory)?;
         let count = sections.len() as u16 + 2;
         let mut file = Vec::with_capacity(self.alloc, layout.end)?;
         push_elf_header(&mut file, self.kind, count, layout.headers_at as u64)?;

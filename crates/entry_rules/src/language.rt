@@ -3,6 +3,11 @@
 ghost use Rattle.std.specs.Prelude.{◌≡◌};
 ghost use Rattle.index_model.specs.Languages.{class_of};
 
+use dwarf_codes::language::{
+    DW_LANG_Ada83, DW_LANG_Ada95, DW_LANG_Ada2005, DW_LANG_Ada2012, DW_LANG_C, DW_LANG_C_plus_plus,
+    DW_LANG_C_plus_plus_03, DW_LANG_C_plus_plus_11, DW_LANG_C_plus_plus_14, DW_LANG_C_plus_plus_17,
+    DW_LANG_C_plus_plus_20, DW_LANG_C11, DW_LANG_C17, DW_LANG_C89, DW_LANG_C99,
+};
 use index_model::Class;
 
 /// The class of a language code. Codes that aren't known have the class Plain.
@@ -11,9 +16,14 @@ pub fn class(language: u16) -> Class
     ensures { result ≡ class_of language }
 {
     match language {
-        0x01 | 0x02 | 0x0c | 0x1d | 0x2c => Class::C,
-        0x04 | 0x19 | 0x1a | 0x21 | 0x2a | 0x2b => Class::Cxx,
-        0x03 | 0x0d | 0x2e | 0x2f => Class::Ada,
+        DW_LANG_C89 | DW_LANG_C | DW_LANG_C99 | DW_LANG_C11 | DW_LANG_C17 => Class::C,
+        DW_LANG_C_plus_plus
+        | DW_LANG_C_plus_plus_03
+        | DW_LANG_C_plus_plus_11
+        | DW_LANG_C_plus_plus_14
+        | DW_LANG_C_plus_plus_17
+        | DW_LANG_C_plus_plus_20 => Class::Cxx,
+        DW_LANG_Ada83 | DW_LANG_Ada95 | DW_LANG_Ada2005 | DW_LANG_Ada2012 => Class::Ada,
         _ => Class::Plain,
     }
 }

@@ -3,9 +3,11 @@
 ghost use Rattle.std.specs.Prelude.{◌≡◌};
 ghost use Rattle.index_model.specs.Rules.{is_visited_under, is_indexed, is_static, opens, row_allows, row_of};
 
-use crate::tag::{
-    BASE_TYPE, CLASS_TYPE, CONSTANT, ENUMERATION_TYPE, ENUMERATOR, INTERFACE_TYPE, NAMESPACE,
-    STRUCTURE_TYPE, SUBPROGRAM, SUBRANGE_TYPE, TYPEDEF, UNION_TYPE, VARIABLE, in_table,
+use crate::tag::in_table;
+use dwarf_codes::tag::{
+    DW_TAG_base_type, DW_TAG_class_type, DW_TAG_constant, DW_TAG_enumeration_type,
+    DW_TAG_enumerator, DW_TAG_interface_type, DW_TAG_namespace, DW_TAG_structure_type,
+    DW_TAG_subprogram, DW_TAG_subrange_type, DW_TAG_typedef, DW_TAG_union_type, DW_TAG_variable,
 };
 use index_model::{Class, Facts, Parent};
 
@@ -26,9 +28,13 @@ fn opens(tag: u64, ada: bool) -> bool
     ensures { result ≡ opens ada tag }
 {
     match tag {
-        NAMESPACE | CLASS_TYPE | STRUCTURE_TYPE | UNION_TYPE | INTERFACE_TYPE | ENUMERATION_TYPE =>
-            true,
-        SUBPROGRAM => ada,
+        DW_TAG_namespace
+        | DW_TAG_class_type
+        | DW_TAG_structure_type
+        | DW_TAG_union_type
+        | DW_TAG_interface_type
+        | DW_TAG_enumeration_type => true,
+        DW_TAG_subprogram => ada,
         _ => false,
     }
 }
@@ -46,8 +52,8 @@ fn has_what_its_tag_asks(facts: &Facts) -> bool
     ensures { result ≡ row_allows facts.now (row_of facts.now.tag) }
 {
     match facts.tag {
-        SUBPROGRAM => facts.address,
-        VARIABLE | CONSTANT => facts.value,
+        DW_TAG_subprogram => facts.address,
+        DW_TAG_variable | DW_TAG_constant => facts.value,
         tag => in_table(tag),
     }
 }
@@ -57,11 +63,15 @@ pub fn is_static(facts: &Facts) -> bool
     ensures { result ≡ is_static facts.now }
 {
     match facts.tag {
-        CLASS_TYPE | STRUCTURE_TYPE | UNION_TYPE | INTERFACE_TYPE | ENUMERATION_TYPE | ENUMERATOR =>
-            facts.class != Class::Cxx,
-        TYPEDEF | BASE_TYPE | SUBRANGE_TYPE => true,
-        SUBPROGRAM => !facts.external && facts.class != Class::Ada,
-        VARIABLE | CONSTANT => !facts.external,
+        DW_TAG_class_type
+        | DW_TAG_structure_type
+        | DW_TAG_union_type
+        | DW_TAG_interface_type
+        | DW_TAG_enumeration_type
+        | DW_TAG_enumerator => facts.class != Class::Cxx,
+        DW_TAG_typedef | DW_TAG_base_type | DW_TAG_subrange_type => true,
+        DW_TAG_subprogram => !facts.external && facts.class != Class::Ada,
+        DW_TAG_variable | DW_TAG_constant => !facts.external,
         _ => false,
     }
 }

@@ -5,11 +5,11 @@ use Rattle.std.proofs.lemmas.Bool.{eq-eqb, ne_eqb}
 use Rattle.ix_base.specs.Reading.{Input}
 use Rattle.index_model.specs.Forms.{Value, value_at}
 use Rattle.entry_scan.specs.declared.abbreviation.Spec.{Spec}
-use Rattle.entry_scan.specs.declared.values.Format.{Format}
+use Rattle.entry_scan.specs.declared.values.UnitFormat.{UnitFormat}
 use Rattle.entry_scan.specs.Values.{values_at, value_read, place_read, IsRead}
 use Rattle.entry_scan.proofs.ValueLaws.{first_at, rest_read, value_next, place_stops, none_left}
 
-module _ (f : Format) (n : ℕ) where
+module _ (f : UnitFormat) (n : ℕ) where
   abbrev pub first : List Spec → Input → Option (ℕ × Value)
   first ss i = find (λ (v : ℕ × Value). v.0 == n) (value_read (values_at f ss i))
 

@@ -7,7 +7,7 @@ use Rattle.ix_base.specs.Reading.{Input, past}
 use Rattle.index_model.specs.Meaning.{◌>>=◌}
 use Rattle.index_model.specs.Forms.{value_at}
 use Rattle.entry_scan.specs.declared.abbreviation.Spec.{Spec}
-use Rattle.entry_scan.specs.declared.values.Format.{Format}
+use Rattle.entry_scan.specs.declared.values.UnitFormat.{UnitFormat}
 use Rattle.entry_scan.specs.Values.{values_at, place_read, past_bytes, TakeBytes}
 use Rattle.entry_scan.specs.Fronts.{Begins, narrow}
 use Rattle.entry_scan.proofs.SizeLaws.{nothing_takes}
@@ -44,7 +44,7 @@ alike (Err code) f g h = refl
 
 -- ---- values
 
-pub next_taken : (f : Format) (s : Spec) (ss : List Spec) (i : Input) (r : Result Input ℕ) → place_read (value_at f.version f.wide s.form s.constant i) ≡ r → place_read (values_at f (s ∷ ss) i) ≡ (r >>= λ j. place_read (values_at f ss j))
+pub next_taken : (f : UnitFormat) (s : Spec) (ss : List Spec) (i : Input) (r : Result Input ℕ) → place_read (value_at f.version f.wide s.form s.constant i) ≡ r → place_read (values_at f (s ∷ ss) i) ≡ (r >>= λ j. place_read (values_at f ss j))
 next_taken f s ss i (Ok j) e = place_goes f s ss i j e
 next_taken f s ss i (Err code) e = place_stops f s ss i code e
 

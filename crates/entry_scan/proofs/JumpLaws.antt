@@ -11,7 +11,7 @@ use Rattle.index_model.specs.Walk.{values}
 use Rattle.entry_scan.specs.declared.abbreviation.Spec.{Spec}
 use Rattle.entry_scan.specs.declared.jumps.Jump.{Jump}
 use Rattle.entry_scan.specs.declared.jumps.Jumps.{Jumps}
-use Rattle.entry_scan.specs.declared.values.Format.{Format}
+use Rattle.entry_scan.specs.declared.values.UnitFormat.{UnitFormat}
 use Rattle.entry_scan.specs.Values.{values_at, place_read, past_bytes, IsRead, TakeBytes}
 use Rattle.entry_scan.specs.Fronts.{narrow}
 use Rattle.entry_scan.specs.Jumps.{Take, LacksBefore, IsJump, AreJumps, Leads, slot}
@@ -26,7 +26,7 @@ one_then : (r : Result Input ℕ) → (r >>= λ j. Ok j) ≡ r
 one_then (Ok j) = refl
 one_then (Err code) = refl
 
-of_both : (f : Format) (xs ys : List Spec) (i : Input) → place_read (values_at f (xs ++ ys) i) ≡ (place_read (values_at f xs i) >>= λ j. place_read (values_at f ys j))
+of_both : (f : UnitFormat) (xs ys : List Spec) (i : Input) → place_read (values_at f (xs ++ ys) i) ≡ (place_read (values_at f xs i) >>= λ j. place_read (values_at f ys j))
 unfolding values
 of_both f [] ys i = refl
 of_both f (x ∷ xs) ys i =
@@ -38,7 +38,7 @@ of_both f (x ∷ xs) ys i =
     ∙ sym (onwards r front rest)
     ∙ ap (λ (x : Result Input ℕ). x >>= rest) (sym (next_taken f x xs i r refl))
 
-no_more : (f : Format) (s : Spec) (i : Input) (r : Result Input ℕ) → place_read (value_at f.version f.wide s.form s.constant i) ≡ r → place_read (values_at f (s ∷ []) i) ≡ r
+no_more : (f : UnitFormat) (s : Spec) (i : Input) (r : Result Input ℕ) → place_read (value_at f.version f.wide s.form s.constant i) ≡ r → place_read (values_at f (s ∷ []) i) ≡ r
 unfolding values
 no_more f s i r e = next_taken f s [] i r e ∙ one_then r
 
@@ -61,7 +61,7 @@ one_more specs k n m lt front takes version i =
 
 -- ---- the first of a number
 
-module _ (f : Format) (n : ℕ) where
+module _ (f : UnitFormat) (n : ℕ) where
   abbrev Lacks : ℕ → List Spec → Type 0
   Lacks k ss = (j : ℕ) (d : Spec) → j < k → (get_or ss j d).attribute ≡ n → ⊥
 
@@ -120,14 +120,14 @@ pub str_read : (version : ℕ) (wide : Bool) (constant : ℤ) (j next : Input) (
 unfolding value_at
 str_read version wide constant j next x e g = rw e (rw g refl)
 
-module _ (specs : List Spec) (f : Format) (number : ℕ) (jump : Jump) (i : Input) (all : IsRead (values_at f specs i)) (to : Leads f specs number jump) where
+module _ (specs : List Spec) (f : UnitFormat) (number : ℕ) (jump : Jump) (i : Input) (all : IsRead (values_at f specs i)) (to : Leads f specs number jump) where
   abbrev is : IsJump specs number jump
   is = to.jump
 
   takes_here : place_read (values_at f (take jump.index specs) i) ≡ past_bytes jump.bytes i
   takes_here =
-      let same : f ≡ narrow f.version = ap (λ (w : Bool). let made : Format = record { version = f.version; wide = w } in made) to.narrow_ in
-      subst (λ (g : Format). place_read (values_at g (take jump.index specs) i) ≡ past_bytes jump.bytes i) (sym same) (is.takes f.version i)
+      let same : f ≡ narrow f.version = ap (λ (w : Bool). let made : UnitFormat = record { version = f.version; wide = w } in made) to.narrow_ in
+      subst (λ (g : UnitFormat). place_read (values_at g (take jump.index specs) i) ≡ past_bytes jump.bytes i) (sym same) (is.takes f.version i)
 
   -- the bytes before its value are there
   pub room : skip jump.bytes i ≡ None → ⊥

@@ -9,8 +9,8 @@ use Rattle.ix_base.specs.Reading.{Input}
 use Rattle.index_model.specs.Forms.{Value, value_at}
 use Rattle.index_model.specs.Walk.{values}
 use Rattle.entry_scan.specs.declared.abbreviation.Spec.{Spec}
-use Rattle.entry_scan.specs.declared.values.Format.{Format}
-use Rattle.entry_scan.specs.declared.marks.Marks.{Marks}
+use Rattle.entry_scan.specs.declared.values.UnitFormat.{UnitFormat}
+use Rattle.entry_scan.specs.declared.marks.AttributeBits.{AttributeBits}
 use Rattle.entry_scan.specs.Marks.{HasMark, AreMarks, AreMarked}
 use Rattle.entry_scan.specs.Values.{values_at, value_read}
 use Rattle.entry_scan.proofs.ValueLaws.{next_value, before}
@@ -26,7 +26,7 @@ stays_set n m i e = bit_at_or n m i ∙ one_or (bit_at n i) (bit_at m i) e (bit_
 
 -- ---- values
 
-module _ (f : Format) (m : Marks) where
+module _ (f : UnitFormat) (m : AttributeBits) where
   abbrev P : ℕ × Value → Type 0
   P v = HasMark m v.0
 
@@ -49,7 +49,7 @@ module _ (f : Format) (m : Marks) where
       next_marked s ss i (All-head Q s ss all) (λ j. values_marked ss j (All-tail Q s ss all)) (value_at f.version f.wide s.form s.constant i) refl
 
 -- an attribute without a mark isn't there
-pub not_there : (vs : List (ℕ × Value)) (m : Marks) (n : ℕ) → AreMarked vs m → (HasMark m n → ⊥) → find (λ (v : ℕ × Value). v.0 == n) vs ≡ None
+pub not_there : (vs : List (ℕ × Value)) (m : AttributeBits) (n : ℕ) → AreMarked vs m → (HasMark m n → ⊥) → find (λ (v : ℕ × Value). v.0 == n) vs ≡ None
 not_there [] m n all lacks = refl
 not_there (v ∷ vs) m n all lacks =
     let P : ℕ × Value → Type 0 = λ v. HasMark m v.0 in

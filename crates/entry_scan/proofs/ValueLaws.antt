@@ -5,7 +5,7 @@ use Rattle.index_model.specs.Meaning.{◌>>=◌}
 use Rattle.index_model.specs.Forms.{Value, value_at}
 use Rattle.index_model.specs.Walk.{values}
 use Rattle.entry_scan.specs.declared.abbreviation.Spec.{Spec}
-use Rattle.entry_scan.specs.declared.values.Format.{Format}
+use Rattle.entry_scan.specs.declared.values.UnitFormat.{UnitFormat}
 use Rattle.entry_scan.specs.Values.{values_at, value_read, place_read, IsRead}
 
 -- one more value before the others
@@ -28,17 +28,17 @@ pub specs_from : (specs : List Spec) (k : ℕ) → k < length specs → drop k s
 specs_from specs k lt = rw (add-one, drop-cons specs k zero_spec) refl
 
 -- of no attributes there are no values
-pub none_left : (f : Format) (ss : List Spec) (i : Input) → length ss ≡ 0 → value_read (values_at f ss i) ≡ []
+pub none_left : (f : UnitFormat) (ss : List Spec) (i : Input) → length ss ≡ 0 → value_read (values_at f ss i) ≡ []
 unfolding values
 none_left f [] i e = refl
 none_left f (s ∷ ss) i e = absurd (omega arith)
 
 -- of no attributes the place stays
-pub none_moves : (f : Format) (ss : List Spec) (i : Input) → ss ≡ [] → place_read (values_at f ss i) ≡ Ok i
+pub none_moves : (f : UnitFormat) (ss : List Spec) (i : Input) → ss ≡ [] → place_read (values_at f ss i) ≡ Ok i
 unfolding values
 none_moves f ss i e = rw e refl
 
-module _ (f : Format) (s : Spec) (ss : List Spec) (i : Input) where
+module _ (f : UnitFormat) (s : Spec) (ss : List Spec) (i : Input) where
   pub next_value : (v : Value) (j : Input) → value_at f.version f.wide s.form s.constant i ≡ Ok (v, j) → values_at f (s ∷ ss) i ≡ before (s.attribute, v) (values_at f ss j)
   unfolding values
   next_value v j e = rw e refl

@@ -6,8 +6,8 @@ use Rattle.index_model.specs.Forms.{Value, Reader, by, counted, refused, is_set,
 use Rattle.index_model.specs.Forms as meant
 use Rattle.entry_scan.specs.declared.form_numbers.Width.{Width}
 use Rattle.entry_scan.specs.declared.form_numbers.Width.TheVariants as width
-use Rattle.entry_scan.specs.declared.form_numbers.Kind.{Kind}
-use Rattle.entry_scan.specs.declared.form_numbers.Kind.TheVariants as kind
+use Rattle.entry_scan.specs.declared.form_numbers.NumberClass.{NumberClass}
+use Rattle.entry_scan.specs.declared.form_numbers.NumberClass.TheVariants as kind
 
 -- a number of this width at the front
 abbrev pub written : ℕ → Bool → Width → Input → Option (ℕ × Input)
@@ -21,7 +21,7 @@ written version wide width.Reference = section_reference version wide
 written version wide width.Leb = uleb
 
 -- the value that a number of this kind stands for
-abbrev pub stands_for : Kind → ℕ → Value
+abbrev pub stands_for : NumberClass → ℕ → Value
 stands_for kind.Addr n = meant.Addr n
 stands_for kind.Unsigned n = meant.Unsigned n
 stands_for kind.Flag n = meant.Flag (is_set n)
@@ -52,6 +52,6 @@ other_forms =
     []
 
 -- the form's value is a number of this width and kind, or no number alone
-abbrev pub IsNumberForm : ℕ → Option (Width × Kind) → Type 0
+abbrev pub IsNumberForm : ℕ → Option (Width × NumberClass) → Type 0
 IsNumberForm form (Some n) = (version : ℕ) (wide : Bool) → reader_of (plain_forms version wide) form ≡ by (written version wide n.0) (stands_for n.1)
 IsNumberForm form None = (version : ℕ) (wide : Bool) → reader_of (plain_forms version wide) form ≡ reader_of other_forms form

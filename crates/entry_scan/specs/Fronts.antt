@@ -5,11 +5,11 @@ use Rattle.index_model.specs.Meaning.{◌>>=◌}
 use Rattle.index_model.specs.Forms.{value_at}
 use Rattle.entry_scan.specs.declared.abbreviation.Spec.{Spec}
 use Rattle.entry_scan.specs.declared.sizes.Front.{Front}
-use Rattle.entry_scan.specs.declared.values.Format.{Format}
+use Rattle.entry_scan.specs.declared.values.UnitFormat.{UnitFormat}
 use Rattle.entry_scan.specs.Values.{values_at, place_read, past_bytes, TakeBytes}
 
 -- units of this version in the 32-bit format
-abbrev pub narrow : ℕ → Format
+abbrev pub narrow : ℕ → UnitFormat
 narrow version = record { version = version; wide = false }
 
 -- the values of the first k attributes take n bytes, and behind these stand the others

@@ -4,7 +4,7 @@ use Rattle.ix_base.specs.Reading.{Input}
 use Rattle.entry_scan.specs.declared.abbreviation.Spec.{Spec}
 use Rattle.entry_scan.specs.declared.jumps.Jump.{Jump}
 use Rattle.entry_scan.specs.declared.jumps.Jumps.{Jumps}
-use Rattle.entry_scan.specs.declared.values.Format.{Format}
+use Rattle.entry_scan.specs.declared.values.UnitFormat.{UnitFormat}
 use Rattle.entry_scan.specs.Fronts.{narrow}
 use Rattle.entry_scan.specs.Values.{values_at, place_read, past_bytes}
 
@@ -31,7 +31,7 @@ abbrev pub AreJumps : List Spec → Jumps → Type 0
 AreJumps specs js = (number : ℕ) → IfSome (slot js number) (IsJump specs number)
 
 -- the jump leads to the first attribute with the number
-pub record Leads (f : Format) (specs : List Spec) (number : ℕ) (j : Jump) : Type 0 where
+pub record Leads (f : UnitFormat) (specs : List Spec) (number : ℕ) (j : Jump) : Type 0 where
   pub narrow_ : f.wide ≡ false
   pub jump : IsJump specs number j
   pub own : (d : Spec) → (slice_index_or specs j.index d).attribute ≡ number

@@ -11,18 +11,18 @@ use Rattle.entry_scan.specs.declared.abbreviation.Spec.{Spec}
 use Rattle.entry_scan.specs.SeenAbbreviations.{spec_seen}
 use Rattle.index_model.specs.declared.value.Value.{Value as ReadValue}
 use Rattle.index_model.specs.FormSeen.{seen}
-use Rattle.entry_scan.specs.declared.values.Format.{Format}
+use Rattle.entry_scan.specs.declared.values.UnitFormat.{UnitFormat}
 
 -- an attribute and its value
 abbrev pub pair_seen : ℕ × ReadValue → ℕ × Value
 pair_seen p = (p.0, seen p.1)
 
 -- a unit of this version and format; nothing else of a unit counts for values
-abbrev pub unit_of_format : Format → UnitHeader
+abbrev pub unit_of_format : UnitFormat → UnitHeader
 unit_of_format f = record { start = 0; part = Info; length = 0; version = f.version; wide = f.wide; sort = Compile; «abbrev» = 0; body = 0; signature = 0; type_offset = 0 }
 
 -- the values of these attributes at the front
-abbrev pub values_at : Format → List Spec → Input → Result (List (ℕ × Value) × Input) ℕ
+abbrev pub values_at : UnitFormat → List Spec → Input → Result (List (ℕ × Value) × Input) ℕ
 values_at f specs i = values (unit_of_format f) [] (map spec_seen specs) i
 
 -- what was read

@@ -9,13 +9,11 @@ ghost use Rattle.entry_scan.specs.SeenAbbreviations.{spec_seen};
 ghost use Rattle.entry_scan.specs.AbbreviationTables.{head_seen, heads_seen, IsWithin, IsSplit, Extends};
 
 use crate::jumps::Jumps;
-use crate::marks::Marks;
+use crate::marks::AttributeBits;
 use crate::sizes::{Front, front_of};
+use dwarf_codes::form::DW_FORM_implicit_const;
 use ix_base::Cursor;
 use std::alloc::{AllocError, AllocFailed, Global};
-
-// The form whose value stands in the table (DWARF 5, section 7.5.6).
-const IMPLICIT_CONST: u64 = 0x21;
 
 /// An attribute and its form.
 #[derive(Clone, Copy, Debug, PartialEq, Eq)]
@@ -62,32 +60,32 @@ impl<T: Drop> From<AllocFailed<T>> for BadAbbrev {
 
 // What stands of an abbreviation before its attributes, and which of all attributes are its own.
 #[derive(Clone, Copy)]
-pub(crate) struct Head {
+pub(crate) struct AbbrevHead {
     pub(crate) code: u64,
     pub(crate) tag: u64,
     pub(crate) start: usize,
     pub(crate) end: usize,
     pub(crate) front: Front,
-    pub(crate) marks: Marks,
+    pub(crate) marks: AttributeBits,
     pub(crate) jumps: Jumps,
     pub(crate) children: bool,
 }
 
 // Where the head of a code stands.
 #[derive(Clone, Copy, PartialEq, Eq, PartialOrd, Ord)]
-pub(crate) struct Place {
+pub(crate) struct CodeIndex {
     pub(crate) code: u64,
     pub(crate) index: usize,
 }
 
 // The abbreviations that were read so far, in the order in which they stand in the table.
 #[derive(Drop)]
-pub(crate) struct Parts {
-    pub(crate) heads: Vec<Head>,
+pub(crate) struct AbbrevsSoFar {
+    pub(crate) heads: Vec<AbbrevHead>,
     // The attributes of all heads, one head's after another's.
     pub(crate) specs: Vec<Spec>,
     // The places of the heads behind those at the front that have the codes 1, 2, 3 and so on.
-    pub(crate) others: Vec<Place>,
+    pub(crate) others: Vec<CodeIndex>,
 }
 
 // The attribute and the form at the cursor, with the value of implicit_const.
@@ -97,7 +95,7 @@ fn read_spec(cursor: &mut Cursor<'_>) -> Option<Spec>
 {
     let attribute = cursor.uleb()?;
     let form = cursor.uleb()?;
-    let constant = if form == IMPLICIT_CONST {
+    let constant = if form == DW_FORM_implicit_const {
         cursor.sleb()?
     } else {
         0
@@ -127,7 +125,11 @@ fn read_specs(specs: &mut Vec<Spec>, cursor: &mut Cursor<'_>) -> Result<(), BadA
 
 // The head of the abbreviation of a code, whose attributes are added to those of the others.
 #[tactic(auto, unfolding(index_model::specs::Abbreviations::abbrev_with))]
-fn read_head(code: u64, specs: &mut Vec<Spec>, cursor: &mut Cursor<'_>) -> Result<Head, BadAbbrev>
+fn read_head(
+    code: u64,
+    specs: &mut Vec<Spec>,
+    cursor: &mut Cursor<'_>,
+) -> Result<AbbrevHead, BadAbbrev>
     ensures kept { Extends specs.old.items specs.new.items }
     ensures within { IfOk result (λ h. IsWithin specs.new.items h) }
     ensures code { IfOk result (λ h. h.code ≡ code) }
@@ -138,20 +140,24 @@ fn read_head(code: u64, specs: &mut Vec<Spec>, cursor: &mut Cursor<'_>) -> Resul
     let start = specs.len();
     read_specs(specs, cursor)?;
     let end = specs.len();
-    Ok(Head {
+    Ok(AbbrevHead {
         code,
         tag,
         start,
         end,
         front: front_of(&specs[start..end]),
-        marks: Marks::of(&specs[start..end]),
+        marks: AttributeBits::of(&specs[start..end]),
         jumps: Jumps::of(&specs[start..end]),
         children,
     })
 }
 
 // Adds the abbreviation of a code, which stands at the cursor.
-fn read_abbrev(code: u64, parts: &mut Parts, cursor: &mut Cursor<'_>) -> Result<(), BadAbbrev>
+fn read_abbrev(
+    code: u64,
+    parts: &mut AbbrevsSoFar,
+    cursor: &mut Cursor<'_>,
+) -> Result<(), BadAbbrev>
     requires within { All (IsWithin parts.old.specs.items) parts.old.heads.items }
     requires split { IsSplit parts.old.heads.items parts.old.others.items }
     ensures within { OnOk result (All (IsWithin parts.new.specs.items) parts.new.heads.items) }
@@ -161,21 +167,21 @@ fn read_abbrev(code: u64, parts: &mut Parts, cursor: &mut Cursor<'_>) -> Result<
     let head = read_head(code, &mut parts.specs, cursor)?;
     let index = parts.heads.len();
     if !parts.others.is_empty() || code != index as u64 + 1 {
-        parts.others.push(Place { code, index })?;
+        parts.others.push(CodeIndex { code, index })?;
     }
     parts.heads.push(head)?;
     Ok(())
 }
 
 // The abbreviations up to code 0.
-pub(crate) fn read_parts(alloc: Global, bytes: &[u8], at: usize) -> Result<Parts, BadAbbrev>
+pub(crate) fn read_parts(alloc: Global, bytes: &[u8], at: usize) -> Result<AbbrevsSoFar, BadAbbrev>
     requires { at ≤ length bytes.now }
     ensures within { IfOk result (λ p. All (IsWithin p.specs.items) p.heads.items) }
     ensures split { IfOk result (λ p. IsSplit p.heads.items p.others.items) }
     ensures value { GivesOrFails (λ p. heads_seen p.specs.items p.heads.items) result (table bytes.now at) }
 {
     let mut cursor = Cursor::new(bytes, at);
-    let mut parts = Parts {
+    let mut parts = AbbrevsSoFar {
         heads: Vec::new(alloc),
         specs: Vec::new(alloc),
         others: Vec::new(alloc),

@@ -9,9 +9,9 @@ ghost use Rattle.entry_scan.specs.Fronts.{IsFront};
 ghost use Rattle.entry_scan.specs.Marks.{AreMarks};
 ghost use Rattle.entry_scan.specs.Jumps.{AreJumps};
 
-use crate::abbreviation::{BadAbbrev, Head, Parts, Place, Spec, read_parts};
+use crate::abbreviation::{AbbrevHead, AbbrevsSoFar, BadAbbrev, CodeIndex, Spec, read_parts};
 use crate::jumps::Jumps;
-use crate::marks::Marks;
+use crate::marks::AttributeBits;
 use crate::sizes::Front;
 use std::alloc::Global;
 use std::marker::Model;
@@ -29,18 +29,18 @@ pub struct Abbrev<'t> {
 pub(crate) struct Shape<'t> {
     pub abbrev: Abbrev<'t>,
     pub front: Front,
-    pub marks: Marks,
+    pub marks: AttributeBits,
     pub jumps: &'t Jumps,
 }
 
 /// The abbreviations of a table, in the order in which they stand there.
 #[derive(Drop)]
 pub struct Abbrevs {
-    heads: Vec<Head>,
+    heads: Vec<AbbrevHead>,
     // The attributes of all heads, one head's after another's.
     specs: Vec<Spec>,
     // The heads at the front have the codes 1, 2, 3 and so on. The places of those behind them, by code and then by index.
-    others: Vec<Place>,
+    others: Vec<CodeIndex>,
 }
 
 impl Model for Abbrevs {
@@ -65,7 +65,7 @@ impl Abbrevs {
         }
         let mut parts = read_parts(alloc, bytes, offset as usize)?;
         parts.others.sort_unstable();
-        let Parts {
+        let AbbrevsSoFar {
             heads,
             specs,
             others,
@@ -131,7 +131,7 @@ impl Abbrevs {
 }
 
 // How many places have a lower code.
-fn lower_codes(places: &[Place], code: u64) -> usize
+fn lower_codes(places: &[CodeIndex], code: u64) -> usize
     requires { AreInOrder places.now }
     ensures { Cuts places.now code result }
 {

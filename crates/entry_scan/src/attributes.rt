@@ -5,7 +5,7 @@ ghost use Rattle.std.specs.Iterator.{YieldsFirstBy, item_count};
 ghost use Rattle.entry_scan.specs.Values.{values_at, value_read, IsRead};
 
 use crate::abbreviation::Spec;
-use crate::values::{Format, read};
+use crate::values::{UnitFormat, read};
 use index_model::Value;
 use ix_base::Cursor;
 use std::marker::Model;
@@ -16,7 +16,7 @@ use std::marker::Model;
 pub struct Attributes<'a> {
     specs: &'a [Spec],
     cursor: Cursor<'a>,
-    format: Format,
+    format: UnitFormat,
 }
 
 impl<'a> Model for Attributes<'a> {
@@ -36,7 +36,7 @@ impl<'a> Attributes<'a> {
     ghost use Rattle.entry_scan.specs.Values.{values_at, value_read, IsRead};
 
     // The attributes whose values begin at the cursor.
-    pub(crate) fn new(specs: &'a [Spec], cursor: Cursor<'a>, format: Format) -> Attributes<'a>
+    pub(crate) fn new(specs: &'a [Spec], cursor: Cursor<'a>, format: UnitFormat) -> Attributes<'a>
         requires { IsRead (values_at format specs.now cursor) }
         ensures { result ≡ value_read (values_at format specs.now cursor.entry) }
     {

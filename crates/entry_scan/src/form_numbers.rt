@@ -8,7 +8,7 @@ ghost use Rattle.index_model.specs.Gives.{GivesAlways};
 ghost use Rattle.entry_scan.specs.FormNumbers.{written, stands_for, IsNumberForm};
 ghost use Rattle.index_model.specs.FormSeen.{seen};
 
-use crate::form_codes as form;
+use dwarf_codes::form;
 use index_model::Value;
 use ix_base::Cursor;
 use ix_base::code::TRUNCATED;
@@ -31,7 +31,7 @@ pub(crate) enum Width {
 
 /// What a number stands for, by the variant of `Value` of the same name.
 #[derive(Clone, Copy)]
-pub(crate) enum Kind {
+pub(crate) enum NumberClass {
     Addr,
     Unsigned,
     Flag,
@@ -48,61 +48,61 @@ pub(crate) enum Kind {
 }
 
 /// The width of the form's number, and what the number stands for. None where the form isn't that of a number alone.
-pub(crate) fn number_form(form: u64) -> Option<(Width, Kind)>
+pub(crate) fn number_form(form: u64) -> Option<(Width, NumberClass)>
     ensures { IsNumberForm form result }
 {
     match form {
-        form::DATA1 => Some((Width::One, Kind::Unsigned)),
-        form::FLAG => Some((Width::One, Kind::Flag)),
-        form::REF1 => Some((Width::One, Kind::Near)),
-        form::STRX1 => Some((Width::One, Kind::StrIndex)),
-        form::ADDRX1 => Some((Width::One, Kind::AddrIndex)),
-        form::DATA2 => Some((Width::Two, Kind::Unsigned)),
-        form::REF2 => Some((Width::Two, Kind::Near)),
-        form::STRX2 => Some((Width::Two, Kind::StrIndex)),
-        form::ADDRX2 => Some((Width::Two, Kind::AddrIndex)),
-        form::STRX3 => Some((Width::Three, Kind::StrIndex)),
-        form::ADDRX3 => Some((Width::Three, Kind::AddrIndex)),
-        form::DATA4 => Some((Width::Four, Kind::Unsigned)),
-        form::REF4 => Some((Width::Four, Kind::Near)),
-        form::STRX4 => Some((Width::Four, Kind::StrIndex)),
-        form::ADDRX4 => Some((Width::Four, Kind::AddrIndex)),
-        form::ADDR => Some((Width::Eight, Kind::Addr)),
-        form::DATA8 => Some((Width::Eight, Kind::Unsigned)),
-        form::REF8 => Some((Width::Eight, Kind::Near)),
-        form::REF_SIG8 => Some((Width::Eight, Kind::Signature)),
-        form::STRP => Some((Width::Offset, Kind::Str)),
-        form::REF_ADDR => Some((Width::Reference, Kind::Far)),
-        form::SEC_OFFSET => Some((Width::Offset, Kind::Offset)),
-        form::LINE_STRP => Some((Width::Offset, Kind::LineStr)),
-        form::UDATA => Some((Width::Leb, Kind::Unsigned)),
-        form::REF_UDATA => Some((Width::Leb, Kind::Near)),
-        form::STRX => Some((Width::Leb, Kind::StrIndex)),
-        form::ADDRX => Some((Width::Leb, Kind::AddrIndex)),
-        form::LOCLISTX => Some((Width::Leb, Kind::ListIndex)),
-        form::RNGLISTX => Some((Width::Leb, Kind::RangeIndex)),
+        form::DW_FORM_data1 => Some((Width::One, NumberClass::Unsigned)),
+        form::DW_FORM_flag => Some((Width::One, NumberClass::Flag)),
+        form::DW_FORM_ref1 => Some((Width::One, NumberClass::Near)),
+        form::DW_FORM_strx1 => Some((Width::One, NumberClass::StrIndex)),
+        form::DW_FORM_addrx1 => Some((Width::One, NumberClass::AddrIndex)),
+        form::DW_FORM_data2 => Some((Width::Two, NumberClass::Unsigned)),
+        form::DW_FORM_ref2 => Some((Width::Two, NumberClass::Near)),
+        form::DW_FORM_strx2 => Some((Width::Two, NumberClass::StrIndex)),
+        form::DW_FORM_addrx2 => Some((Width::Two, NumberClass::AddrIndex)),
+        form::DW_FORM_strx3 => Some((Width::Three, NumberClass::StrIndex)),
+        form::DW_FORM_addrx3 => Some((Width::Three, NumberClass::AddrIndex)),
+        form::DW_FORM_data4 => Some((Width::Four, NumberClass::Unsigned)),
+        form::DW_FORM_ref4 => Some((Width::Four, NumberClass::Near)),
+        form::DW_FORM_strx4 => Some((Width::Four, NumberClass::StrIndex)),
+        form::DW_FORM_addrx4 => Some((Width::Four, NumberClass::AddrIndex)),
+        form::DW_FORM_addr => Some((Width::Eight, NumberClass::Addr)),
+        form::DW_FORM_data8 => Some((Width::Eight, NumberClass::Unsigned)),
+        form::DW_FORM_ref8 => Some((Width::Eight, NumberClass::Near)),
+        form::DW_FORM_ref_sig8 => Some((Width::Eight, NumberClass::Signature)),
+        form::DW_FORM_strp => Some((Width::Offset, NumberClass::Str)),
+        form::DW_FORM_ref_addr => Some((Width::Reference, NumberClass::Far)),
+        form::DW_FORM_sec_offset => Some((Width::Offset, NumberClass::Offset)),
+        form::DW_FORM_line_strp => Some((Width::Offset, NumberClass::LineStr)),
+        form::DW_FORM_udata => Some((Width::Leb, NumberClass::Unsigned)),
+        form::DW_FORM_ref_udata => Some((Width::Leb, NumberClass::Near)),
+        form::DW_FORM_strx => Some((Width::Leb, NumberClass::StrIndex)),
+        form::DW_FORM_addrx => Some((Width::Leb, NumberClass::AddrIndex)),
+        form::DW_FORM_loclistx => Some((Width::Leb, NumberClass::ListIndex)),
+        form::DW_FORM_rnglistx => Some((Width::Leb, NumberClass::RangeIndex)),
         _ => None,
     }
 }
 
 /// The value that a number of this kind stands for.
-pub(crate) fn value_of<'a>(kind: Kind, number: u64) -> Value<'a>
+pub(crate) fn value_of<'a>(kind: NumberClass, number: u64) -> Value<'a>
     ensures { seen result ≡ stands_for kind number }
 {
     match kind {
-        Kind::Addr => Value::Addr(number),
-        Kind::Unsigned => Value::Unsigned(number),
-        Kind::Flag => Value::Flag(number != 0),
-        Kind::Str => Value::Str(number),
-        Kind::LineStr => Value::LineStr(number),
-        Kind::StrIndex => Value::StrIndex(number),
-        Kind::AddrIndex => Value::AddrIndex(number),
-        Kind::Near => Value::Near(number),
-        Kind::Far => Value::Far(number),
-        Kind::Signature => Value::Signature(number),
-        Kind::Offset => Value::Offset(number),
-        Kind::RangeIndex => Value::RangeIndex(number),
-        Kind::ListIndex => Value::ListIndex(number),
+        NumberClass::Addr => Value::Addr(number),
+        NumberClass::Unsigned => Value::Unsigned(number),
+        NumberClass::Flag => Value::Flag(number != 0),
+        NumberClass::Str => Value::Str(number),
+        NumberClass::LineStr => Value::LineStr(number),
+        NumberClass::StrIndex => Value::StrIndex(number),
+        NumberClass::AddrIndex => Value::AddrIndex(number),
+        NumberClass::Near => Value::Near(number),
+        NumberClass::Far => Value::Far(number),
+        NumberClass::Signature => Value::Signature(number),
+        NumberClass::Offset => Value::Offset(number),
+        NumberClass::RangeIndex => Value::RangeIndex(number),
+        NumberClass::ListIndex => Value::ListIndex(number),
     }
 }
 

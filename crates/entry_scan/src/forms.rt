@@ -11,8 +11,8 @@ ghost use Rattle.index_model.specs.Forms.{by, counted, Block, Inline, Signed, Wi
 ghost use Rattle.entry_scan.specs.FormNumbers.{other_forms};
 ghost use Rattle.index_model.specs.FormSeen.{seen};
 
-use crate::form_codes as form;
 use crate::form_numbers::{four, leb, number_form, one, read_number, two, value_of};
+use dwarf_codes::form;
 use index_model::Value;
 use ix_base::Cursor;
 use ix_base::code::{SUPPLEMENTARY, TRUNCATED, UNKNOWN_FORM};
@@ -108,15 +108,17 @@ fn other<'a>(form: u64, cursor: &mut Cursor<'a>) -> Result<Value<'a>, u8>
     ensures place { MovesOn cursor.old cursor.new }
 {
     match form {
-        form::FLAG_PRESENT => Ok(Value::Flag(true)),
-        form::DATA16 => sixteen(cursor),
-        form::SDATA => signed(cursor),
-        form::BLOCK1 => block1(cursor),
-        form::BLOCK2 => block2(cursor),
-        form::BLOCK4 => block4(cursor),
-        form::BLOCK | form::EXPRLOC => block_leb(cursor),
-        form::STRING => string(cursor),
-        form::REF_SUP4 | form::STRP_SUP | form::REF_SUP8 => Err(SUPPLEMENTARY),
+        form::DW_FORM_flag_present => Ok(Value::Flag(true)),
+        form::DW_FORM_data16 => sixteen(cursor),
+        form::DW_FORM_sdata => signed(cursor),
+        form::DW_FORM_block1 => block1(cursor),
+        form::DW_FORM_block2 => block2(cursor),
+        form::DW_FORM_block4 => block4(cursor),
+        form::DW_FORM_block | form::DW_FORM_exprloc => block_leb(cursor),
+        form::DW_FORM_string => string(cursor),
+        form::DW_FORM_ref_sup4 | form::DW_FORM_strp_sup | form::DW_FORM_ref_sup8 => Err(
+            SUPPLEMENTARY,
+        ),
         _ => Err(UNKNOWN_FORM),
     }
 }
@@ -149,8 +151,8 @@ pub fn read_value<'a>(
     ensures place { MovesOn cursor.old cursor.new }
 {
     match form {
-        form::INDIRECT => behind(wide, version, cursor),
-        form::IMPLICIT_CONST => Ok(Value::Signed(constant)),
+        form::DW_FORM_indirect => behind(wide, version, cursor),
+        form::DW_FORM_implicit_const => Ok(Value::Signed(constant)),
         _ => plain(wide, version, form, cursor),
     }
 }

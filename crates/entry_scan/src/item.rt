@@ -3,7 +3,7 @@
 ghost use Rattle.std.specs.Prelude.{◌≡◌, ◌≤◌, ◌<◌, ◌^◌};
 
 use crate::attributes::Attributes;
-use crate::marks::Marks;
+use crate::marks::AttributeBits;
 use crate::written::Written;
 use index_model::Value;
 use std::marker::Model;
@@ -17,7 +17,7 @@ pub struct Item<'a> {
     pub(crate) depth: u32,
     pub(crate) children: bool,
     pub(crate) tag: u64,
-    pub(crate) marks: Marks,
+    pub(crate) marks: AttributeBits,
     pub(crate) values: Written<'a>,
 }
 

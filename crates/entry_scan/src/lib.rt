@@ -8,7 +8,6 @@
 mod abbreviation;
 mod abbreviations;
 mod attributes;
-mod form_codes;
 mod form_numbers;
 mod forms;
 mod inside;

@@ -7,16 +7,16 @@ use crate::abbreviation::Spec;
 
 /// A bit for each number divided by 64 leaves: it is set where an attribute of such a number may be there.
 #[derive(Clone, Copy)]
-pub(crate) struct Marks {
+pub(crate) struct AttributeBits {
     bits: u64,
 }
 
-impl Marks {
+impl AttributeBits {
     /// Those of these attributes.
-    pub fn of(specs: &[Spec]) -> Marks
+    pub fn of(specs: &[Spec]) -> AttributeBits
         ensures { AreMarks specs.now result }
     {
-        let mut marks = Marks { bits: 0 };
+        let mut marks = AttributeBits { bits: 0 };
         for spec in specs {
             marks = marks.with(spec.attribute);
         }
@@ -24,11 +24,11 @@ impl Marks {
     }
 
     // These, and that of one more attribute.
-    fn with(self, attribute: u64) -> Marks
+    fn with(self, attribute: u64) -> AttributeBits
         ensures one { HasMark result attribute }
         ensures others { (other : ℕ) → HasMark self other → HasMark result other }
     {
-        Marks {
+        AttributeBits {
             bits: self.bits | (1 << (attribute % 64)),
         }
     }

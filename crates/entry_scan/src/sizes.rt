@@ -6,6 +6,13 @@ ghost use Rattle.entry_scan.specs.Values.{TakeBytes};
 ghost use Rattle.entry_scan.specs.Fronts.{IsFront, TakesNext};
 
 use crate::abbreviation::Spec;
+use dwarf_codes::form::{
+    DW_FORM_addr, DW_FORM_addrx1, DW_FORM_addrx2, DW_FORM_addrx3, DW_FORM_addrx4, DW_FORM_data1,
+    DW_FORM_data2, DW_FORM_data4, DW_FORM_data8, DW_FORM_data16, DW_FORM_flag,
+    DW_FORM_flag_present, DW_FORM_implicit_const, DW_FORM_line_strp, DW_FORM_ref_sig8,
+    DW_FORM_ref1, DW_FORM_ref2, DW_FORM_ref4, DW_FORM_ref8, DW_FORM_sec_offset, DW_FORM_strp,
+    DW_FORM_strx1, DW_FORM_strx2, DW_FORM_strx3, DW_FORM_strx4,
+};
 
 /// The attributes at the front of an abbreviation whose values take the same bytes in each entry of a unit of the 32-bit format.
 #[derive(Clone, Copy)]
@@ -22,14 +29,14 @@ pub(crate) fn size_of(form: u64, wide: bool) -> Option<u32>
     ensures { IfSome result (λ n. (version : ℕ) → TakeBytes n (value_at version wide form)) }
 {
     match form {
-        0x19 | 0x21 => Some(0),
-        0x0b | 0x0c | 0x11 | 0x25 | 0x29 => Some(1),
-        0x05 | 0x12 | 0x26 | 0x2a => Some(2),
-        0x27 | 0x2b => Some(3),
-        0x06 | 0x13 | 0x28 | 0x2c => Some(4),
-        0x01 | 0x07 | 0x14 | 0x20 => Some(8),
-        0x1e => Some(16),
-        0x0e | 0x17 | 0x1f => Some(if wide { 8 } else { 4 }),
+        DW_FORM_flag_present | DW_FORM_implicit_const => Some(0),
+        DW_FORM_data1 | DW_FORM_flag | DW_FORM_ref1 | DW_FORM_strx1 | DW_FORM_addrx1 => Some(1),
+        DW_FORM_data2 | DW_FORM_ref2 | DW_FORM_strx2 | DW_FORM_addrx2 => Some(2),
+        DW_FORM_strx3 | DW_FORM_addrx3 => Some(3),
+        DW_FORM_data4 | DW_FORM_ref4 | DW_FORM_strx4 | DW_FORM_addrx4 => Some(4),
+        DW_FORM_addr | DW_FORM_data8 | DW_FORM_ref8 | DW_FORM_ref_sig8 => Some(8),
+        DW_FORM_data16 => Some(16),
+        DW_FORM_strp | DW_FORM_sec_offset | DW_FORM_line_strp => Some(if wide { 8 } else { 4 }),
         _ => None,
     }
 }

@@ -10,8 +10,11 @@ ghost use Rattle.entry_scan.specs.Jumps.{AreJumps};
 
 use crate::abbreviations::{Abbrevs, Shape};
 use crate::item::Item;
-use crate::values::{Format, pass_all};
+use crate::values::{UnitFormat, pass_all};
 use crate::written::Written;
+use dwarf_codes::tag::{
+    DW_TAG_compile_unit, DW_TAG_partial_unit, DW_TAG_skeleton_unit, DW_TAG_type_unit,
+};
 use index_model::Unit;
 use ix_base::code::{BAD_CODE, BAD_ROOT, DEPTH, TRUNCATED};
 use ix_base::{Cursor, MAX_DEPTH};
@@ -62,12 +65,12 @@ impl Levels {
 
 /// A unit and its abbreviations.
 #[derive(Clone, Copy)]
-pub(crate) struct Frame<'a> {
+pub(crate) struct UnitAbbrevs<'a> {
     pub unit: Unit,
     pub abbrevs: &'a Abbrevs,
 }
 
-impl<'a> Frame<'a> {
+impl<'a> UnitAbbrevs<'a> {
     ghost use Rattle.index_model.specs.Walk.{token_at, entry_at};
     ghost use Rattle.entry_scan.specs.SeenAbbreviations.{abbrev_seen};
     ghost use Rattle.entry_scan.specs.Tokens.{token_seen, levels_seen, joint, OnEntry};
@@ -136,7 +139,7 @@ impl<'a> Frame<'a> {
         if !may_stand(levels.root, abbrev.tag) {
             return Err(BAD_ROOT);
         }
-        let format = Format {
+        let format = UnitFormat {
             version: self.unit.version,
             wide: self.unit.wide,
         };
@@ -172,5 +175,8 @@ fn is_null(root: bool, code: u64) -> bool
 fn may_stand(root: bool, tag: u64) -> bool
     ensures { result ≡ (root || is_root_tag tag) }
 {
-    root || matches!(tag, 0x11 | 0x3c | 0x41 | 0x4a)
+    root || matches!(
+        tag,
+        DW_TAG_compile_unit | DW_TAG_partial_unit | DW_TAG_type_unit | DW_TAG_skeleton_unit
+    )
 }

@@ -4,14 +4,14 @@ ghost use Rattle.std.specs.Prelude.{◌≡◌, ◌≤◌, ◌<◌, ◌+◌, ◌^
 ghost use Rattle.ix_base.specs.Moves.{MovesOn};
 ghost use Rattle.index_model.specs.Walk.{is_over, tail_of};
 
-use crate::token::{Frame, Levels, Token};
+use crate::token::{Levels, Token, UnitAbbrevs};
 use ix_base::code::TRAILING_BYTES;
 use ix_base::{Cursor, Fault};
 
 /// The tokens of a unit from a place on.
 #[derive(Drop)]
 pub(crate) struct Tree<'a> {
-    pub frame: Frame<'a>,
+    pub frame: UnitAbbrevs<'a>,
     pub cursor: Cursor<'a>,
     pub levels: Levels,
 }

@@ -9,17 +9,17 @@ ghost use Rattle.entry_scan.specs.Fronts.{IsFront};
 ghost use Rattle.entry_scan.specs.Values.{values_at, place_read};
 
 use crate::abbreviation::Spec;
-use crate::form_codes::{EXPRLOC, LOCLISTX, UDATA};
 use crate::form_numbers::leb;
 use crate::forms::{block_leb, read_value};
 use crate::sizes::{Front, size_of};
+use dwarf_codes::form::{DW_FORM_exprloc, DW_FORM_loclistx, DW_FORM_udata};
 use index_model::Value;
 use ix_base::Cursor;
 use ix_base::code::TRUNCATED;
 
 /// How the numbers of a unit's entries are written.
 #[derive(Clone, Copy)]
-pub(crate) struct Format {
+pub(crate) struct UnitFormat {
     pub version: u16,
     pub wide: bool,
 }
@@ -27,7 +27,7 @@ pub(crate) struct Format {
 // The value at the cursor, by its spec.
 pub(crate) fn read<'a>(
     spec: &Spec,
-    format: Format,
+    format: UnitFormat,
     cursor: &mut Cursor<'a>,
 ) -> Result<Value<'a>, u8>
     ensures value { GivesAlways (λ v. (seen v, cursor.new)) result (value_at format.version format.wide spec.now.form spec.now.constant cursor.old) }
@@ -43,7 +43,7 @@ pub(crate) fn read<'a>(
 }
 
 // Passes the value at the cursor, by its spec. Where its size is known it isn't read.
-pub(crate) fn pass_one(spec: &Spec, format: Format, cursor: &mut Cursor<'_>) -> Result<(), u8>
+pub(crate) fn pass_one(spec: &Spec, format: UnitFormat, cursor: &mut Cursor<'_>) -> Result<(), u8>
     ensures value { GivesAlways (λ _. cursor.new) result (place_read (value_at format.version format.wide spec.now.form spec.now.constant cursor.old)) }
     ensures place { MovesOn cursor.old cursor.new }
 {
@@ -58,16 +58,16 @@ pub(crate) fn pass_one(spec: &Spec, format: Format, cursor: &mut Cursor<'_>) -> 
 
 // Passes a value that says itself how many bytes it takes. The forms that compilers write most are read with no value made of them.
 #[tactic(auto, unfolding(index_model::specs::Forms::value_at))]
-fn pass_counted(spec: &Spec, format: Format, cursor: &mut Cursor<'_>) -> Result<(), u8>
+fn pass_counted(spec: &Spec, format: UnitFormat, cursor: &mut Cursor<'_>) -> Result<(), u8>
     ensures value { GivesAlways (λ _. cursor.new) result (place_read (value_at format.version format.wide spec.now.form spec.now.constant cursor.old)) }
     ensures place { MovesOn cursor.old cursor.new }
 {
     match spec.form {
-        EXPRLOC => match block_leb(cursor) {
+        DW_FORM_exprloc => match block_leb(cursor) {
             Ok(_) => Ok(()),
             Err(code) => Err(code),
         },
-        UDATA | LOCLISTX => match leb(cursor) {
+        DW_FORM_udata | DW_FORM_loclistx => match leb(cursor) {
             Ok(_) => Ok(()),
             Err(code) => Err(code),
         },
@@ -79,7 +79,7 @@ fn pass_counted(spec: &Spec, format: Format, cursor: &mut Cursor<'_>) -> Result<
 }
 
 // Passes the values at the cursor. The error is that of the first value that can't be read.
-pub(crate) fn pass(specs: &[Spec], format: Format, cursor: &mut Cursor<'_>) -> Result<(), u8>
+pub(crate) fn pass(specs: &[Spec], format: UnitFormat, cursor: &mut Cursor<'_>) -> Result<(), u8>
     ensures value { GivesAlways (λ _. cursor.new) result (place_read (values_at format specs.now cursor.old)) }
     ensures place { MovesOn cursor.old cursor.new }
 {
@@ -95,7 +95,7 @@ pub(crate) fn pass(specs: &[Spec], format: Format, cursor: &mut Cursor<'_>) -> R
 pub(crate) fn pass_all(
     specs: &[Spec],
     front: Front,
-    format: Format,
+    format: UnitFormat,
     cursor: &mut Cursor<'_>,
 ) -> Result<(), u8>
     requires { IsFront specs.now front }

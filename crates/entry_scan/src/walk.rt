@@ -4,7 +4,7 @@ ghost use Rattle.std.specs.Prelude.{◌≡◌, ◌≤◌, ◌<◌, ◌+◌, ◌^
 
 use crate::abbreviations::Abbrevs;
 use crate::item::Item;
-use crate::token::{Frame, Levels, Token};
+use crate::token::{Levels, Token, UnitAbbrevs};
 use crate::tree::Tree;
 use index_model::{Span, Unit};
 use ix_base::{Cursor, Fault};
@@ -46,7 +46,7 @@ impl<'a> Walk<'a> {
             root: false,
             depth: 0,
         };
-        let frame = Frame {
+        let frame = UnitAbbrevs {
             unit: *unit,
             abbrevs,
         };
@@ -78,7 +78,7 @@ impl<'a> Walk<'a> {
             root: true,
             depth: span.depth + 1,
         };
-        let frame = Frame {
+        let frame = UnitAbbrevs {
             unit: *unit,
             abbrevs,
         };

@@ -8,9 +8,9 @@ ghost use Rattle.entry_scan.specs.Values.{values_at, value_read, IsRead};
 
 use crate::abbreviation::Spec;
 use crate::attributes::Attributes;
-use crate::form_codes::{FLAG_PRESENT, STRP};
 use crate::jumps::{Jump, Jumps};
-use crate::values::{Format, pass_one, read};
+use crate::values::{UnitFormat, pass_one, read};
+use dwarf_codes::form::{DW_FORM_flag_present, DW_FORM_strp};
 use index_model::Value;
 use ix_base::Cursor;
 
@@ -20,7 +20,7 @@ pub(crate) struct Written<'a> {
     pub specs: &'a [Spec],
     pub jumps: &'a Jumps,
     pub cursor: Cursor<'a>,
-    pub format: Format,
+    pub format: UnitFormat,
 }
 
 impl<'a> Written<'a> {
@@ -62,7 +62,7 @@ impl<'a> Written<'a> {
         let Some(jump) = self.led(number) else {
             return false;
         };
-        self.specs[jump.index as usize].form == FLAG_PRESENT
+        self.specs[jump.index as usize].form == DW_FORM_flag_present
     }
 
     /// The offset into `.debug_str` at which the first attribute with this number stands, if one look tells it.
@@ -73,7 +73,7 @@ impl<'a> Written<'a> {
         ensures { IfSome result (λ at. option_map (λ v. v.1) (find (λ v. v.0 == number) (value_read (values_at self.now.format self.now.specs.now self.now.cursor))) ≡ Some (Str at)) }
     {
         let jump = self.led(number)?;
-        if self.specs[jump.index as usize].form != STRP {
+        if self.specs[jump.index as usize].form != DW_FORM_strp {
             return None;
         }
         let mut cursor = self.cursor.copied();
@@ -110,7 +110,7 @@ impl<'a> Written<'a> {
 fn jumped<'a>(
     specs: &[Spec],
     jump: Jump,
-    format: Format,
+    format: UnitFormat,
     cursor: Cursor<'a>,
     number: u64,
 ) -> Option<Value<'a>>
@@ -127,7 +127,12 @@ fn jumped<'a>(
 }
 
 // The same, where each value before it is passed.
-fn sought<'a>(specs: &[Spec], format: Format, cursor: Cursor<'a>, number: u64) -> Option<Value<'a>>
+fn sought<'a>(
+    specs: &[Spec],
+    format: UnitFormat,
+    cursor: Cursor<'a>,
+    number: u64,
+) -> Option<Value<'a>>
     requires { IsRead (values_at format specs.now cursor) }
     ensures { option_map seen result ≡ option_map (λ v. v.1) (find (λ v. v.0 == number) (value_read (values_at format specs.now cursor.entry))) }
 {

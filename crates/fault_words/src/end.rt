@@ -2,7 +2,7 @@
 
 /// Which words of the command line a sentence speaks of.
 #[derive(Clone, Copy)]
-pub enum About {
+pub enum FilesMeant {
     Nothing,
     /// The files that are read.
     Read,
@@ -12,9 +12,9 @@ pub enum About {
 
 /// An end of the program: its status, and what is said of it where no fault with a code says more.
 #[derive(Clone, Copy)]
-pub struct End {
+pub struct StatusText {
     pub status: u8,
-    pub about: About,
+    pub about: FilesMeant,
     pub sentence: &'static str,
     pub remedy: &'static str,
 }
@@ -22,12 +22,12 @@ pub struct End {
 // Rows of the table: the status, what it speaks of, the sentence and the remedy.
 macro_rules! ends {
     ($($status:literal $about:ident $sentence:literal $remedy:literal;)+) => {
-        [$(End { status: $status, about: About::$about, sentence: $sentence, remedy: $remedy }),+]
+        [$(StatusText { status: $status, about: FilesMeant::$about, sentence: $sentence, remedy: $remedy }),+]
     };
 }
 
 /// All statuses but 0 and 2. The first stands for a status that isn't in the table.
-pub static ENDS: [End; 15] = ends! {
+pub static ENDS: [StatusText; 15] = ends! {
     255 Nothing "the program ended with an unknown status" "please report it";
     1 Read "the debug information is refused" "gdbix ask FILE main says why";
     3 Read "can't be read" "see that it is there, is a file, and that you may read it";
@@ -46,7 +46,7 @@ pub static ENDS: [End; 15] = ends! {
 };
 
 /// What is said of a status.
-pub(crate) fn end_of(status: u8) -> &'static End {
+pub(crate) fn end_of(status: u8) -> &'static StatusText {
     ENDS.iter()
         .find(|end| end.status == status)
         .unwrap_or(&ENDS[0])

@@ -5,7 +5,7 @@ ghost use Rattle.std.specs.Option.{ForSome, option_copied};
 
 /// Of what the place behind a code is an offset or a number.
 #[derive(Clone, Copy)]
-pub enum Place {
+pub enum PlaceKind {
     /// Of nothing.
     Nowhere,
     /// A byte of the file.
@@ -26,10 +26,10 @@ pub enum Place {
 
 /// A fault: its code, its name, and what is said of it.
 #[derive(Clone, Copy)]
-pub struct Fault {
+pub struct FaultText {
     pub code: u8,
     pub name: &'static str,
-    pub place: Place,
+    pub place: PlaceKind,
     pub sentence: &'static str,
     pub remedy: &'static str,
 }
@@ -47,13 +47,13 @@ const KEPT: &str = "a new index is built";
 // Rows of the table: the code, the name, what the place is, the sentence and the remedy.
 macro_rules! faults {
     ($($code:literal $name:literal $place:ident $sentence:literal $remedy:expr;)+) => {
-        [$(Fault { code: $code, name: $name, place: Place::$place, sentence: $sentence, remedy: $remedy }),+]
+        [$(FaultText { code: $code, name: $name, place: PlaceKind::$place, sentence: $sentence, remedy: $remedy }),+]
     };
 }
 
 /// All faults, by ascending codes: those of a program, of a `.gdb_index` and a `.debug_names`, of an address table, of line tables, and
 /// of a kept index.
-pub static FAULTS: [Fault; 53] = faults! {
+pub static FAULTS: [FaultText; 53] = faults! {
     1 "not-elf" Nowhere "not an ELF file" "name a linked program, a shared object or a .debug file (of an archive, what was linked from it)";
     2 "elf-kind" Byte "not a 64-bit little-endian program or shared object" "link a .o or .ko first; 32-bit and big-endian files aren't read";
     3 "section-table" Section "the table of sections or a section in it leaves the file" "the file is cut or damaged: copy or build it again";
@@ -110,14 +110,14 @@ pub static FAULTS: [Fault; 53] = faults! {
 };
 
 /// The fault with this code, if the table has it.
-pub fn fault_of(code: u8) -> Option<&'static Fault>
+pub fn fault_of(code: u8) -> Option<&'static FaultText>
     ensures { ForSome result (λ f. f.now.code ≡ code) }
 {
     row_of(&FAULTS, code)
 }
 
 /// The first of these rows that has this code.
-pub fn row_of(rows: &[Fault], code: u8) -> Option<&Fault>
+pub fn row_of(rows: &[FaultText], code: u8) -> Option<&FaultText>
     ensures row { option_copied result ≡ find (λ f. f.code == code) rows.now }
     ensures own { ForSome result (λ f. f.now.code ≡ code) }
 {

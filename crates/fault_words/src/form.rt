@@ -2,7 +2,7 @@
 
 /// What stands for a value.
 #[derive(Clone, Copy)]
-pub(crate) enum Kind {
+pub(crate) enum ArgumentKind {
     /// A word that isn't empty and doesn't begin with `--`.
     File,
     /// A decimal number without a sign or a leading zero.
@@ -15,9 +15,9 @@ pub(crate) enum Kind {
 
 /// An option or an operand.
 #[derive(Clone, Copy)]
-pub struct Value {
+pub struct Argument {
     pub name: &'static str,
-    pub(crate) kind: Kind,
+    pub(crate) kind: ArgumentKind,
     /// The kind in words.
     pub takes: &'static str,
     /// Whether it has to be there, of an option.
@@ -30,8 +30,8 @@ pub struct Form {
     pub command: &'static str,
     /// The second word of the command, empty where it has none.
     pub second: &'static str,
-    pub(crate) options: &'static [Value],
-    pub(crate) operands: &'static [Value],
+    pub(crate) options: &'static [Argument],
+    pub(crate) operands: &'static [Argument],
     /// The first words of its queries.
     pub(crate) queries: &'static [&'static str],
 }
@@ -41,44 +41,44 @@ const FILE: &str = "the name of a file, which doesn't begin with --";
 // The name of a file.
 macro_rules! file {
     ($name:literal) => {
-        Value { name: $name, kind: Kind::File, takes: FILE, is_needed: true }
+        Argument { name: $name, kind: ArgumentKind::File, takes: FILE, is_needed: true }
     };
 }
 
 // A number within bounds.
 macro_rules! number {
     ($name:literal $low:literal $high:literal $takes:literal) => {
-        Value { name: $name, kind: Kind::Number { low: $low, high: $high }, takes: $takes, is_needed: false }
+        Argument { name: $name, kind: ArgumentKind::Number { low: $low, high: $high }, takes: $takes, is_needed: false }
     };
 }
 
-const KIND: Value = Value {
+const KIND: Argument = Argument {
     name: "--as",
-    kind: Kind::Index,
+    kind: ArgumentKind::Index,
     takes: "gdb8, gdb9 or names",
     is_needed: true,
 };
 
-const QUOTE: Value = Value {
+const QUOTE: Argument = Argument {
     name: "--quote",
-    kind: Kind::Flag,
+    kind: ArgumentKind::Flag,
     takes: "",
     is_needed: false,
 };
 
-const WORKERS: Value = number!("--workers" 1 64 "a number from 1 to 64");
+const WORKERS: Argument = number!("--workers" 1 64 "a number from 1 to 64");
 
-const READERS: Value = number!("--readers" 1 16 "a number from 1 to 16");
+const READERS: Argument = number!("--readers" 1 16 "a number from 1 to 16");
 
-const WAIT: Value = number!("--wait" 0 3 "a number from 0 to 3");
+const WAIT: Argument = number!("--wait" 0 3 "a number from 0 to 3");
 
-const BASE: Value = number!("--base" 0 4294967295 "a number from 0 to 4294967295");
+const BASE: Argument = number!("--base" 0 4294967295 "a number from 0 to 4294967295");
 
-const SEED: Value = number!("SEED" 0 4294967295 "a number from 0 to 4294967295");
+const SEED: Argument = number!("SEED" 0 4294967295 "a number from 0 to 4294967295");
 
-const UNITS: Value = number!("UNITS" 1 100000 "a number from 1 to 100000");
+const UNITS: Argument = number!("UNITS" 1 100000 "a number from 1 to 100000");
 
-const N: Value = number!("N" 1 64 "a number from 1 to 64");
+const N: Argument = number!("N" 1 64 "a number from 1 to 64");
 
 // Rows of the table: the command, its second word, its options, operands and queries.
 macro_rules! forms {

@@ -9,8 +9,8 @@ mod help;
 mod message;
 mod usage;
 
-pub use end::{About, End};
-pub use fault::{FAULTS, Fault, Place, fault_of, row_of};
+pub use end::{FilesMeant, StatusText};
+pub use fault::{FAULTS, FaultText, PlaceKind, fault_of, row_of};
 pub use help::help_for;
 pub use message::{Message, Problem, message_for, note_for};
 pub use usage::{Usage, usage_of};

@@ -2,8 +2,8 @@
 
 ghost use Rattle.std.specs.Prelude.{◌≡◌, ◌==◌, not, is_some};
 
-use crate::end::{About, End, end_of};
-use crate::fault::{Fault, Place, fault_of};
+use crate::end::{FilesMeant, StatusText, end_of};
+use crate::fault::{FaultText, PlaceKind, fault_of};
 use crate::help::help_name;
 use crate::usage::{Usage, usage_of};
 use std::fmt;
@@ -24,9 +24,8 @@ impl<'w> Message<'w> {
     /// The number of the section that it speaks of, where it speaks of one.
     pub fn section(&self) -> Option<u64> {
         match self.problem {
-            Problem::Fault(fault, at) if matches!(fault.place, Place::Section) && at > 0 => Some(
-                at,
-            ),
+            Problem::Fault(fault, at) if matches!(fault.place, PlaceKind::Section) && at > 0 =>
+                Some(at),
             _ => None,
         }
     }
@@ -44,10 +43,10 @@ impl<'w> Message<'w> {
 #[derive(Clone, Copy)]
 pub enum Problem<'w> {
     /// A fault of a file, an index or a table, and its place.
-    Fault(&'static Fault, u64),
+    Fault(&'static FaultText, u64),
     /// The words aren't in the grammar, and the help that says more: a command or nothing.
     Usage(Usage<'w>, &'static str),
-    End(&'static End),
+    End(&'static StatusText),
 }
 
 /// What is said of a run that ended with a status after it wrote a line last: nothing where it answered.
@@ -104,10 +103,10 @@ fn about<'w>(status: u8, line: &[u8], words: &'w [String]) -> Message<'w> {
     }
     let end = end_of(status);
     let (file, other) = match end.about {
-        About::Nothing => ("", ""),
-        About::Stored => (second, ""),
-        About::Read if reads_two(words) => (first, second),
-        About::Read => (first, ""),
+        FilesMeant::Nothing => ("", ""),
+        FilesMeant::Stored => (second, ""),
+        FilesMeant::Read if reads_two(words) => (first, second),
+        FilesMeant::Read => (first, ""),
     };
     Message {
         file,
@@ -118,7 +117,7 @@ fn about<'w>(status: u8, line: &[u8], words: &'w [String]) -> Message<'w> {
 }
 
 // The fault in a line that ends with its code and its place, and the place.
-fn fault_in(line: &[u8]) -> Option<(&'static Fault, u64)> {
+fn fault_in(line: &[u8]) -> Option<(&'static FaultText, u64)> {
     let text = str::from_utf8(line).ok()?;
     let (before, place) = text.trim_end().rsplit_once(' ')?;
     let (_, code) = before.rsplit_once(' ')?;
@@ -187,7 +186,7 @@ impl fmt::Display for Message<'_> {
 // The sentence of a fault, its place and its remedy.
 fn write_fault<W: fmt::Write>(
     f: &mut fmt::Formatter<W>,
-    fault: &Fault,
+    fault: &FaultText,
     at: u64,
     name: &str,
 ) -> fmt::Result {
@@ -195,16 +194,16 @@ fn write_fault<W: fmt::Write>(
     let remedy = fault.remedy;
     write!(f, "{sentence}")?;
     match fault.place {
-        Place::Nowhere => {}
-        Place::Byte => write!(f, " (byte {at:#x} of the file)")?,
-        Place::Section if at == 0 => {}
-        Place::Section if name.is_empty() => write!(f, " (section [{at}])")?,
-        Place::Section => write!(f, " (section [{at}] {name})")?,
-        Place::Unit => write!(f, " (unit at {at:#x})")?,
-        Place::Entry => write!(f, " (entry <{at:x}>)")?,
-        Place::Info => write!(f, " (byte {at:#x} of .debug_info)")?,
-        Place::Index => write!(f, " (byte {at:#x} of the index)")?,
-        Place::Set => write!(f, " (set at {at:#x})")?,
+        PlaceKind::Nowhere => {}
+        PlaceKind::Byte => write!(f, " (byte {at:#x} of the file)")?,
+        PlaceKind::Section if at == 0 => {}
+        PlaceKind::Section if name.is_empty() => write!(f, " (section [{at}])")?,
+        PlaceKind::Section => write!(f, " (section [{at}] {name})")?,
+        PlaceKind::Unit => write!(f, " (unit at {at:#x})")?,
+        PlaceKind::Entry => write!(f, " (entry <{at:x}>)")?,
+        PlaceKind::Info => write!(f, " (byte {at:#x} of .debug_info)")?,
+        PlaceKind::Index => write!(f, " (byte {at:#x} of the index)")?,
+        PlaceKind::Set => write!(f, " (set at {at:#x})")?,
     }
     write!(f, "; {remedy}")
 }

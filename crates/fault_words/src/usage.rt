@@ -1,6 +1,6 @@
 //! Which word of a command line isn't in the grammar.
 
-use crate::form::{FORMS, Form, Kind, Value};
+use crate::form::{Argument, ArgumentKind, FORMS, Form};
 use std::fmt;
 
 /// What is wrong with the words of a command line, the first thing from the left.
@@ -10,7 +10,7 @@ pub enum Usage<'w> {
     UnknownCommand(&'w str),
     /// What a command, an option or a query lacks.
     Missing(&'static str, &'static str),
-    BadValue(Value, &'w str),
+    BadValue(Argument, &'w str),
     /// A word like an option that isn't one here.
     Misplaced(&'static str, &'w str),
     /// A word behind the last.
@@ -75,7 +75,7 @@ pub(crate) fn form_named(command: &str, second: &str) -> Option<&'static Form> {
 
 fn skip_option<'w>(
     form: &'static Form,
-    value: Value,
+    value: Argument,
     words: &'w [String],
 ) -> Result<&'w [String], Usage<'w>> {
     match words.split_first() {
@@ -85,8 +85,8 @@ fn skip_option<'w>(
     }
 }
 
-fn skip_value(value: Value, words: &[String]) -> Result<&[String], Usage<'_>> {
-    if matches!(value.kind, Kind::Flag) {
+fn skip_value(value: Argument, words: &[String]) -> Result<&[String], Usage<'_>> {
+    if matches!(value.kind, ArgumentKind::Flag) {
         return Ok(words);
     }
     let (word, others) = words
@@ -100,7 +100,7 @@ fn skip_value(value: Value, words: &[String]) -> Result<&[String], Usage<'_>> {
 
 fn skip_operand<'w>(
     form: &'static Form,
-    value: Value,
+    value: Argument,
     words: &'w [String],
 ) -> Result<&'w [String], Usage<'w>> {
     let (word, others) = words
@@ -115,12 +115,12 @@ fn skip_operand<'w>(
     Ok(others)
 }
 
-fn fits(kind: Kind, word: &str) -> bool {
+fn fits(kind: ArgumentKind, word: &str) -> bool {
     match kind {
-        Kind::File => !word.is_empty() && !word.starts_with("--"),
-        Kind::Number { low, high } => is_number(word, low, high),
-        Kind::Index => word == "gdb8" || word == "gdb9" || word == "names",
-        Kind::Flag => false,
+        ArgumentKind::File => !word.is_empty() && !word.starts_with("--"),
+        ArgumentKind::Number { low, high } => is_number(word, low, high),
+        ArgumentKind::Index => word == "gdb8" || word == "gdb9" || word == "names",
+        ArgumentKind::Flag => false,
     }
 }
 

@@ -2,7 +2,7 @@
 use Rattle.index_model.specs.Units.{Fields, Ending, Head}
 use Rattle.file_image.specs.declared.unit_header.Fields.{Fields as FieldsFound}
 use Rattle.file_image.specs.declared.unit_header.Ending.{Ending as EndingFound}
-use Rattle.file_image.specs.declared.unit_header.Head.{Head as HeadFound}
+use Rattle.file_image.specs.declared.unit_header.UnitHeaderRest.{UnitHeaderRest as HeadFound}
 
 -- the sort and the abbreviation offset
 abbrev pub fields_of : FieldsFound → Fields

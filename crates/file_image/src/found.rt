@@ -8,13 +8,13 @@ ghost use Rattle.index_model.specs.Sections.{section_from, sections_from, header
 ghost use Rattle.file_image.specs.Found.{section, AreSmall};
 ghost use Rattle.file_image.specs.Headers.{IsTable};
 
-use crate::table::Table;
+use crate::table::SectionHeaders;
 use ix_base::{Fault, MAX_FILE_BYTES, Stop, code};
 use std::alloc::Global;
 
 /// A section: its name, its flags and its bytes.
 #[derive(Clone, Copy)]
-pub(crate) struct Found<'f> {
+pub(crate) struct NamedSection<'f> {
     pub(crate) name: &'f [u8],
     pub(crate) flags: u64,
     pub(crate) content: &'f [u8],
@@ -24,8 +24,8 @@ pub(crate) struct Found<'f> {
 pub(crate) fn sections_of_table<'f>(
     alloc: Global,
     file: &'f [u8],
-    table: &Table<'f>,
-) -> Result<Vec<Found<'f>>, Stop>
+    table: &SectionHeaders<'f>,
+) -> Result<Vec<NamedSection<'f>>, Stop>
     requires limit { length file.now ≤ MAX_FILE_BYTES }
     requires table { IsTable file.now table.now.headers.now table.now.count table.now.names.now }
     ensures value { Gives (λ v. map section v.items) result (sections_from file.now 1 (headers_from file.now 1 (table.now.count - 1))) }
@@ -40,7 +40,11 @@ pub(crate) fn sections_of_table<'f>(
 }
 
 // The section with this index: its bytes lie in the file, and its name has an end.
-fn section_at<'f>(file: &'f [u8], table: &Table<'f>, index: usize) -> Result<Found<'f>, Fault>
+fn section_at<'f>(
+    file: &'f [u8],
+    table: &SectionHeaders<'f>,
+    index: usize,
+) -> Result<NamedSection<'f>, Fault>
     requires limit { length file.now ≤ MAX_FILE_BYTES }
     requires table { IsTable file.now table.now.headers.now table.now.count table.now.names.now }
     requires index { index < table.now.count }
@@ -54,7 +58,7 @@ fn section_at<'f>(file: &'f [u8], table: &Table<'f>, index: usize) -> Result<Fou
     let Some(name) = table.name(&header) else {
         return Err(table_fault(index));
     };
-    Ok(Found {
+    Ok(NamedSection {
         name,
         flags: header.flags,
         content,
@@ -72,14 +76,17 @@ pub(crate) fn table_fault(at: usize) -> Fault
 }
 
 /// The first section of a name.
-pub(crate) fn first_named<'a, 'f>(found: &'a [Found<'f>], name: &[u8]) -> Option<&'a Found<'f>>
+pub(crate) fn first_named<'a, 'f>(
+    found: &'a [NamedSection<'f>],
+    name: &[u8],
+) -> Option<&'a NamedSection<'f>>
     ensures { option_copied result ≡ find (λ f. bytes_eq f.name.now name.now) found.now }
 {
     found.iter().find(|section| section.name == name)
 }
 
 /// The index of the first section of a name, counted from 1.
-pub(crate) fn index_named(found: &[Found<'_>], name: &[u8]) -> Option<usize>
+pub(crate) fn index_named(found: &[NamedSection<'_>], name: &[u8]) -> Option<usize>
     ensures { result ≡ index_of (map section found.now) name.now }
 {
     for (index, section) in found.iter().enumerate() {

@@ -5,7 +5,7 @@ ghost use Rattle.index_model.specs.Sections.{section_bytes};
 ghost use Rattle.file_image.specs.Found.{section, AreSmall};
 ghost use Rattle.file_image.specs.Resolved.{AreFound};
 
-use crate::found::{Found, first_named};
+use crate::found::{NamedSection, first_named};
 
 /// The bytes of these sections (DWARF 5, section 7.1 and appendix B; of `.debug_ranges` DWARF 4, section 2.17.3); none of one that
 /// isn't there.
@@ -23,7 +23,7 @@ pub(crate) struct Resolved<'f> {
 
 impl<'f> Resolved<'f> {
     /// Those among the sections that were found.
-    pub(crate) fn of(found: &[Found<'f>]) -> Resolved<'f>
+    pub(crate) fn of(found: &[NamedSection<'f>]) -> Resolved<'f>
         requires { AreSmall found.now }
         ensures { AreFound (map section found.now) result }
     {
@@ -41,7 +41,7 @@ impl<'f> Resolved<'f> {
 }
 
 /// The bytes of the first section of this name; none, where there is no such section.
-pub(crate) fn content_of<'f>(found: &[Found<'f>], name: &[u8]) -> &'f [u8]
+pub(crate) fn content_of<'f>(found: &[NamedSection<'f>], name: &[u8]) -> &'f [u8]
     requires { AreSmall found.now }
     ensures value { result.now ≡ section_bytes (map section found.now) name.now }
     ensures small { length result.now ≤ 1073741824 }

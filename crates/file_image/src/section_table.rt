@@ -8,7 +8,7 @@ ghost use Rattle.file_image.specs.Headers.{section_header_at, with_table};
 use crate::found::table_fault;
 use crate::ident::check_ident;
 use crate::section_header::Header;
-use crate::table::{Table, index_of_names};
+use crate::table::{SectionHeaders, index_of_names};
 use ix_base::{Fault, MAX_FILE_BYTES};
 use std::marker::Model;
 
@@ -16,7 +16,7 @@ use std::marker::Model;
 #[derive(Drop)]
 pub struct SectionTable<'f> {
     file: &'f [u8],
-    table: Table<'f>,
+    table: SectionHeaders<'f>,
 }
 
 impl<'f> Model for SectionTable<'f> {
@@ -39,7 +39,7 @@ impl<'f> SectionTable<'f> {
         ensures { GivesAlways (λ t. t) result (with_table file.now) }
     {
         check_ident(file)?;
-        match Table::open(file) {
+        match SectionHeaders::open(file) {
             Some(table) => Ok(SectionTable { file, table }),
             None => Err(table_fault(0)),
         }

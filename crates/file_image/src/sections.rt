@@ -7,10 +7,10 @@ ghost use Rattle.index_model.specs.Strings.{string_at};
 ghost use Rattle.file_image.specs.TextLimits.{AreLimits, tested};
 
 use crate::compressed::check_compressed;
-use crate::found::{Found, index_named, sections_of_table, table_fault};
+use crate::found::{NamedSection, index_named, sections_of_table, table_fault};
 use crate::ident::check_ident;
 use crate::resolved::{Resolved, content_of};
-use crate::table::Table;
+use crate::table::SectionHeaders;
 use crate::text_limits::TextLimits;
 use ix_base::{Fault, MAX_FILE_BYTES, Stop, code};
 use std::alloc::Global;
@@ -19,7 +19,7 @@ use std::marker::Model;
 /// The sections of a program file behind section 0, in the order of their headers. Their bytes are borrowed from the file.
 #[derive(Drop)]
 pub struct Sections<'f> {
-    found: Vec<Found<'f>>,
+    found: Vec<NamedSection<'f>>,
     resolved: Resolved<'f>,
     limits: TextLimits,
 }
@@ -48,7 +48,7 @@ impl<'f> Sections<'f> {
         ensures { Gives (λ s. s) result (sections_of file.now) }
     {
         check_ident(file)?;
-        let Some(table) = Table::open(file) else {
+        let Some(table) = SectionHeaders::open(file) else {
             return Err(Stop::Fault(table_fault(0)));
         };
         let found = sections_of_table(alloc, file, &table)?;

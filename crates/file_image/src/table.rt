@@ -15,7 +15,7 @@ const INDEX_IN_SECTION_0: u16 = 0xFFFF;
 
 /// The headers of all sections, and the bytes of the section that holds their names.
 #[derive(Clone, Copy)]
-pub(crate) struct Table<'f> {
+pub(crate) struct SectionHeaders<'f> {
     /// The bytes of the file from the first header on.
     pub(crate) headers: &'f [u8],
     pub(crate) count: usize,
@@ -23,9 +23,9 @@ pub(crate) struct Table<'f> {
     ghost whole: { 64 * count ≤ length headers.now },
 }
 
-impl<'f> Table<'f> {
+impl<'f> SectionHeaders<'f> {
     /// The table of a file, if it and the section of the names lie in the file.
-    pub(crate) fn open(file: &'f [u8]) -> Option<Table<'f>>
+    pub(crate) fn open(file: &'f [u8]) -> Option<SectionHeaders<'f>>
         requires { 64 ≤ length file.now }
         ensures { MatchOption result (IsRefused file.now) (λ table. IsTable file.now table.headers.now table.count table.names.now) }
     {
@@ -39,7 +39,7 @@ impl<'f> Table<'f> {
         let Some(names) = names_section(file, headers, index) else {
             return None;
         };
-        Some(Table {
+        Some(SectionHeaders {
             headers,
             count: count as usize,
             names,

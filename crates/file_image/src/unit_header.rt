@@ -36,7 +36,7 @@ struct Ending {
 
 /// What stands in a header behind the initial length.
 #[derive(Clone, Copy)]
-struct Head {
+struct UnitHeaderRest {
     version: u16,
     fields: Fields,
     ending: Ending,
@@ -54,7 +54,7 @@ fn sort_of_type(unit_type: u8) -> UnitSort
 {
     match unit_type {
         COMPILE => UnitSort::Compile,
-        TYPE => UnitSort::Unnamed,
+        TYPE => UnitSort::TypeUnit,
         PARTIAL => UnitSort::Partial,
         _ => UnitSort::Skeleton,
     }
@@ -92,7 +92,7 @@ fn fields_of_4(part: Part, place: u64, wide: bool, own: &mut Cursor<'_>) -> Resu
     }
     let sort = match part {
         Part::Info => UnitSort::Compile,
-        Part::Types => UnitSort::Unnamed,
+        Part::Types => UnitSort::TypeUnit,
     };
     Ok(Fields { sort, abbrev })
 }
@@ -108,7 +108,7 @@ fn ending_of_sort(sort: UnitSort, wide: bool, own: &mut Cursor<'_>) -> Option<En
         type_offset: 0,
     };
     match sort {
-        UnitSort::Unnamed => {
+        UnitSort::TypeUnit => {
             found.signature = own.u64()?;
             found.type_offset = own.offset(wide)?;
         }
@@ -137,7 +137,7 @@ fn head_behind_length(
     place: u64,
     wide: bool,
     own: &mut Cursor<'_>,
-) -> Result<Head, Fault>
+) -> Result<UnitHeaderRest, Fault>
     ensures value { GivesAlways (λ x. (head_of x, own.new)) result (head part place wide own.old) }
     ensures place { MovesOn own.old own.new }
 {
@@ -151,7 +151,7 @@ fn head_behind_length(
         fields_of_4(part, place, wide, own)?
     };
     let ending = ending_of_sort(fields.sort, wide, own).ok_or(fault(code::UNIT_LENGTH, place))?;
-    Ok(Head {
+    Ok(UnitHeaderRest {
         version,
         fields,
         ending,

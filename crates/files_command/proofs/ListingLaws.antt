@@ -17,7 +17,7 @@ use Rattle.reach_model.specs.LineTables.{FileHit}
 use Rattle.command_base.specs.Replies.{SaysReply, Wrote}
 use Rattle.command_base.specs.declared.status.Status.{Status}
 use Rattle.command_base.specs.declared.status.Status.TheVariants.{Answered, Refused, Usage, ReadFault, StoreFault, WriteFault, NoMemory, IndexRefused, TableRefused, IndexTooLarge, FileTooBig, AlreadyIndexed, TooManySections, InputFault, InputTooLong, Stopped}
-use Rattle.command_base.specs.declared.status.Table.TheVariants.{Addresses, Lines}
+use Rattle.command_base.specs.declared.status.RefusedTable.TheVariants.{Addresses, Lines}
 use Rattle.command_base.proofs.ReplyLaws.{wrote_refused, wrote_weaker}
 use Rattle.files_command.specs.Listed.{SaysFault, SaysHits}
 use Rattle.files_command.specs.Listings.{SaysFiles, found_by}

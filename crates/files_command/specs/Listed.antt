@@ -5,7 +5,7 @@ use Rattle.reach_model.specs.LineTables.{FileHit}
 use Rattle.reach_model.specs.FileTexts.{text_of_files_fault, text_of_hits}
 use Rattle.command_base.specs.declared.status.Status.{Status}
 use Rattle.command_base.specs.declared.status.Status.TheVariants.{Answered, TableRefused}
-use Rattle.command_base.specs.declared.status.Table.TheVariants.{Lines}
+use Rattle.command_base.specs.declared.status.RefusedTable.TheVariants.{Lines}
 
 -- the lines of what was found
 abbrev pub SaysHits : List FileHit → Status → List ℕ → Type 0

@@ -8,7 +8,7 @@ use Rattle.command_base.specs.Replies.{IsRefusalOf}
 use Rattle.command_base.specs.Tables.{SaysTable, SaysTableFault}
 use Rattle.command_base.specs.declared.status.Status.{Status}
 use Rattle.command_base.specs.declared.status.Status.TheVariants.{Answered, Refused, TableRefused}
-use Rattle.command_base.specs.declared.status.Table.TheVariants.{Lines}
+use Rattle.command_base.specs.declared.status.RefusedTable.TheVariants.{Lines}
 
 -- what the line tables of a program have of a name
 abbrev pub found_by : List ℕ → Built → Result (List FileHit) Fault

@@ -13,7 +13,7 @@ ghost use Rattle.files_command.specs.Listings.{SaysFiles};
 ghost use Rattle.files_command.specs.Listed.{SaysFault, SaysHits};
 
 use crate::text::{hits_text, refusal_line};
-use command_base::{Status, Table, ended, refuse};
+use command_base::{RefusedTable, Status, ended, refuse};
 use file_image::Image;
 use index_board::Reader;
 use index_model::CacheKind;
@@ -123,7 +123,7 @@ fn refuse_tables<K: Sink>(alloc: Global, fault: Fault, out: &mut K) -> Status
     match refusal_line(alloc, fault) {
         Ok(line) => ended(
             write_all(out, line.as_bytes()),
-            Status::TableRefused(Table::Lines),
+            Status::TableRefused(RefusedTable::Lines),
         ),
         Err(_) => Status::NoMemory,
     }

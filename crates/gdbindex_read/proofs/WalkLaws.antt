@@ -14,7 +14,7 @@ use Rattle.std.proofs.Math.Nat.{mod-add-mod}
 use Rattle.index_model.specs.Hashes.{gdb_hash, odd, slot_on_path}
 use Rattle.index_model.specs.GdbIndexRead.{Slot, is_other, is_table_size}
 use Rattle.index_model.specs.GdbPath.{path_end}
-use Rattle.gdbindex_read.specs.declared.homes.Home.{Home}
+use Rattle.gdbindex_read.specs.declared.homes.PathStart.{PathStart}
 use Rattle.gdbindex_read.specs.Homes.{AreFound, AreHomes, IsHome}
 use Rattle.gdbindex_read.specs.Slots.{is_found_from, is_reached}
 use Rattle.gdbindex_read.proofs.Loops.{found_from, found_from_all, found_from_here, found_from_more}
@@ -22,13 +22,13 @@ use Rattle.gdbindex_read.proofs.Paths.{ends, is_found_there, path_end_is}
 use Rattle.string_ends.specs.Tails.{print_of}
 
 -- the slot with this home was passed on the path that begins with a slot, and its print is kept if the path is its own
-pub record IsMet (homes : List (Option Home)) (begin : ℕ) (prints : BTreeSet ℕ) (k : ℕ) : Type 0 where
-  pub home : Home
+pub record IsMet (homes : List (Option PathStart)) (begin : ℕ) (prints : BTreeSet ℕ) (k : ℕ) : Type 0 where
+  pub home : PathStart
   pub there : get_or homes k None ≡ Some home
   pub kept : home.begin ≡ begin → contains nat_cmp prints home.print ≡ true
 
 -- with more prints
-pub met_still : (homes : List (Option Home)) (begin : ℕ) (prints more : BTreeSet ℕ) (k : ℕ) → ((n : ℕ) → contains nat_cmp prints n ≡ true → contains nat_cmp more n ≡ true) → IsMet homes begin prints k → IsMet homes begin more k
+pub met_still : (homes : List (Option PathStart)) (begin : ℕ) (prints more : BTreeSet ℕ) (k : ℕ) → ((n : ℕ) → contains nat_cmp prints n ≡ true → contains nat_cmp more n ≡ true) → IsMet homes begin prints k → IsMet homes begin more k
 met_still homes begin prints more k keep m = record { home = m.home; there = m.there; kept = λ own. keep m.home.print (m.kept own) }
 
 -- the path of a hash is that of the slot that it begins with
@@ -42,11 +42,11 @@ skip_to p g n (suc k) le none =
     let next : k + 1 ≡ suc k = omega arith in
     skip_to p g n k (omega (arith, le)) (λ j lt. none j (omega (arith, lt))) ∙ found_from_more p g k n (omega (arith, le)) (none k (omega arith)) ∙ ap (λ (m : ℕ). found_from p g m n) next
 
-module _ (slots : List (Option Slot)) (homes : List (Option Home)) (begin : ℕ) (prints : BTreeSet ℕ) (are : AreHomes slots homes) (size : is_table_size (length slots) ≡ true) where
+module _ (slots : List (Option Slot)) (homes : List (Option PathStart)) (begin : ℕ) (prints : BTreeSet ℕ) (are : AreHomes slots homes) (size : is_table_size (length slots) ≡ true) where
   abbrev on : ℕ → ℕ
   on j = slot_on_path (length homes) begin j
 
-  module _ (i : ℕ) (within : i < length homes) (met : (j : ℕ) → j < i → IsMet homes begin prints (on j)) (h : Home) (there : get_or homes (on i) None ≡ Some h) (own : h.begin ≡ begin) where
+  module _ (i : ℕ) (within : i < length homes) (met : (j : ℕ) → j < i → IsMet homes begin prints (on j)) (h : PathStart) (there : get_or homes (on i) None ≡ Some h) (own : h.begin ≡ begin) where
     abbrev name : List ℕ
     name = (are.each (on i) h there).slot.name
 
@@ -107,8 +107,8 @@ module _ (slots : List (Option Slot)) (homes : List (Option Home)) (begin : ℕ)
 
 -- ---- the homes of slots, one after the other
 
-pub homes_more : (slots : List (Option Slot)) (homes : List (Option Home)) (new : Option Home) (n : ℕ) → length homes ≡ n → ((k : ℕ) (h : Home) → get_or homes k None ≡ Some h → IsHome slots k h) → IfSome new (IsHome slots n)
-    → (k : ℕ) (h : Home) → get_or (homes ++ new ∷ []) k None ≡ Some h → IsHome slots k h
+pub homes_more : (slots : List (Option Slot)) (homes : List (Option PathStart)) (new : Option PathStart) (n : ℕ) → length homes ≡ n → ((k : ℕ) (h : PathStart) → get_or homes k None ≡ Some h → IsHome slots k h) → IfSome new (IsHome slots n)
+    → (k : ℕ) (h : PathStart) → get_or (homes ++ new ∷ []) k None ≡ Some h → IsHome slots k h
 homes_more slots homes new n size each last k h is = elim (cases_lt k n) as (λ _. IsHome slots k h) [
   | inl before ↦ each k h (sym (get_or_append_left homes (new ∷ []) None k (omega (arith, before, size))) ∙ is)
   | inr behind ↦ by (eqb k n) refl behind
@@ -118,7 +118,7 @@ homes_more slots homes new n size each last k h is = elim (cases_lt k n) as (λ 
     by true e behind =
         let same = eqb-true k n e in
         let own : new ≡ Some h = sym (get_or_push homes new None k (size ∙ sym same)) ∙ is in
-        subst (λ (j : ℕ). IsHome slots j h) (sym same) (subst (λ (o : Option Home). IfSome o (IsHome slots n)) own last)
+        subst (λ (j : ℕ). IsHome slots j h) (sym same) (subst (λ (o : Option PathStart). IfSome o (IsHome slots n)) own last)
     by false e behind =
         let more : n < k = grind (arith, nat_tests) in
         let clash : None ≡ Some h = sym (get_or_past (homes ++ new ∷ []) k None (omega (arith, length_push homes new, size, more))) ∙ is in

@@ -2,21 +2,21 @@
 use Rattle.std.specs.Prelude.{◌≡◌, ℕ, ◌%◌, Bool, true, false, List, length, slice_index_or, Option, Some, None}
 use Rattle.index_model.specs.Hashes.{gdb_hash}
 use Rattle.index_model.specs.GdbIndexRead.{Slot as FullSlot, slot_or_none}
-use Rattle.gdbindex_read.specs.declared.homes.Home.{Home}
+use Rattle.gdbindex_read.specs.declared.homes.PathStart.{PathStart}
 use Rattle.gdbindex_read.specs.Slots.{is_reached}
 use Rattle.string_ends.specs.Tails.{print_of}
 
 -- the home of the slot at a place, which isn't empty
-pub record IsHome (slots : List (Option FullSlot)) (k : ℕ) (h : Home) : Type 0 where
+pub record IsHome (slots : List (Option FullSlot)) (k : ℕ) (h : PathStart) : Type 0 where
   pub slot : FullSlot
   pub there : slot_or_none slots k ≡ Some slot
   pub begin : h.begin ≡ gdb_hash slot.name % length slots
   pub print : h.print ≡ print_of slot.name
 
 -- the homes of slots, of which some may be missing
-pub record AreHomes (slots : List (Option FullSlot)) (homes : List (Option Home)) : Type 0 where
+pub record AreHomes (slots : List (Option FullSlot)) (homes : List (Option PathStart)) : Type 0 where
   pub size : length homes ≡ length slots
-  pub each : (k : ℕ) (h : Home) → slice_index_or homes k None ≡ Some h → IsHome slots k h
+  pub each : (k : ℕ) (h : PathStart) → slice_index_or homes k None ≡ Some h → IsHome slots k h
 
 -- the slots at these places are found by their names
 abbrev pub AreFound : List (Option FullSlot) → List Bool → Type 0

@@ -15,14 +15,14 @@ use string_ends::{Formula, Hashed, hashes_of};
 
 /// The slot at which the path of a slot's name begins, and a number that tells the name from most others.
 #[derive(Clone, Copy)]
-pub(crate) struct Home {
+pub(crate) struct PathStart {
     pub begin: usize,
     pub print: u64,
 }
 
 impl SymbolTable<'_> {
     /// The homes of slots, None of an empty one. None of all where no memory is left for them.
-    pub fn homes(&self, alloc: Global) -> Option<Vec<Option<Home>>>
+    pub fn homes(&self, alloc: Global) -> Option<Vec<Option<PathStart>>>
         ensures { IfSome result (λ v. AreHomes (slots_seen self.now) v.items) }
     {
         let offsets = self.offsets(alloc)?;
@@ -62,13 +62,13 @@ impl SymbolTable<'_> {
     }
 
     // The home of a slot, by what is known of its name.
-    fn home(&self, place: usize, name: Option<Hashed>) -> Option<Home>
+    fn home(&self, place: usize, name: Option<Hashed>) -> Option<PathStart>
         requires place { place < slot_count self.now }
         requires name { (slot : FoundSlot) (h : HashedName) → slot_in (item 8 (table_of self.now) place).rest ≡ Some slot → name ≡ Some h → IsHashed GdbIndex self.now.pool.now slot.name h }
         ensures { IfSome result (IsHome (slots_seen self.now) place) }
     {
         match (self.slot(place), name) {
-            (Some(_), Some(name)) => Some(Home {
+            (Some(_), Some(name)) => Some(PathStart {
                 begin: name.hash as usize % self.len(),
                 print: name.print,
             }),

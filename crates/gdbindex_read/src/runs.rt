@@ -62,19 +62,19 @@ fn length_at(pool: &[u8], units: usize, lengths: &[u32], place: usize) -> u32
 
 /// What was seen of vectors.
 #[derive(Drop)]
-pub(crate) struct Vectors {
+pub(crate) struct VectorsSeen {
     alloc: Global,
     // How many elements may still be read vector by vector.
     left: usize,
     runs: Option<Runs>,
 }
 
-impl Vectors {
+impl VectorsSeen {
     /// None of a pool with so many bytes.
-    pub fn none(alloc: Global, bytes: usize) -> Vectors
+    pub fn none(alloc: Global, bytes: usize) -> VectorsSeen
         ensures { (pool : List ℕ) (units : ℕ) → AreKnown pool units result }
     {
-        Vectors {
+        VectorsSeen {
             alloc,
             left: bytes,
             runs: None,

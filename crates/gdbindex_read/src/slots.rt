@@ -11,7 +11,7 @@ ghost use Rattle.gdbindex_read.specs.Slots.{checked_size, slot_in, AreLimits};
 
 use crate::area::{Area, fault, u32_at};
 use crate::areas::Areas;
-use crate::runs::Vectors;
+use crate::runs::VectorsSeen;
 use byteorder::{ByteOrder, LittleEndian};
 use index_model::index_code::{GDB_BAD_NAME, GDB_BAD_VECTOR, GDB_TABLE_SIZE};
 use ix_base::Fault;
@@ -89,12 +89,12 @@ impl Limits {
     }
 }
 
-/// The first fault of a name or a vector, slot by slot. No string is read, and no element more often than `Vectors` says.
+/// The first fault of a name or a vector, slot by slot. No string is read, and no element more often than `VectorsSeen` says.
 pub(crate) fn check_slots(alloc: Global, areas: &Areas<'_>) -> Result<(), Fault>
     ensures { wrong_in result ≡ wrong_in (each (slot_at (areas_seen areas.now)) (items 8 (areas_seen areas.now).table)) }
 {
     let limits = Limits::of(areas);
-    let mut vectors = Vectors::none(alloc, areas.pool.bytes.len());
+    let mut vectors = VectorsSeen::none(alloc, areas.pool.bytes.len());
     let count = areas.table.count(SLOT_LENGTH);
     for number in 0..count {
         let slot = areas.table.item(SLOT_LENGTH, number);
@@ -107,7 +107,7 @@ pub(crate) fn check_slots(alloc: Global, areas: &Areas<'_>) -> Result<(), Fault>
 fn check_slot(
     areas: &Areas<'_>,
     limits: Limits,
-    vectors: &mut Vectors,
+    vectors: &mut VectorsSeen,
     slot: Area<'_>,
 ) -> Result<(), Fault>
     requires long { 8 ≤ length slot.bytes.now }

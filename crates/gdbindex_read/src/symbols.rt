@@ -15,7 +15,7 @@ use crate::areas::Areas;
 use crate::elements::Elements;
 use crate::path::Path;
 use crate::slots::{SLOT_LENGTH, Slot, check_size, check_slots, string_at};
-use crate::walks::Found;
+use crate::walks::FoundSlots;
 use index_model::index_code::GDB_LOST_SLOT;
 use ix_base::Fault;
 use std::alloc::Global;
@@ -51,7 +51,7 @@ impl<'a> SymbolTable<'a> {
         requires few { slot_count self.now < 2 ^ 32 }
         ensures { wrong_in result ≡ wrong_in (each (reached (slots_seen self.now)) (enumerate_from 0 (slots_seen self.now))) }
     {
-        let found = Found::of(alloc, self);
+        let found = FoundSlots::of(alloc, self);
         let count = self.len();
         for place in 0..count {
             if !self.is_found(&found, place) {
@@ -137,7 +137,7 @@ impl<'a> SymbolTable<'a> {
     }
 
     // Whether the path of its name leads to the slot at a place, if it isn't empty. That needn't be asked of those that were found.
-    fn is_found(&self, found: &Found, place: usize) -> bool
+    fn is_found(&self, found: &FoundSlots, place: usize) -> bool
         requires size { is_table_size (slot_count self.now) ≡ true }
         requires place { place < slot_count self.now }
         requires found { AreFound (slots_seen self.now) found.now.places.items }

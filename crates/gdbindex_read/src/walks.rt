@@ -10,7 +10,7 @@ ghost use Rattle.index_model.specs.GdbIndexRead.{Slot, is_table_size};
 ghost use Rattle.gdbindex_read.specs.Homes.{AreFound, AreHomes};
 ghost use Rattle.gdbindex_read.specs.Slots.{slot_count, slots_seen};
 
-use crate::homes::Home;
+use crate::homes::PathStart;
 use crate::path::Path;
 use crate::symbols::SymbolTable;
 use std::alloc::Global;
@@ -18,20 +18,20 @@ use std::collections::BTreeSet;
 
 /// The slots that were found by their names.
 #[derive(Drop)]
-pub(crate) struct Found {
+pub(crate) struct FoundSlots {
     places: Vec<bool>,
     // The prints of their names.
     prints: BTreeSet<u64>,
 }
 
-impl Found {
+impl FoundSlots {
     /// The slots of a table that are found on the paths of their names. None are where no memory is left.
-    pub fn of(alloc: Global, table: &SymbolTable<'_>) -> Found
+    pub fn of(alloc: Global, table: &SymbolTable<'_>) -> FoundSlots
         requires size { is_table_size (slot_count table.now) ≡ true }
         requires few { slot_count table.now < 2 ^ 32 }
         ensures { AreFound (slots_seen table.now) result.places.items }
     {
-        let mut found = Found::none(alloc, table.len());
+        let mut found = FoundSlots::none(alloc, table.len());
         if let Some(homes) = table.homes(alloc) {
             found.walk_all(alloc, &homes);
         }
@@ -39,10 +39,10 @@ impl Found {
     }
 
     // None of so many slots.
-    fn none(alloc: Global, slots: usize) -> Found
+    fn none(alloc: Global, slots: usize) -> FoundSlots
         ensures { (k : ℕ) → slice_index_or result.places.items k false ≡ true → ⊥ }
     {
-        Found {
+        FoundSlots {
             places: vec![in alloc; false; slots].unwrap_or(Vec::new(alloc)),
             prints: BTreeSet::new(alloc),
         }
@@ -56,7 +56,7 @@ impl Found {
     }
 
     // Walks along the paths that names have.
-    fn walk_all(&mut self, alloc: Global, homes: &[Option<Home>])
+    fn walk_all(&mut self, alloc: Global, homes: &[Option<PathStart>])
         requires { length homes.now < 2 ^ 32 }
         ensures { (slots : List (Option Slot)) → AreHomes slots homes.now → is_table_size (length slots) ≡ true → AreFound slots self.old.places.items → AreFound slots self.new.places.items }
     {
@@ -71,7 +71,7 @@ impl Found {
     }
 
     // Walks along the path of so many names. It ends where one is missing.
-    fn walk(&mut self, homes: &[Option<Home>], begin: usize, names: u32)
+    fn walk(&mut self, homes: &[Option<PathStart>], begin: usize, names: u32)
         requires few { length homes.now < 2 ^ 32 }
         requires begin { begin < length homes.now }
         ensures { (slots : List (Option Slot)) → AreHomes slots homes.now → is_table_size (length slots) ≡ true → AreFound slots self.old.places.items → AreFound slots self.new.places.items }
@@ -119,7 +119,7 @@ impl Found {
 }
 
 // How many names have the path that begins with each slot.
-fn name_counts(alloc: Global, homes: &[Option<Home>]) -> Option<Vec<u32>>
+fn name_counts(alloc: Global, homes: &[Option<PathStart>]) -> Option<Vec<u32>>
     ensures { IfSome result (λ v. length v.items ≡ length homes.now) }
 {
     let mut counts = vec![in alloc; 0u32; homes.len()].ok()?;

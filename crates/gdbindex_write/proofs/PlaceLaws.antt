@@ -24,7 +24,7 @@ use Rattle.index_model.proofs.Orders.{bytes_order, ascending_has, ascending_rise
 use Rattle.index_model.specs.GdbSlots.{slot_count, slots_of}
 use Rattle.index_model.specs.GdbIndex.{Pool, index_names, vector, name_place, vector_place, vector_bytes, slot_bytes, name_in_slot, symbol_table, shortcut}
 use denote.Ref.{Bor}
-use Rattle.gdbindex_write.specs.declared.places.Place.{Place}
+use Rattle.gdbindex_write.specs.declared.places.Slot.{Slot}
 use Rattle.gdbindex_write.specs.declared.symbols.Symbol.{Symbol}
 use Rattle.gdbindex_write.specs.Pools.{pool_seen, vectors_seen}
 use Rattle.gdbindex_write.specs.Symbols.{names_of}
@@ -80,7 +80,7 @@ module _ (units : List UnitHeader) (entries : List Entry) (symbols : List Symbol
   abbrev own_vectors : List (List ℕ)
   own_vectors = vectors_seen vectors
 
-  abbrev places : List Place
+  abbrev places : List Slot
   places = places_of symbols vectors numbers
 
   module _ (names_are : names_of symbols ≡ index_names entries) (numbers_are : numbers ≡ map (λ w. place_of bytes_eq w (vectors_seen vectors)) (map (vector units entries) (names_of symbols))) where
@@ -112,7 +112,7 @@ module _ (units : List UnitHeader) (entries : List Entry) (symbols : List Symbol
     -- a slot
     slot_is : (k : ℕ) → k < length own_names → numbered_bytes places (Some k) ≡ slot_bytes units entries own_pool (slice_get own_names k)
     slot_is k lt =
-        ap (λ (p : Place). u32_bytes p.name ++ u32_bytes p.vector) (place_there k (omega (arith, lt, count_is)))
+        ap (λ (p : Slot). u32_bytes p.name ++ u32_bytes p.vector) (place_there k (omega (arith, lt, count_is)))
         ∙ sym (ap (slot_bytes units entries own_pool) (slice_get-get_or own_names k [] lt) ∙ (λ i. u32_bytes (name_at k lt i) ++ u32_bytes (vector_at k lt i)))
 
     any_slot : (slots : List ℕ) → length slots ≡ length own_names → (slot : ℕ) → numbered_bytes places (position (nat_eq slot) slots) ≡ slot_bytes units entries own_pool (name_in_slot own_names slots slot)
@@ -141,7 +141,7 @@ module _ (units : List UnitHeader) (entries : List Entry) (symbols : List Symbol
         by None e = absurd (true≢false (sym some ∙ sym (is_some_position (bytes_eq name) own_names) ∙ ap is_some e))
         by (Some k) e =
             let p = position-Some (bytes_eq name) own_names k [] e in
-            ap (λ (p : Place). p.name) (place_there k (omega (arith, p.0, count_is))) ∙ sym (λ i. vectors_length own_vectors i + name_start k i)
+            ap (λ (p : Slot). p.name) (place_there k (omega (arith, p.0, count_is))) ∙ sym (λ i. vectors_length own_vectors i + name_start k i)
 
     pub shortcut_is : (main : Option Main) → IsMainOf entries main → shortcut_bytes symbols places main ≡ shortcut own_pool main
     shortcut_is None is = refl

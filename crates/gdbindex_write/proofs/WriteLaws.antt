@@ -17,7 +17,7 @@ use Rattle.index_model.specs.declared.unit.Unit.{Unit as UnitHeader}
 use Rattle.index_model.specs.Layout.{below, ended}
 use Rattle.index_model.specs.Ordered.{distinct, place_of}
 use Rattle.index_model.specs.GdbIndex.{Pool, pool_of, index_names, index_number, vector, cu_list, types_list, symbol_table, shortcut, vector_bytes, gdb_index_bytes}
-use Rattle.gdbindex_write.specs.declared.places.Place.{Place}
+use Rattle.gdbindex_write.specs.declared.places.Slot.{Slot}
 use Rattle.gdbindex_write.specs.declared.sizes.Sizes.{Sizes}
 use Rattle.gdbindex_write.specs.declared.stop.WriteStop.{WriteStop}
 use Rattle.gdbindex_write.specs.declared.stop.WriteStop.TheVariants.{TooLarge, Memory}
@@ -49,7 +49,7 @@ module _ (units : List UnitHeader) (pieces : List UnitRange) (main : Option Main
   abbrev seen : Pool
   seen = pool_seen symbols.list.items vectors.distinct.items
 
-  abbrev places : List Place
+  abbrev places : List Slot
   places = places_of symbols.list.items vectors.distinct.items vectors.numbers.items
 
   pool_is : pool_seen symbols.list.items vectors.distinct.items ≡ pool_of units entries

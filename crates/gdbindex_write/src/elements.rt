@@ -75,7 +75,7 @@ fn kind_number(kind: Kind) -> u32
     ensures small { result ≤ 4 }
 {
     match kind {
-        Kind::Named => 1,
+        Kind::TypeName => 1,
         Kind::Variable => 2,
         Kind::Function => 3,
         Kind::Other => 4,

@@ -14,7 +14,7 @@ use std::alloc::Global;
 
 /// The place of a name in the constant pool, and that of its vector.
 #[derive(Clone, Copy)]
-pub(crate) struct Place {
+pub(crate) struct Slot {
     pub name: u32,
     pub vector: u32,
 }
@@ -25,7 +25,7 @@ pub(crate) fn places(
     symbols: &[Symbol<'_>],
     vectors: &Vectors<'_>,
     names_at: u64,
-) -> Result<Vec<Place>, NoMemory>
+) -> Result<Vec<Slot>, NoMemory>
     requires size { names_at ≡ vectors_size (vectors_seen vectors.now.distinct.items) }
     requires small { names_at + names_size (names_of symbols.now) ≤ 4294967295 }
     requires each { length vectors.now.numbers.items ≡ length symbols.now }
@@ -36,7 +36,7 @@ pub(crate) fn places(
     let mut places = Vec::with_capacity(alloc, symbols.len())?;
     let mut name = names_at;
     for (i, symbol) in symbols.iter().enumerate() {
-        places.push(Place {
+        places.push(Slot {
             name: name as u32,
             vector: starts[vectors.numbers[i]],
         })?;

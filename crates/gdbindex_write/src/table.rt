@@ -5,7 +5,7 @@ ghost use Rattle.std.specs.Option.{ForSome};
 ghost use Rattle.index_model.specs.Seen.{main_seen};
 ghost use Rattle.gdbindex_write.specs.Places.{numbered_bytes, place_bytes, place_of_name, shortcut_bytes, shortcut_of};
 
-use crate::places::Place;
+use crate::places::Slot;
 use crate::put::put_u32;
 use crate::symbols::Symbol;
 use index_model::MainName;
@@ -15,7 +15,7 @@ use ix_base::NoMemory;
 pub(crate) fn put_symbol_table(
     out: &mut Vec<u8>,
     slots: &[Option<u32>],
-    places: &[Place],
+    places: &[Slot],
 ) -> Result<(), NoMemory>
     requires { All (λ slot. ForSome slot (λ n. n < length places.now)) slots.now }
     ensures { OnOk result (out.new.items ≡ out.old.items ++ flat_map (numbered_bytes places.now) slots.now) }
@@ -27,17 +27,17 @@ pub(crate) fn put_symbol_table(
 }
 
 // Appends the place of a name and that of its vector, or zeros.
-fn put_slot(out: &mut Vec<u8>, slot: Option<u32>, places: &[Place]) -> Result<(), NoMemory>
+fn put_slot(out: &mut Vec<u8>, slot: Option<u32>, places: &[Slot]) -> Result<(), NoMemory>
     requires { ForSome slot (λ n. n < length places.now) }
     ensures { OnOk result (out.new.items ≡ out.old.items ++ numbered_bytes places.now slot) }
 {
     match slot {
         Some(number) => put_place(out, places[number as usize]),
-        None => put_place(out, Place { name: 0, vector: 0 }),
+        None => put_place(out, Slot { name: 0, vector: 0 }),
     }
 }
 
-fn put_place(out: &mut Vec<u8>, place: Place) -> Result<(), NoMemory>
+fn put_place(out: &mut Vec<u8>, place: Slot) -> Result<(), NoMemory>
     ensures { OnOk result (out.new.items ≡ out.old.items ++ place_bytes place) }
 {
     put_u32(out, place.name)?;
@@ -50,7 +50,7 @@ pub(crate) fn put_shortcut(
     version: u8,
     main: Option<MainName<'_>>,
     symbols: &[Symbol<'_>],
-    places: &[Place],
+    places: &[Slot],
 ) -> Result<(), NoMemory>
     requires { length places.now ≡ length symbols.now }
     ensures { OnOk result (out.new.items ≡ out.old.items ++ shortcut_of version symbols.now places.now (option_map main_seen main.entry)) }
@@ -67,7 +67,7 @@ fn put_main(
     out: &mut Vec<u8>,
     main: Option<MainName<'_>>,
     symbols: &[Symbol<'_>],
-    places: &[Place],
+    places: &[Slot],
 ) -> Result<(), NoMemory>
     requires { length places.now ≡ length symbols.now }
     ensures { OnOk result (out.new.items ≡ out.old.items ++ shortcut_bytes symbols.now places.now (option_map main_seen main.entry)) }
@@ -85,7 +85,7 @@ fn put_main(
 }
 
 // The place of a name, which is that of a symbol.
-fn name_place(name: &[u8], symbols: &[Symbol<'_>], places: &[Place]) -> u32
+fn name_place(name: &[u8], symbols: &[Symbol<'_>], places: &[Slot]) -> u32
     requires { length places.now ≡ length symbols.now }
     ensures { result ≡ place_of_name symbols.now places.now name.now }
 {

@@ -14,7 +14,7 @@ pub(crate) fn is_type_unit(unit: &Unit) -> bool
     ensures { result ≡ is_type_unit unit.now }
 {
     match unit.sort {
-        UnitSort::Unnamed => true,
+        UnitSort::TypeUnit => true,
         _ => false,
     }
 }

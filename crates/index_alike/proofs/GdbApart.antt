@@ -11,7 +11,7 @@ use Rattle.std.proofs.lemmas.List.Sums.{passes_at_first}
 use Rattle.common_laws.proofs.Members.{to_filter}
 use Rattle.common_laws.proofs.Lists.{position_within}
 use Rattle.index_model.specs.declared.entry.Kind.{Kind}
-use Rattle.index_model.specs.declared.entry.Kind.TheVariants.{Named, Variable, Function, Other}
+use Rattle.index_model.specs.declared.entry.Kind.TheVariants.{TypeName, Variable, Function, Other}
 use Rattle.index_model.specs.declared.unit.Unit.{Unit as UnitHeader}
 use Rattle.index_model.specs.GdbIndex.{is_type_unit, index_order, index_number, kind_number}
 use Rattle.index_alike.specs.GdbAlike.{NumbersAreApart, ElementsAreApart}
@@ -57,19 +57,19 @@ numbers_apart (u ∷ us) i j li lj same = sym (there_is (u ∷ us) u i li) ∙ a
 -- ---- elements
 
 same_kind : (k l : Kind) → kind_number k ≡ kind_number l → k ≡ l
-same_kind Named Named e = refl
-same_kind Named Variable e = absurd (omega (arith, e))
-same_kind Named Function e = absurd (omega (arith, e))
-same_kind Named Other e = absurd (omega (arith, e))
-same_kind Variable Named e = absurd (omega (arith, e))
+same_kind TypeName TypeName e = refl
+same_kind TypeName Variable e = absurd (omega (arith, e))
+same_kind TypeName Function e = absurd (omega (arith, e))
+same_kind TypeName Other e = absurd (omega (arith, e))
+same_kind Variable TypeName e = absurd (omega (arith, e))
 same_kind Variable Variable e = refl
 same_kind Variable Function e = absurd (omega (arith, e))
 same_kind Variable Other e = absurd (omega (arith, e))
-same_kind Function Named e = absurd (omega (arith, e))
+same_kind Function TypeName e = absurd (omega (arith, e))
 same_kind Function Variable e = absurd (omega (arith, e))
 same_kind Function Function e = refl
 same_kind Function Other e = absurd (omega (arith, e))
-same_kind Other Named e = absurd (omega (arith, e))
+same_kind Other TypeName e = absurd (omega (arith, e))
 same_kind Other Variable e = absurd (omega (arith, e))
 same_kind Other Function e = absurd (omega (arith, e))
 same_kind Other Other e = refl

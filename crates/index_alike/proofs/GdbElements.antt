@@ -6,7 +6,7 @@ use Rattle.std.proofs.lemmas.List.Elements.{Contains-get_or, All-head, All-tail}
 use Rattle.common_laws.proofs.Members.{of_map}
 use Rattle.index_model.specs.declared.entry.Entry.{Entry}
 use Rattle.index_model.specs.declared.entry.Kind.{Kind}
-use Rattle.index_model.specs.declared.entry.Kind.TheVariants.{Named, Variable, Function, Other}
+use Rattle.index_model.specs.declared.entry.Kind.TheVariants.{TypeName, Variable, Function, Other}
 use Rattle.index_model.specs.declared.unit.Unit.{Unit as UnitHeader}
 use Rattle.index_model.specs.GdbIndex.{kind_number, element, vector, index_number}
 use Rattle.index_model.specs.GdbIndexRead.{unit_in}
@@ -21,7 +21,7 @@ record Parts (units : List UnitHeader) (e : Entry) : Type 0 where
   is : element units e ≡ index_number units e.unit + high * 2 ^ 28
 
 pub kind_low : (k : Kind) → kind_number k ≤ 4
-kind_low Named = omega arith
+kind_low TypeName = omega arith
 kind_low Variable = omega arith
 kind_low Function = omega arith
 kind_low Other = omega arith

@@ -34,7 +34,7 @@ use Rattle.index_commands.specs.NamesLooks.{IsNamesMeant}
 use Rattle.command_base.specs.Statuses.{status_code}
 use Rattle.index_commands.specs.Stores.{Keeps}
 use Rattle.index_cmd.specs.Stores.{LeavesAtEnd}
-use Rattle.command_base.specs.declared.status.Table.{Table}
+use Rattle.command_base.specs.declared.status.RefusedTable.{RefusedTable}
 use Rattle.command_base.specs.declared.status.Status.{Status}
 use Rattle.command_base.specs.declared.status.Status.TheVariants.{Answered, Refused, Usage, ReadFault, StoreFault, WriteFault, NoMemory, IndexRefused, TableRefused, IndexTooLarge, FileTooBig, AlreadyIndexed, TooManySections, InputFault, InputTooLong, Stopped}
 use Rattle.index_cmd.proofs.Adding.{short_of_memory, when_crowded, when_indexed, when_refused, when_stored, when_too_large}
@@ -45,7 +45,7 @@ use Rattle.index_cmd.proofs.Outcomes.{Outcome, tells, stops, lines, fails, Plain
 -- ---- the program's own texts
 
 module _ (told : Option Files) (reads stores writes : Type 0) (old new : Option (List ℕ)) where
-  own_text : (request : Request) → ((P : List ℕ → ℕ → Type 0) → AsksFile (Some request) P → ⊥) → ((P : List ℕ → Type 0) → AsksProgram (Some request) P → ⊥) → ((P : CacheKind → List ℕ → List ℕ → Type 0) → AsksIndex (Some request) P → ⊥) → (MakesTooLarge (Some request) told → ⊥) → ((text : List ℕ) → IsIndexRefusal (Some request) told text → ⊥) → ((text : List ℕ) → (kind : Table) → IsTableRefusal (Some request) kind told text → ⊥) → (IsAlreadyIndexed (Some request) told → ⊥) → (HasTooManySections (Some request) told → ⊥) → (writes → ⊥) → (status : Status) → Plain (Some request) told reads stores writes old new status → (status_code status ≡ 0) ⊎ (status_code status ≡ 7)
+  own_text : (request : Request) → ((P : List ℕ → ℕ → Type 0) → AsksFile (Some request) P → ⊥) → ((P : List ℕ → Type 0) → AsksProgram (Some request) P → ⊥) → ((P : CacheKind → List ℕ → List ℕ → Type 0) → AsksIndex (Some request) P → ⊥) → (MakesTooLarge (Some request) told → ⊥) → ((text : List ℕ) → IsIndexRefusal (Some request) told text → ⊥) → ((text : List ℕ) → (kind : RefusedTable) → IsTableRefusal (Some request) kind told text → ⊥) → (IsAlreadyIndexed (Some request) told → ⊥) → (HasTooManySections (Some request) told → ⊥) → (writes → ⊥) → (status : Status) → Plain (Some request) told reads stores writes old new status → (status_code status ≡ 0) ⊎ (status_code status ≡ 7)
   own_text request file program index large look table indexed crowded none status (answers w) = inl refl
   own_text request file program index large look table indexed crowded none status (refuses w) = absurd (program _ w.1)
   own_text request file program index large look table indexed crowded none status (index_refuses w) = absurd (look _ w.1)
@@ -339,7 +339,7 @@ module _ (request : Option Request) (files : Files) (heard : Heard) (reads store
 
   -- what is said with each status, of some bytes that the file holds
   pub session_meant : ((text : List ℕ) → Says request (Some files) heard Answered text → (own : List ℕ) × (files file ≡ Some own) × IsAccepted own) → ((text : List ℕ) → Says request (Some files) heard Refused text → (own : List ℕ) × (files file ≡ Some own) × IsSome (first_fault own)) →
-      ((text : List ℕ) → Says request (Some files) heard IndexRefused text → ⊥) → ((kind : Table) (text : List ℕ) → Says request (Some files) heard (TableRefused kind) text → ⊥) → ((text : List ℕ) → Says request (Some files) heard InputFault text → ⊥) →
+      ((text : List ℕ) → Says request (Some files) heard IndexRefused text → ⊥) → ((kind : RefusedTable) (text : List ℕ) → Says request (Some files) heard (TableRefused kind) text → ⊥) → ((text : List ℕ) → Says request (Some files) heard InputFault text → ⊥) →
       (status : Status) → Outcome request (Some files) heard reads stores writes old new status → IsServeMeant bytes (status_code status)
   session_meant says_yes says_no never table input Answered (tells t w) = let a = says_yes w.0 w.1 in record {
     answered = λ _. inl refl;

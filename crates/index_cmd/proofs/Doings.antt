@@ -12,7 +12,7 @@ use Rattle.outside.proofs.CountLaws.{then-rose}
 use Rattle.outside.proofs.FileLaws.{same_files-refl, same_files-trans}
 use Rattle.command_base.specs.FilesRead.{HoldsMore}
 use Rattle.command_base.specs.Replies.{CausesOfResult, SaysFile, Wrote}
-use Rattle.command_base.specs.declared.status.Table.TheVariants.{Addresses, Lines}
+use Rattle.command_base.specs.declared.status.RefusedTable.TheVariants.{Addresses, Lines}
 use Rattle.command_base.specs.declared.status.Status.{Status}
 use Rattle.command_base.specs.declared.status.Status.TheVariants.{Answered, Refused, Usage, ReadFault, StoreFault, WriteFault, NoMemory, IndexRefused, TableRefused, IndexTooLarge, FileTooBig, AlreadyIndexed, TooManySections, InputFault, InputTooLong, Stopped}
 use Rattle.command_base.proofs.FileReads.{same_more, same_whole}

@@ -14,7 +14,7 @@ use Rattle.index_cmd.specs.Replies.{Causes, Ends, without_line, with_line, cut, 
 use Rattle.command_base.specs.Replies.{Wrote, Writes, line_of}
 use Rattle.index_cmd.specs.Results.{Says, WritesPrefix}
 use Rattle.index_cmd.specs.Runs.{Run, HasWritten}
-use Rattle.command_base.specs.declared.status.Table.{Table}
+use Rattle.command_base.specs.declared.status.RefusedTable.{RefusedTable}
 use Rattle.command_base.specs.declared.status.Status.{Status}
 use Rattle.command_base.specs.declared.status.Status.TheVariants.{Answered, Refused, Usage, ReadFault, StoreFault, WriteFault, NoMemory, IndexRefused, TableRefused, IndexTooLarge, FileTooBig, AlreadyIndexed, TooManySections, InputFault, InputTooLong, Stopped}
 
@@ -137,7 +137,7 @@ module _ (request : Option Request) (told : Option Files) (reads stores writes :
     answers : Writes old new (IsAnswer request told) → Plain Answered
     refuses : Writes old new (IsRefusal request told) → Plain Refused
     index_refuses : Writes old new (IsIndexRefusal request told) → Plain IndexRefused
-    table_refuses : (table : Table) → Writes old new (IsTableRefusal request table told) → Plain (TableRefused table)
+    table_refuses : (table : RefusedTable) → Writes old new (IsTableRefusal request table told) → Plain (TableRefused table)
     plain_lines : {status : Status} (text : List ℕ) → line_of status ≡ Some text → Causes request told reads stores writes status → Plain status
     plain_fails : writes → Plain WriteFault
 

@@ -9,8 +9,8 @@ use Rattle.command_base.specs.Statuses.{status_code}
 use Rattle.command_base.specs.Tables.{IsTableMeant}
 use Rattle.command_base.specs.declared.status.Status.{Status}
 use Rattle.command_base.specs.declared.status.Status.TheVariants.{TableRefused}
-use Rattle.command_base.specs.declared.status.Table.{Table}
-use Rattle.command_base.specs.declared.status.Table.TheVariants.{Addresses, Lines}
+use Rattle.command_base.specs.declared.status.RefusedTable.{RefusedTable}
+use Rattle.command_base.specs.declared.status.RefusedTable.TheVariants.{Addresses, Lines}
 use Rattle.aranges_command.specs.Comparisons.{sets_of}
 use Rattle.files_command.specs.Listings.{found_by}
 use Rattle.index_cmd.specs.Replies.{Causes, IsAnswer, IsIndexRefusal, IsRefusal, IsTableRefusal}
@@ -36,7 +36,7 @@ module _ {X : Type 0} (files : Files) (reads stores writes : Type 0) (old new : 
 
   module _ (request : Option Request) (line : (status : Status) (text : List ℕ) → line_of status ≡ Some text → Causes request (Some files) reads stores writes status → status_code status ≡ 7) (refusal : ℕ) where
     pub table_meant : ((text : List ℕ) → IsAnswer request (Some files) text → (own : List ℕ) × (files file ≡ Some own) × ((b : Built) × (built_of own ≡ Ok b) × ((x : X) × (read b ≡ Ok x)))) → ((text : List ℕ) → IsRefusal request (Some files) text → (own : List ℕ) × (files file ≡ Some own) × IsRefusalOf own text) →
-        ((table : Table) (text : List ℕ) → IsTableRefusal request table (Some files) text → (status_code (TableRefused table) ≡ refusal) × ((f : Fault) × Reads (Err f))) → ((text : List ℕ) → IsIndexRefusal request (Some files) text → ⊥) → (status : Status) → Plain request (Some files) reads stores writes old new status → IsTableMeant bytes read refusal (status_code status)
+        ((table : RefusedTable) (text : List ℕ) → IsTableRefusal request table (Some files) text → (status_code (TableRefused table) ≡ refusal) × ((f : Fault) × Reads (Err f))) → ((text : List ℕ) → IsIndexRefusal request (Some files) text → ⊥) → (status : Status) → Plain request (Some files) reads stores writes old new status → IsTableMeant bytes read refusal (status_code status)
     table_meant said wrong table index status (answers w) =
         let a = said w.0 w.1 in
         let is : Reads (Ok a.2.2.0) = (a.0, a.1, (a.2.0, a.2.1, a.2.2.1)) in
@@ -65,10 +65,10 @@ module _ {X : Type 0} (files : Files) (reads stores writes : Type 0) (old new : 
     table_meant said wrong table index status (plain_fails f) = absurd (no_write f)
 
 -- the fault of an address table, and that of a line table
-pub by_aranges : (files : Files) (file : List ℕ) (table : Table) (text : List ℕ) → IsTableRefusal (Some (OfAranges file)) table (Some files) text → (status_code (TableRefused table) ≡ 14) × ((f : Fault) × ((own : List ℕ) × (files file ≡ Some own) × ((b : Built) × (built_of own ≡ Ok b) × (sets_of b ≡ Err f))))
+pub by_aranges : (files : Files) (file : List ℕ) (table : RefusedTable) (text : List ℕ) → IsTableRefusal (Some (OfAranges file)) table (Some files) text → (status_code (TableRefused table) ≡ 14) × ((f : Fault) × ((own : List ℕ) × (files file ≡ Some own) × ((b : Built) × (built_of own ≡ Ok b) × (sets_of b ≡ Err f))))
 by_aranges files file Addresses text h = (refl, (h.3.holds.0, (h.0, h.1, (h.3.built, h.3.accepted, h.3.holds.1))))
 by_aranges files file Lines text h = absurd h
 
-pub by_lines : (files : Files) (file name : List ℕ) (table : Table) (text : List ℕ) → IsTableRefusal (Some (OfFiles file name)) table (Some files) text → (status_code (TableRefused table) ≡ 15) × ((f : Fault) × ((own : List ℕ) × (files file ≡ Some own) × ((b : Built) × (built_of own ≡ Ok b) × (found_by name b ≡ Err f))))
+pub by_lines : (files : Files) (file name : List ℕ) (table : RefusedTable) (text : List ℕ) → IsTableRefusal (Some (OfFiles file name)) table (Some files) text → (status_code (TableRefused table) ≡ 15) × ((f : Fault) × ((own : List ℕ) × (files file ≡ Some own) × ((b : Built) × (built_of own ≡ Ok b) × (found_by name b ≡ Err f))))
 by_lines files file name Lines text h = (refl, (h.3.holds.0, (h.0, h.1, (h.3.built, h.3.accepted, h.3.holds.1))))
 by_lines files file name Addresses text h = absurd h

@@ -9,8 +9,8 @@ use Rattle.command_base.specs.Replies.{IsAnswerOf, IsRefusalOf, OfFileBytes, IsT
 use Rattle.command_base.specs.declared.status.Status.{Status}
 use Rattle.command_base.specs.declared.status.Status.TheVariants.{Answered, Refused, Usage, ReadFault, StoreFault, WriteFault, InputFault, NoMemory, IndexRefused, TableRefused, IndexTooLarge, FileTooBig, AlreadyIndexed, TooManySections, InputTooLong, Stopped}
 use Rattle.command_base.specs.Tables.{IsTableMeant}
-use Rattle.command_base.specs.declared.status.Table.{Table}
-use Rattle.command_base.specs.declared.status.Table.TheVariants.{Addresses, Lines}
+use Rattle.command_base.specs.declared.status.RefusedTable.{RefusedTable}
+use Rattle.command_base.specs.declared.status.RefusedTable.TheVariants.{Addresses, Lines}
 use Rattle.aranges_command.specs.Comparisons.{IsArangesRefusalOf, IsComparisonOf, sets_of}
 use Rattle.cached_command.specs.Cached.{IsCachedMeant, SaysCached}
 use Rattle.cached_command.specs.Caches.{IsTooLarge as KeepsTooLarge}
@@ -54,7 +54,7 @@ IsIndexRefusal (Some (OfNames look index strings name)) told text = OfFileBytes 
 IsIndexRefusal other told text = ⊥
 
 -- the text is that of the first fault of the table that was asked
-abbrev pub IsTableRefusal : Option Request → Table → Option Files → List ℕ → Type 0
+abbrev pub IsTableRefusal : Option Request → RefusedTable → Option Files → List ℕ → Type 0
 IsTableRefusal (Some (OfAranges file)) Addresses told text = OfFileBytes told file (λ bytes. IsArangesRefusalOf bytes text)
 IsTableRefusal (Some (OfFiles file name)) Lines told text = OfFileBytes told file (λ bytes. IsFilesRefusalOf bytes name text)
 IsTableRefusal other table told text = ⊥

@@ -7,8 +7,8 @@ use Rattle.command_base.specs.GdbLooks.{offer_gdb}
 use Rattle.index_cmd.specs.Requests.{Request, TheHelp, TheVersion, OfFile, OfIndex, OfAdd, OfGdb, OfNames, OfServe, OfRace, OfDrill, OfAranges, OfFiles, OfCached}
 use Rattle.index_cmd.specs.declared.task.Action.{Action}
 use Rattle.index_cmd.specs.declared.task.Action.TheVariants as actions
-use Rattle.index_cmd.specs.declared.task.Task.{Task}
-use Rattle.index_cmd.specs.declared.task.Task.TheVariants as tasks
+use Rattle.index_cmd.specs.declared.task.Requested.{Requested}
+use Rattle.index_cmd.specs.declared.task.Requested.TheVariants as tasks
 
 -- the words of the query of a command; none where it has no query
 abbrev pub query_words : Wanted → List (List ℕ)
@@ -32,7 +32,7 @@ request_on file (actions.Files name) = OfFiles file name.now
 request_on file (actions.Cached store q) = OfCached file store.now (question_seen q)
 
 -- what is asked
-abbrev pub request_seen : Task → Request
+abbrev pub request_seen : Requested → Request
 request_seen tasks.Help = TheHelp
 request_seen tasks.Version = TheVersion
 request_seen (tasks.OnFile f) = request_on f.file.now f.action
@@ -46,7 +46,7 @@ IsActionInBounds (actions.Serve how) = how.wait ≤ 3
 IsActionInBounds (actions.Race how script) = IsReaders how.readers
 IsActionInBounds other = ⊤
 
-abbrev pub IsInBounds : Task → Type 0
+abbrev pub IsInBounds : Requested → Type 0
 IsInBounds (tasks.OnFile f) = IsActionInBounds f.action
 IsInBounds (tasks.Drill seed units) = (0 < units) × (units ≤ 100000)
 IsInBounds other = ⊤

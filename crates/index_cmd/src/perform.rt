@@ -14,7 +14,7 @@ ghost use Rattle.index_cmd.specs.Tasks.{request_on, request_seen, IsActionInBoun
 
 use crate::about::{HELP, VERSION};
 use crate::say::say;
-use crate::task::{Action, OnFile, Racing, Task};
+use crate::task::{Action, OnFile, Racing, Requested};
 use add_command::add_file;
 use aranges_command::aranges_file;
 use cached_command::cached_file;
@@ -37,7 +37,7 @@ pub(crate) fn perform<
     S: Source + Send,
     K: Sink + Send,
     G: Gate + Sync,
->(crew: &Crew<'_, R, G>, task: &Task<'_>, shelf: &mut F, input: &mut S, out: &mut K) -> Status
+>(crew: &Crew<'_, R, G>, task: &Requested<'_>, shelf: &mut F, input: &mut S, out: &mut K) -> Status
     requires some { 0 < crew.now.workers }
     requires few { crew.now.workers ≤ 64 }
     requires bounds { IsInBounds task.now }
@@ -45,10 +45,10 @@ pub(crate) fn perform<
     ensures counts { K.write_faults out.old ≤ K.write_faults out.new }
 {
     match task {
-        Task::Help => say(out, Status::Answered, HELP.as_bytes()),
-        Task::Version => say(out, Status::Answered, VERSION.as_bytes()),
-        Task::Drill { seed, units } => run_drill(crew, *seed, *units, out),
-        Task::OnFile(on) => read_and_act(crew, on, shelf, input, out),
+        Requested::Help => say(out, Status::Answered, HELP.as_bytes()),
+        Requested::Version => say(out, Status::Answered, VERSION.as_bytes()),
+        Requested::Drill { seed, units } => run_drill(crew, *seed, *units, out),
+        Requested::OnFile(on) => read_and_act(crew, on, shelf, input, out),
     }
 }
 

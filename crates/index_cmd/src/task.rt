@@ -16,7 +16,7 @@ use query_text::{Question, parse};
 
 /// What is asked for, but for the number of workers.
 #[derive(Clone, Copy)]
-pub(crate) enum Task<'w> {
+pub(crate) enum Requested<'w> {
     Help,
     Version,
     /// What is asked of the bytes of a file.
@@ -126,15 +126,15 @@ pub(crate) fn workers(command: &Command<'_>) -> u32
 }
 
 /// What a command asks for, by the line of its query. None where the command doesn't answer that.
-pub(crate) fn task_for<'w>(command: &Command<'w>, line: &'w [u8]) -> Option<Task<'w>>
+pub(crate) fn task_for<'w>(command: &Command<'w>, line: &'w [u8]) -> Option<Requested<'w>>
     requires line { line.now ≡ query_text (query_words (seen_command command.now)) }
     requires bounds { HasWorkers command.now }
     ensures request { option_map request_seen result ≡ requested (seen_command command.now) }
     ensures bounds { ForSome result IsInBounds }
 {
     match command {
-        Command::Help => Some(Task::Help),
-        Command::Version => Some(Task::Version),
+        Command::Help => Some(Requested::Help),
+        Command::Version => Some(Requested::Version),
         Command::Ask(words) => asked(words, line),
         Command::Index(words) => {
             let (kind, out) = (words.kind, words.out);
@@ -161,7 +161,7 @@ pub(crate) fn task_for<'w>(command: &Command<'w>, line: &'w [u8]) -> Option<Task
         Command::Aranges(words) => on_file(words.file, Action::Aranges),
         Command::Files(words) => on_file(words.file, Action::Files(words.name)),
         Command::Cached(words) => cached(words, line),
-        Command::Drill(words) => Some(Task::Drill {
+        Command::Drill(words) => Some(Requested::Drill {
             seed: words.seed,
             units: words.units,
         }),
@@ -169,16 +169,16 @@ pub(crate) fn task_for<'w>(command: &Command<'w>, line: &'w [u8]) -> Option<Task
 }
 
 // What is asked of the bytes of a file.
-fn on_file<'w>(file: &'w str, action: Action<'w>) -> Option<Task<'w>>
+fn on_file<'w>(file: &'w str, action: Action<'w>) -> Option<Requested<'w>>
     requires { IsActionInBounds action }
     ensures request { option_map request_seen result ≡ Some (request_on file.now action.entry) }
     ensures bounds { ForSome result IsInBounds }
 {
-    Some(Task::OnFile(OnFile { file, action }))
+    Some(Requested::OnFile(OnFile { file, action }))
 }
 
 // A query of a program file.
-fn asked<'w>(words: &Ask<'w>, line: &'w [u8]) -> Option<Task<'w>>
+fn asked<'w>(words: &Ask<'w>, line: &'w [u8]) -> Option<Requested<'w>>
     requires { line.now ≡ query_text (seen_ask words.now).query }
     ensures request { option_map request_seen result ≡ asked (seen_ask words.now) }
     ensures bounds { ForSome result IsInBounds }
@@ -189,7 +189,7 @@ fn asked<'w>(words: &Ask<'w>, line: &'w [u8]) -> Option<Task<'w>>
 }
 
 // A query of a `.gdb_index`.
-fn looked<'w>(words: &LookGdb<'w>, line: &'w [u8]) -> Option<Task<'w>>
+fn looked<'w>(words: &LookGdb<'w>, line: &'w [u8]) -> Option<Requested<'w>>
     requires { line.now ≡ query_text (seen_look words.now).query }
     ensures request { option_map request_seen result ≡ looked (seen_look words.now) }
     ensures bounds { ForSome result IsInBounds }
@@ -200,7 +200,7 @@ fn looked<'w>(words: &LookGdb<'w>, line: &'w [u8]) -> Option<Task<'w>>
 }
 
 // A query of an index that may be kept.
-fn cached<'w>(words: &Cached<'w>, line: &'w [u8]) -> Option<Task<'w>>
+fn cached<'w>(words: &Cached<'w>, line: &'w [u8]) -> Option<Requested<'w>>
     requires { line.now ≡ query_text (seen_cached words.now).query }
     ensures request { option_map request_seen result ≡ kept (seen_cached words.now) }
     ensures bounds { ForSome result IsInBounds }
@@ -212,13 +212,13 @@ fn cached<'w>(words: &Cached<'w>, line: &'w [u8]) -> Option<Task<'w>>
 }
 
 // A query of a `.debug_names`.
-fn looked_names<'w>(words: &LookNames<'w>, line: &'w [u8]) -> Option<Task<'w>>
+fn looked_names<'w>(words: &LookNames<'w>, line: &'w [u8]) -> Option<Requested<'w>>
     requires { line.now ≡ query_text (seen_names words.now).query }
     ensures request { option_map request_seen result ≡ looked_names (seen_names words.now) }
     ensures bounds { ForSome result IsInBounds }
 {
     let name = offered_name(line)?;
-    Some(Task::OnFile(OnFile {
+    Some(Requested::OnFile(OnFile {
         file: words.index,
         action: Action::LookNames {
             look: NamesLook {

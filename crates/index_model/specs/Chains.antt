@@ -3,7 +3,7 @@ use Rattle.std.specs.Prelude.{ℕ, zero, suc, Bool, true, false, ◌&&◌, ◌==
 use Rattle.std.specs.Option.{option_or}
 use Rattle.std.specs.List.{list_any}
 use Rattle.index_model.specs.declared.unit.UnitSort.{UnitSort}
-use Rattle.index_model.specs.declared.unit.UnitSort.TheVariants.{Unnamed}
+use Rattle.index_model.specs.declared.unit.UnitSort.TheVariants.{TypeUnit}
 use Rattle.ix_base.specs.declared.code.TheConstants.{REFERENCE_CHAIN}
 use Rattle.ix_base.specs.declared.limits.TheConstants.{MAX_CHAIN_HOPS}
 use Rattle.index_model.specs.Meaning.{◌>>=◌, if_some, some_else}
@@ -53,7 +53,7 @@ linkage_name_of p chain = first (filter_map (own_linkage_name p.sections) chain)
 
 -- whether the unit is a type unit
 abbrev pub is_type_unit : UnitSort → Bool
-is_type_unit Unnamed = true
+is_type_unit TypeUnit = true
 is_type_unit other = false
 
 -- the name of the type that the first type unit with the signature describes

@@ -5,11 +5,11 @@ use Rattle.ix_base.specs.Reading.{◌>>=◌ as ◌>>=?◌}
 use Rattle.index_model.specs.declared.answer.Main.{Main}
 use Rattle.index_model.specs.declared.entry.Entry.{Entry}
 use Rattle.index_model.specs.declared.entry.Kind.{Kind}
-use Rattle.index_model.specs.declared.entry.Kind.TheVariants.{Named, Variable, Function, Other}
+use Rattle.index_model.specs.declared.entry.Kind.TheVariants.{TypeName, Variable, Function, Other}
 use Rattle.index_model.specs.declared.range.UnitRange.{UnitRange}
 use Rattle.index_model.specs.declared.unit.Unit.{Unit as UnitHeader}
 use Rattle.index_model.specs.declared.unit.UnitSort.{UnitSort}
-use Rattle.index_model.specs.declared.unit.UnitSort.TheVariants.{Unnamed}
+use Rattle.index_model.specs.declared.unit.UnitSort.TheVariants.{TypeUnit}
 use Rattle.index_model.specs.Units.{is_types}
 use Rattle.index_model.specs.Layout.{below, u32_bytes, u64_bytes, ended, start_of}
 use Rattle.index_model.specs.Ordered.{distinct, ascending, bytes_lt, place_of}
@@ -19,7 +19,7 @@ use Rattle.index_model.specs.GdbSlots.{slot_count, slots_of}
 
 -- whether this is the sort of a type unit
 abbrev pub is_type_sort : UnitSort → Bool
-is_type_sort Unnamed = true
+is_type_sort TypeUnit = true
 is_type_sort other = false
 
 -- whether the unit is a type unit
@@ -54,7 +54,7 @@ address_area units pieces = flat_map (λ p. u64_bytes p.range.low ++ u64_bytes p
 
 -- 1 type, 2 variable, 3 function, 4 other
 abbrev pub kind_number : Kind → ℕ
-kind_number Named = 1
+kind_number TypeName = 1
 kind_number Variable = 2
 kind_number Function = 3
 kind_number Other = 4

@@ -3,7 +3,7 @@ use Rattle.std.specs.Prelude.{◌≡◌, ℕ, ◌+◌, ◌<◌, ◌^◌, Bool, t
 use Rattle.std.specs.Borrow.{Bor}
 use Rattle.index_model.specs.declared.shard.Node.{Node}
 use Rattle.index_model.specs.declared.leaf.Leaf.{Leaf}
-use Rattle.index_model.specs.declared.place.Place.{Place}
+use Rattle.index_model.specs.declared.place.TextInFile.{TextInFile}
 use Rattle.index_model.specs.Marks.{is_declaration, is_external, is_enum_class, is_main, has_address, has_value, has_parent, has_name, has_linkage, has_next, is_near, is_aside}
 use Rattle.index_model.specs.NodeSeen.{NodeSeen, node_seen}
 
@@ -12,7 +12,7 @@ abbrev pub text_at : List ℕ → ℕ → ℕ → Option (List ℕ)
 text_at file at len = if nat_le (at + len) (length file) then Some (slice_range file at (at + len)) else None
 
 -- the text that stands at a place, if any does
-abbrev pub text_of : List ℕ → Place → Option (List ℕ)
+abbrev pub text_of : List ℕ → TextInFile → Option (List ℕ)
 text_of file p = if p.given then text_at file p.at p.length else None
 
 -- all that a leaf says but the texts

@@ -1,7 +1,7 @@
 -- Facts that are true or false, a bit of a byte each.
 use Rattle.std.specs.Prelude.{ℕ, Bool, not, ◌==◌}
 use Rattle.std.specs.Int.RustNames.{bit_and}
-use Rattle.index_model.specs.declared.marks.Marks.{Marks}
+use Rattle.index_model.specs.declared.marks.NodeFlags.{NodeFlags}
 use Rattle.index_model.specs.declared.given.Given.{Given}
 
 -- whether a bit of a byte is set
@@ -10,22 +10,22 @@ is_set byte bit = not (bit_and byte bit == 0)
 
 -- ---- what an entry says of itself
 
-abbrev pub is_declaration : Marks → Bool
+abbrev pub is_declaration : NodeFlags → Bool
 is_declaration m = is_set m.bits 1
 
-abbrev pub is_external : Marks → Bool
+abbrev pub is_external : NodeFlags → Bool
 is_external m = is_set m.bits 2
 
-abbrev pub is_enum_class : Marks → Bool
+abbrev pub is_enum_class : NodeFlags → Bool
 is_enum_class m = is_set m.bits 4
 
-abbrev pub is_main : Marks → Bool
+abbrev pub is_main : NodeFlags → Bool
 is_main m = is_set m.bits 8
 
-abbrev pub has_address : Marks → Bool
+abbrev pub has_address : NodeFlags → Bool
 has_address m = is_set m.bits 16
 
-abbrev pub has_value : Marks → Bool
+abbrev pub has_value : NodeFlags → Bool
 has_value m = is_set m.bits 32
 
 -- ---- which numbers of a leaf say something

@@ -1,7 +1,7 @@
 -- Which entries are visited and indexed, their kind, and whether they are static (GDB manual, "Index Section Format", for kind and static; else this project's own rule).
 use Rattle.std.specs.Prelude.{ℕ, zero, suc, Bool, true, false, not, ◌&&◌, ◌||◌, ◌==◌, if◌then◌else◌, List, [], ◌∷◌, find, Option, Some, None, option_map, is_some}
 use Rattle.index_model.specs.declared.entry.Kind.{Kind}
-use Rattle.index_model.specs.declared.entry.Kind.TheVariants.{Named, Variable, Function}
+use Rattle.index_model.specs.declared.entry.Kind.TheVariants.{TypeName, Variable, Function}
 use Rattle.index_model.specs.Attributes.{has_location, has_const_value}
 use Rattle.index_model.specs.Walk.{Item, parent_of}
 use Rattle.index_model.specs.declared.rules.Class.{Class}
@@ -61,9 +61,9 @@ row tag needs kind static = record { tag = tag; needs = needs; kind = kind; stat
 -- the tags whose entries may be indexed
 abbrev pub table : List Row
 table =
-    row namespace Nothing Named Never ∷
-    row 0x02 Nothing Named UnlessCxx ∷ row 0x13 Nothing Named UnlessCxx ∷ row 0x17 Nothing Named UnlessCxx ∷ row 0x38 Nothing Named UnlessCxx ∷ row enumeration Nothing Named UnlessCxx ∷
-    row 0x16 Nothing Named Always ∷ row 0x24 Nothing Named Always ∷ row 0x21 Nothing Named Always ∷
+    row namespace Nothing TypeName Never ∷
+    row 0x02 Nothing TypeName UnlessCxx ∷ row 0x13 Nothing TypeName UnlessCxx ∷ row 0x17 Nothing TypeName UnlessCxx ∷ row 0x38 Nothing TypeName UnlessCxx ∷ row enumeration Nothing TypeName UnlessCxx ∷
+    row 0x16 Nothing TypeName Always ∷ row 0x24 Nothing TypeName Always ∷ row 0x21 Nothing TypeName Always ∷
     row 0x28 Nothing Variable UnlessCxx ∷
     row subprogram AnAddress Function UnlessExternalOrAda ∷
     row variable AValue Variable UnlessExternal ∷

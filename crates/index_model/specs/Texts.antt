@@ -4,7 +4,7 @@ use Rattle.std.specs.Fmt.{digits}
 use Rattle.ix_base.specs.declared.fault.Fault.{Fault}
 use Rattle.index_model.specs.declared.entry.Entry.{Entry}
 use Rattle.index_model.specs.declared.entry.Kind.{Kind}
-use Rattle.index_model.specs.declared.entry.Kind.TheVariants.{Named, Variable, Function, Other}
+use Rattle.index_model.specs.declared.entry.Kind.TheVariants.{TypeName, Variable, Function, Other}
 use Rattle.index_model.specs.declared.answer.CacheSize.{CacheSize}
 use Rattle.index_model.specs.declared.answer.CacheSize.TheVariants.{Bytes, TooLarge}
 use Rattle.index_model.specs.Faults.{Built, built_of}
@@ -27,7 +27,7 @@ line (word ∷ next ∷ words) = word ++ codes " " ++ line (next ∷ words)
 
 -- the word of a kind
 abbrev pub kind_word : Kind → List ℕ
-kind_word Named = codes "type"
+kind_word TypeName = codes "type"
 kind_word Variable = codes "variable"
 kind_word Function = codes "function"
 kind_word Other = codes "other"

@@ -4,7 +4,7 @@ use Rattle.ix_base.specs.declared.fault.Fault.{Fault}
 use Rattle.index_model.specs.declared.unit.Part.{Part}
 use Rattle.index_model.specs.declared.unit.Part.TheVariants.{Info, Types}
 use Rattle.index_model.specs.declared.unit.UnitSort.{UnitSort}
-use Rattle.index_model.specs.declared.unit.UnitSort.TheVariants.{Compile, Unnamed, Partial, Skeleton}
+use Rattle.index_model.specs.declared.unit.UnitSort.TheVariants.{Compile, TypeUnit, Partial, Skeleton}
 use Rattle.index_model.specs.declared.unit.Unit.{Unit as UnitHeader}
 use Rattle.ix_base.specs.declared.code.TheConstants.{UNIT_LENGTH, UNIT_VERSION, UNIT_TYPE, ADDRESS_SIZE, TOO_MANY_UNITS}
 use Rattle.ix_base.specs.declared.limits.TheConstants.{MAX_UNITS}
@@ -25,7 +25,7 @@ is_version Types v = v == 4
 
 -- the sort of the unit with this unit type, 1 to 4
 abbrev pub sort_numbered : ℕ → UnitSort
-sort_numbered n = if n == 1 then Compile else if n == 2 then Unnamed else if n == 3 then Partial else Skeleton
+sort_numbered n = if n == 1 then Compile else if n == 2 then TypeUnit else if n == 3 then Partial else Skeleton
 
 -- the sort of a unit and where its abbreviations begin
 abbrev pub Fields : Type 0
@@ -47,7 +47,7 @@ fields_4 section place wide i = do
   at ← some_or (offset wide i) (fault UNIT_LENGTH place)
   size ← some_or (number 1 at.1) (fault UNIT_LENGTH place)
   holds_or (size.0 == 8) (fault ADDRESS_SIZE place)
-  Ok (record { sort = if is_types section then Unnamed else Compile; abbrev_offset = at.0 }, size.1)
+  Ok (record { sort = if is_types section then TypeUnit else Compile; abbrev_offset = at.0 }, size.1)
 
 -- what only a type unit has
 abbrev pub Ending : Type 0
@@ -55,7 +55,7 @@ Ending = record { signature : ℕ; type_offset : ℕ }
 
 -- what a header has at its end: a type unit its signature and its type's place, a skeleton unit its id
 unfoldable pub ending : UnitSort → Bool → Input → Option (Ending × Input)
-ending Unnamed wide i = number 8 i >>=? λ s. offset wide s.1 >>=? λ t. Some (record { signature = s.0; type_offset = t.0 }, t.1)
+ending TypeUnit wide i = number 8 i >>=? λ s. offset wide s.1 >>=? λ t. Some (record { signature = s.0; type_offset = t.0 }, t.1)
 ending Skeleton wide i = number 8 i >>=? λ id. Some (record { signature = 0; type_offset = 0 }, id.1)
 ending Compile wide i = Some (record { signature = 0; type_offset = 0 }, i)
 ending Partial wide i = Some (record { signature = 0; type_offset = 0 }, i)

@@ -7,7 +7,7 @@ use crate::text::Text;
 #[derive(Clone, Copy, Debug, PartialEq, Eq)]
 pub enum Kind {
     /// A type.
-    Named,
+    TypeName,
     Variable,
     Function,
     Other,

@@ -6,7 +6,7 @@ ghost use Rattle.index_model.specs.NodeSeen.{node_seen};
 ghost use Rattle.index_model.specs.Leaves.{leaf_seen, text_at};
 
 use crate::given::Given;
-use crate::marks::Marks;
+use crate::marks::NodeFlags;
 use crate::place::text_at;
 use crate::shard::{Next, Node};
 
@@ -27,7 +27,7 @@ pub(crate) struct Leaf {
     pub tag: u16,
     pub name_length: u16,
     pub linkage_length: u16,
-    pub marks: Marks,
+    pub marks: NodeFlags,
     pub given: Given,
 }
 
@@ -49,7 +49,7 @@ impl Leaf {
             tag: 0,
             name_length: 0,
             linkage_length: 0,
-            marks: Marks::none(),
+            marks: NodeFlags::none(),
             given: Given::whole(),
         }
     }

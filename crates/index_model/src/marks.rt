@@ -20,20 +20,20 @@ const VALUE: u8 = 32;
 
 /// What an entry says of itself.
 #[derive(Clone, Copy)]
-pub(crate) struct Marks {
+pub(crate) struct NodeFlags {
     bits: u8,
 }
 
-impl Marks {
+impl NodeFlags {
     /// No marks.
-    pub fn none() -> Marks
+    pub fn none() -> NodeFlags
         ensures { result.bits ≡ 0 }
     {
-        Marks { bits: 0 }
+        NodeFlags { bits: 0 }
     }
 
     /// The marks of a node.
-    pub fn of(node: &Node<'_>) -> Marks
+    pub fn of(node: &Node<'_>) -> NodeFlags
         ensures declaration { is_declaration result ≡ node.now.declaration }
         ensures external { is_external result ≡ node.now.external }
         ensures enum_class { is_enum_class result ≡ node.now.enum_class }
@@ -41,7 +41,7 @@ impl Marks {
         ensures address { has_address result ≡ node.now.address }
         ensures value { has_value result ≡ node.now.value }
     {
-        Marks {
+        NodeFlags {
             bits: bit(node.declaration, DECLARATION)
                 | bit(node.external, EXTERNAL)
                 | bit(node.enum_class, ENUM_CLASS)

@@ -7,9 +7,9 @@ ghost use Rattle.index_model.specs.Leaves.{leaf_seen, is_plain, AreSmall, Stands
 
 use crate::given::Given;
 use crate::leaf::Leaf;
-use crate::marks::Marks;
+use crate::marks::NodeFlags;
 use crate::nodes::Places;
-use crate::place::Place;
+use crate::place::TextInFile;
 use crate::shard::{Next, Node};
 
 /// The leaf that stands for a node by itself. None where the node says more than a leaf can.
@@ -22,8 +22,8 @@ pub(crate) fn packed(file: &[u8], node: &Node<'_>, places: Places) -> Option<Lea
     if !is_plain(node) {
         return None;
     }
-    let name = Place::of(file, node.name, places.name)?;
-    let linkage = Place::of(file, node.linkage, places.linkage)?;
+    let name = TextInFile::of(file, node.name, places.name)?;
+    let linkage = TextInFile::of(file, node.linkage, places.linkage)?;
     let (next, near) = target(node.next)?;
     Some(Leaf {
         offset: u32::try_from(node.offset).ok()?,
@@ -35,7 +35,7 @@ pub(crate) fn packed(file: &[u8], node: &Node<'_>, places: Places) -> Option<Lea
         tag: u16::try_from(node.tag).ok()?,
         name_length: name.length,
         linkage_length: linkage.length,
-        marks: Marks::of(node),
+        marks: NodeFlags::of(node),
         given: Given::of(
             node.parent.is_some(),
             name.given,

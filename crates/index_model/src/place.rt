@@ -5,21 +5,21 @@ ghost use Rattle.index_model.specs.Leaves.{StandsAt, text_at, text_of};
 
 /// Where a text stands in the file, if there is one.
 #[derive(Clone, Copy)]
-pub(crate) struct Place {
+pub(crate) struct TextInFile {
     /// Whether there is a text.
     pub given: bool,
     pub at: u32,
     pub length: u16,
 }
 
-impl Place {
+impl TextInFile {
     /// The place of a text that is thought to stand there. None where it doesn't, or where a number is too large.
-    pub fn of(file: &[u8], text: Option<&[u8]>, at: u64) -> Option<Place>
+    pub fn of(file: &[u8], text: Option<&[u8]>, at: u64) -> Option<TextInFile>
         ensures text { IfSome result (λ p. text_of file.now p ≡ option_map (λ t. t.now) text.entry) }
         ensures stands { StandsAt file.now text.entry at → IsSome result }
     {
         let Some(text) = text else {
-            return Some(Place {
+            return Some(TextInFile {
                 given: false,
                 at: 0,
                 length: 0,
@@ -28,7 +28,7 @@ impl Place {
         let at = u32::try_from(at).ok()?;
         let length = u16::try_from(text.len()).ok()?;
         match text_at(file, at, length) {
-            Some(found) if found == text => Some(Place {
+            Some(found) if found == text => Some(TextInFile {
                 given: true,
                 at,
                 length,

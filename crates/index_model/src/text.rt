@@ -5,11 +5,11 @@ use std::marker::Model;
 /// The bytes of a name, borrowed from the file or owned. Contracts see them as a list of bytes.
 #[derive(Drop)]
 pub struct Text<'f> {
-    kept: Kept<'f>,
+    kept: TextBytes<'f>,
 }
 
 #[derive(Drop)]
-enum Kept<'f> {
+enum TextBytes<'f> {
     Lent(&'f [u8]),
     Owned(Vec<u8>),
 }
@@ -32,7 +32,7 @@ impl<'f> Text<'f> {
         ensures { result ≡ bytes.now }
     {
         Text {
-            kept: Kept::Lent(bytes),
+            kept: TextBytes::Lent(bytes),
         }
     }
 
@@ -41,7 +41,7 @@ impl<'f> Text<'f> {
         ensures { result ≡ bytes.items }
     {
         Text {
-            kept: Kept::Owned(bytes),
+            kept: TextBytes::Owned(bytes),
         }
     }
 
@@ -50,8 +50,8 @@ impl<'f> Text<'f> {
         ensures { result.now ≡ self.now }
     {
         match &self.kept {
-            Kept::Lent(bytes) => bytes,
-            Kept::Owned(bytes) => bytes.as_slice(),
+            TextBytes::Lent(bytes) => bytes,
+            TextBytes::Owned(bytes) => bytes.as_slice(),
         }
     }
 }

@@ -15,7 +15,7 @@ pub enum UnitSort {
     /// A full compilation unit.
     Compile,
     /// A type unit.
-    Unnamed,
+    TypeUnit,
     /// A partial unit.
     Partial,
     /// A skeleton unit.

@@ -37,9 +37,9 @@ fn four_units() -> [Unit; 4]
 {
     [
         unit(0, Part::Info, UnitSort::Compile),
-        unit(256, Part::Info, UnitSort::Unnamed),
+        unit(256, Part::Info, UnitSort::TypeUnit),
         unit(512, Part::Info, UnitSort::Partial),
-        unit(768, Part::Types, UnitSort::Unnamed),
+        unit(768, Part::Types, UnitSort::TypeUnit),
     ]
 }
 

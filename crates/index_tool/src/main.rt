@@ -14,7 +14,7 @@ use outside::{FileShelf, NoGate, StreamSink, StreamSource};
 use said::{answer, say_end, stop};
 use std::process::ExitCode;
 use streams::take_closed;
-use words::{Stop, checked_words};
+use words::{NotBegun, checked_words};
 
 fn main(rt: HostRuntime) -> ExitCode {
     let _closed = take_closed(&rt);
@@ -25,7 +25,7 @@ fn main(rt: HostRuntime) -> ExitCode {
     };
     let mut shelf = match FileShelf::new(&rt, rt.alloc()) {
         Ok(shelf) => shelf,
-        Err(_) => return ExitCode::from(stop(&rt, Stop::NoMemory, &mut out)),
+        Err(_) => return ExitCode::from(stop(&rt, NotBegun::NoMemory, &mut out)),
     };
     let mut input = StreamSource::new(rt.reader());
     let status = match help_for(&words) {

@@ -2,7 +2,7 @@
 
 use crate::lines::Remembering;
 use crate::section::{NAME, section_name};
-use crate::words::Stop;
+use crate::words::NotBegun;
 use command_base::Status;
 use fault_words::{Message, message_for, note_for};
 use outside::{
@@ -12,19 +12,19 @@ use std::io::{self, Eprint, Read, Write};
 use std::rt::Files;
 
 /// Ends a command that doesn't begin, with its line and its status.
-pub(crate) fn stop<R: Eprint, K: Sink>(rt: &R, why: Stop, out: &mut K) -> u8 {
+pub(crate) fn stop<R: Eprint, K: Sink>(rt: &R, why: NotBegun, out: &mut K) -> u8 {
     let (status, line) = match why {
-        Stop::NotUtf8 => {
+        NotBegun::NotUtf8 => {
             let _ = eprintln!(rt; "gdbix: usage: a word isn't UTF-8");
             (Status::Usage, "usage\n")
         }
-        Stop::OverItsFile => {
+        NotBegun::OverItsFile => {
             let _ = eprintln!(rt;
                 "gdbix: usage: OUT is FILE itself; name another file, or put the index into FILE with gdbix add"
             );
             (Status::Usage, "usage\n")
         }
-        Stop::NoMemory => {
+        NotBegun::NoMemory => {
             if let Some(message) = message_for(Status::NoMemory.code(), b"", &[]) {
                 say(rt, message);
             }

@@ -10,7 +10,7 @@ use std::rt::{Env, Files};
 
 /// Why a command doesn't begin.
 #[derive(Clone, Copy)]
-pub(crate) enum Stop {
+pub(crate) enum NotBegun {
     /// A word isn't UTF-8, so it is none of the grammar.
     NotUtf8,
     /// An index would take the place of the program that it is made of.
@@ -18,39 +18,39 @@ pub(crate) enum Stop {
     NoMemory,
 }
 
-impl From<AllocError> for Stop {
-    fn from(_error: AllocError) -> Stop {
-        Stop::NoMemory
+impl From<AllocError> for NotBegun {
+    fn from(_error: AllocError) -> NotBegun {
+        NotBegun::NoMemory
     }
 }
 
-impl<T: Drop> From<AllocFailed<T>> for Stop {
-    fn from(_refused: AllocFailed<T>) -> Stop {
-        Stop::NoMemory
+impl<T: Drop> From<AllocFailed<T>> for NotBegun {
+    fn from(_refused: AllocFailed<T>) -> NotBegun {
+        NotBegun::NoMemory
     }
 }
 
 // The words are all there or refused for want of memory, but for one that isn't UTF-8.
-impl From<io::Error> for Stop {
-    fn from(error: io::Error) -> Stop {
+impl From<io::Error> for NotBegun {
+    fn from(error: io::Error) -> NotBegun {
         match error.kind() {
-            ErrorKind::OutOfMemory => Stop::NoMemory,
-            _ => Stop::NotUtf8,
+            ErrorKind::OutOfMemory => NotBegun::NoMemory,
+            _ => NotBegun::NotUtf8,
         }
     }
 }
 
 /// The words behind the program's name, by which nothing is stored over the file that it is made of.
-pub(crate) fn checked_words<R: Env + Files + AllocGlobal>(rt: &R) -> Result<Vec<String>, Stop> {
+pub(crate) fn checked_words<R: Env + Files + AllocGlobal>(rt: &R) -> Result<Vec<String>, NotBegun> {
     let words = words(rt)?;
     if stores_over_its_file(rt, &words)? {
-        return Err(Stop::OverItsFile);
+        return Err(NotBegun::OverItsFile);
     }
     Ok(words)
 }
 
 // The words behind the program's name. `-h` alone is `--help`.
-fn words<R: Env + AllocGlobal>(rt: &R) -> Result<Vec<String>, Stop> {
+fn words<R: Env + AllocGlobal>(rt: &R) -> Result<Vec<String>, NotBegun> {
     let mut words = Vec::new(rt.alloc());
     for word in env::args(rt)?.skip(1) {
         words.push(word)?;

@@ -5,8 +5,8 @@ use Rattle.ix_base.specs.Reading.{Input}
 use Rattle.index_model.specs.Meaning.{◌>>=◌, at_place}
 use Rattle.index_model.specs.Sections.{Section}
 use Rattle.reach_model.specs.LineTables.{FileEntry, FileName, before, file_at, new_entry, one_more, so_many, up_to_end}
-use Rattle.line_files.specs.declared.files.Kind.{Kind}
-use Rattle.line_files.specs.declared.files.Kind.TheVariants.{UpToEnd, ByFormats}
+use Rattle.line_files.specs.declared.files.FileTableKind.{FileTableKind}
+use Rattle.line_files.specs.declared.files.FileTableKind.TheVariants.{UpToEnd, ByFormats}
 use Rattle.line_files.specs.Ahead.{entries_left, entry_by, some_entry, with_numbers}
 
 -- the first of the files is that of the first entry
@@ -25,7 +25,7 @@ step r later = r >>= λ x. one_more x later
 
 module _ (ss : List Section) (wide : Bool) where
   -- where one more may come
-  one_left : (kind : Kind) (n : ℕ) (i : Input) → entries_left kind ss wide (suc n) i ≡ step (entry_by kind ss wide true i) (entries_left kind ss wide n)
+  one_left : (kind : FileTableKind) (n : ℕ) (i : Input) → entries_left kind ss wide (suc n) i ≡ step (entry_by kind ss wide true i) (entries_left kind ss wide n)
   unfolding up_to_end so_many
   one_left UpToEnd n i = refl
   one_left (ByFormats fs) n i = by (new_entry ss wide fs.items (record { name = []; dir = 0 }) i)
@@ -35,13 +35,13 @@ module _ (ss : List Section) (wide : Bool) where
       by (Err code) = refl
 
   -- where none may come
-  none_left : (kind : Kind) (i : Input) (later : Input → Result (List FileEntry × Input) ℕ) → entries_left kind ss wide 0 i ≡ step (entry_by kind ss wide false i) later
+  none_left : (kind : FileTableKind) (i : Input) (later : Input → Result (List FileEntry × Input) ℕ) → entries_left kind ss wide 0 i ≡ step (entry_by kind ss wide false i) later
   unfolding up_to_end so_many
   none_left UpToEnd i later = refl
   none_left (ByFormats fs) i later = refl
 
   -- what is left by the next entry
-  left_by : (kind : Kind) (next end : ℕ) (i : Input) → entries_left kind ss wide (end - next) i ≡ step (entry_by kind ss wide (nat_lt next end) i) (entries_left kind ss wide (end - (next + 1)))
+  left_by : (kind : FileTableKind) (next end : ℕ) (i : Input) → entries_left kind ss wide (end - next) i ≡ step (entry_by kind ss wide (nat_lt next end) i) (entries_left kind ss wide (end - (next + 1)))
   left_by kind next end i = by (nat_lt next end) refl
     where
       by : (b : Bool) → nat_lt next end ≡ b → entries_left kind ss wide (end - next) i ≡ step (entry_by kind ss wide b i) (entries_left kind ss wide (end - (next + 1)))
@@ -54,7 +54,7 @@ module _ (ss : List Section) (wide : Bool) where
           let out : end - next ≡ 0 = omega arith in
           rw out (none_left kind i (entries_left kind ss wide (end - (next + 1))))
 
-  module _ (kind : Kind) (next end : ℕ) (i : Input) where
+  module _ (kind : FileTableKind) (next end : ℕ) (i : Input) where
     -- the next entry is wrong
     pub left_stops : (code : ℕ) → entry_by kind ss wide (nat_lt next end) i ≡ Err code → with_numbers next (entries_left kind ss wide (end - next) i) ≡ Err code
     left_stops code e = rw (left_by kind next end i, e) refl

@@ -6,9 +6,9 @@ use Rattle.index_model.specs.Meaning.{◌>>=◌, at_place}
 use Rattle.index_model.specs.Sections.{Section}
 use Rattle.reach_model.specs.declared.code.TheConstants.{LINES_FIELDS}
 use Rattle.reach_model.specs.LineTables as meant
-use Rattle.line_files.specs.declared.files.Files.{Files}
-use Rattle.line_files.specs.declared.files.Kind.{Kind}
-use Rattle.line_files.specs.declared.files.Kind.TheVariants.{UpToEnd, ByFormats}
+use Rattle.line_files.specs.declared.files.FilesLeft.{FilesLeft}
+use Rattle.line_files.specs.declared.files.FileTableKind.{FileTableKind}
+use Rattle.line_files.specs.declared.files.FileTableKind.TheVariants.{UpToEnd, ByFormats}
 use Rattle.line_files.specs.declared.found.FileName.{FileName}
 use Rattle.line_files.specs.Found.{file_seen}
 
@@ -17,16 +17,16 @@ abbrev pub with_numbers : ℕ → Result (List meant.FileEntry × Input) ℕ →
 with_numbers first es = es >>= λ x. Ok (meant.numbered first x.0)
 
 -- n more entries, or up to the end
-abbrev pub entries_left : Kind → List Section → Bool → ℕ → meant.TableReader (List meant.FileEntry)
+abbrev pub entries_left : FileTableKind → List Section → Bool → ℕ → meant.TableReader (List meant.FileEntry)
 entries_left UpToEnd ss wide n i = meant.up_to_end n meant.old_file i
 entries_left (ByFormats fs) ss wide n i = meant.so_many n (meant.new_entry ss wide fs.items (record { name = []; dir = 0 })) i
 
 -- the files that are left
-abbrev pub files_left : Files → Result (List meant.FileName) ℕ
+abbrev pub files_left : FilesLeft → Result (List meant.FileName) ℕ
 files_left f = with_numbers f.next (entries_left f.kind f.source.sections.now f.source.wide (f.end - f.next) f.cursor)
 
 -- the same, with the place of the fault
-abbrev pub ahead : Files → Result (List meant.FileName) Fault
+abbrev pub ahead : FilesLeft → Result (List meant.FileName) Fault
 ahead f = at_place f.start (files_left f)
 
 -- the entry that is there
@@ -34,21 +34,21 @@ abbrev pub some_entry : Result (meant.FileEntry × Input) ℕ → Result (Option
 some_entry e = e >>= λ x. Ok (Some x.0, x.1)
 
 -- the next entry; behind the last there is none
-abbrev pub entry_by : Kind → List Section → Bool → Bool → Input → Result (Option meant.FileEntry × Input) ℕ
+abbrev pub entry_by : FileTableKind → List Section → Bool → Bool → Input → Result (Option meant.FileEntry × Input) ℕ
 entry_by UpToEnd ss wide more i = if more then meant.old_file i else Err LINES_FIELDS
 entry_by (ByFormats fs) ss wide more i = if more then some_entry (meant.new_entry ss wide fs.items (record { name = []; dir = 0 }) i) else Ok (None, i)
 
 -- the next entry of these files
-abbrev pub entry_left : Files → Result (Option meant.FileEntry × Input) ℕ
+abbrev pub entry_left : FilesLeft → Result (Option meant.FileEntry × Input) ℕ
 entry_left f = entry_by f.kind f.source.sections.now f.source.wide (nat_lt f.next f.end) f.cursor
 
 -- the files that are left are these, or the code is that of what is wrong before them
-abbrev pub GivesLeft : ℕ → Result Files ℕ → Result (List meant.FileName) ℕ → Type 0
+abbrev pub GivesLeft : ℕ → Result FilesLeft ℕ → Result (List meant.FileName) ℕ → Type 0
 GivesLeft start (Ok f) meaning = (meaning ≡ files_left f) × (f.start ≡ start)
 GivesLeft start (Err code) meaning = meaning ≡ Err code
 
 -- the files ahead are these, or this is the fault before them
-abbrev pub GivesAhead : Result Files Fault → Result (List meant.FileName) Fault → Type 0
+abbrev pub GivesAhead : Result FilesLeft Fault → Result (List meant.FileName) Fault → Type 0
 GivesAhead (Ok f) meaning = meaning ≡ ahead f
 GivesAhead (Err fault) meaning = meaning ≡ Err fault
 

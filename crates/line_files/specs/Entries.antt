@@ -1,13 +1,13 @@
 -- Entries of tables, as the definitions see them.
 use Rattle.std.specs.Prelude.{ℕ, length, Result, Ok, Err}
 use Rattle.ix_base.specs.Reading.{Input}
-use Rattle.line_files.specs.declared.header.Header.{Header}
-use Rattle.line_files.specs.declared.source.Entry.{Entry}
+use Rattle.line_files.specs.declared.header.LineHeader.{LineHeader}
+use Rattle.line_files.specs.declared.source.ListedPath.{ListedPath}
 use Rattle.line_files.specs.declared.tables.Layout.{Layout}
 use Rattle.reach_model.specs.LineTables as meant
 
 -- the entry
-abbrev pub entry_seen : Entry → meant.FileEntry
+abbrev pub entry_seen : ListedPath → meant.FileEntry
 entry_seen e = record { name = e.name.now; dir = e.dir }
 
 -- the layout
@@ -24,5 +24,5 @@ abbrev pub directories_end : Input → Result Input ℕ
 directories_end i = place_behind (meant.up_to_end (length i.rest) meant.old_directory i)
 
 -- the header
-abbrev pub header_seen : Header → meant.Header
+abbrev pub header_seen : LineHeader → meant.Header
 header_seen h = record { version = h.version; wide = h.wide; tables = h.tables }

@@ -14,7 +14,7 @@ use Rattle.file_image.specs.Images.{Image}
 use Rattle.reach_model.specs.LineTables.{FileHit, FileName, files_at, hits_in}
 use Rattle.line_files.specs.declared.found.FileHit.{FileHit as FoundHit}
 use Rattle.line_files.specs.declared.run.Last.{Last}
-use Rattle.line_files.specs.declared.run.Run.{Run}
+use Rattle.line_files.specs.declared.run.FilesSoFar.{FilesSoFar}
 use Rattle.line_files.specs.Found.{hits_seen}
 use Rattle.line_files.specs.Places.{files_by, IsAtOffset}
 
@@ -55,7 +55,7 @@ abbrev pub IsLast : List Section → List ℕ → List FileHit → Option Last �
 IsLast ss name hits last = ForSome last (AreOfTable ss name hits)
 
 -- what the next unit may have in common with the one before is right
-pub record IsRun (ss : List Section) (r : Run) : Type 0 where
+pub record IsRun (ss : List Section) (r : FilesSoFar) : Type 0 where
   pub last : IsLast ss r.name.now (hits_seen r.hits.items) r.last
   pub at_hand : ForSome r.at_hand (IsAtOffset (section_bytes ss (codes ".debug_abbrev")))
 

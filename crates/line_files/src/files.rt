@@ -10,7 +10,7 @@ ghost use Rattle.line_files.specs.Entries.{entry_seen};
 use crate::formats::Formats;
 use crate::found::FileName;
 use crate::header::read_header;
-use crate::source::{Entry, Source};
+use crate::source::{ListedPath, PathSections};
 use crate::tables::{pass_directories, read_layout, read_old_file};
 use file_image::Sections;
 use ix_base::{Cursor, Fault};
@@ -18,7 +18,7 @@ use reach_model::code::LINES_FIELDS;
 
 /// How the entries of a table of files are written.
 #[derive(Drop)]
-pub(crate) enum Kind {
+pub(crate) enum FileTableKind {
     /// Up to an empty path, as versions 2 to 4 have them.
     UpToEnd,
     /// By formats, as version 5 has them.
@@ -27,11 +27,11 @@ pub(crate) enum Kind {
 
 /// The files of a unit's line table that are still to come.
 #[derive(Drop)]
-pub(crate) struct Files<'s, 'f> {
+pub(crate) struct FilesLeft<'s, 'f> {
     /// The unit's joint offset.
     start: u64,
-    source: Source<'s, 'f>,
-    kind: Kind,
+    source: PathSections<'s, 'f>,
+    kind: FileTableKind,
     cursor: Cursor<'f>,
     /// The index of the next file.
     next: u64,
@@ -39,12 +39,16 @@ pub(crate) struct Files<'s, 'f> {
     end: u64,
 }
 
-impl<'s, 'f> Files<'s, 'f> {
+impl<'s, 'f> FilesLeft<'s, 'f> {
     /// The files of the table at a place of `.debug_line`, for the unit with this joint offset.
-    pub fn open(sections: &'s Sections<'f>, start: u64, place: u64) -> Result<Files<'s, 'f>, Fault>
+    pub fn open(
+        sections: &'s Sections<'f>,
+        start: u64,
+        place: u64,
+    ) -> Result<FilesLeft<'s, 'f>, Fault>
         ensures { GivesAhead result (at_place start (files_at sections.now place)) }
     {
-        match Files::at(sections, start, place) {
+        match FilesLeft::at(sections, start, place) {
             Ok(files) => Ok(files),
             Err(code) => Err(Fault { code, at: start }),
         }
@@ -52,18 +56,18 @@ impl<'s, 'f> Files<'s, 'f> {
 
     // The same, or the code of what is first wrong before the files.
     #[tactic(auto, unfolding(reach_model::specs::LineTables::files_at, reach_model::specs::LineTables::files_behind))]
-    fn at(sections: &'s Sections<'f>, start: u64, place: u64) -> Result<Files<'s, 'f>, u8>
+    fn at(sections: &'s Sections<'f>, start: u64, place: u64) -> Result<FilesLeft<'s, 'f>, u8>
         ensures { GivesLeft start result (files_at sections.now place) }
     {
         let header = read_header(sections.get(b".debug_line"), place)?;
-        let source = Source {
+        let source = PathSections {
             sections,
             wide: header.wide,
         };
         if header.version == 5 {
-            Files::by_formats(start, source, header.tables)
+            FilesLeft::by_formats(start, source, header.tables)
         } else {
-            Files::up_to_end(start, source, header.tables)
+            FilesLeft::up_to_end(start, source, header.tables)
         }
     }
 
@@ -71,18 +75,18 @@ impl<'s, 'f> Files<'s, 'f> {
     #[tactic(auto, unfolding(reach_model::specs::LineTables::old_files))]
     fn up_to_end(
         start: u64,
-        source: Source<'s, 'f>,
+        source: PathSections<'s, 'f>,
         mut cursor: Cursor<'f>,
-    ) -> Result<Files<'s, 'f>, u8>
+    ) -> Result<FilesLeft<'s, 'f>, u8>
         ensures { GivesLeft start result (with_numbers 1 (old_files cursor.entry)) }
     {
         pass_directories(&mut cursor)?;
         // There are fewer of them than bytes.
         let end = 1 + cursor.rest().len() as u64;
-        Ok(Files {
+        Ok(FilesLeft {
             start,
             source,
-            kind: Kind::UpToEnd,
+            kind: FileTableKind::UpToEnd,
             cursor,
             next: 1,
             end,
@@ -93,17 +97,17 @@ impl<'s, 'f> Files<'s, 'f> {
     #[tactic(auto, unfolding(reach_model::specs::LineTables::new_files, reach_model::specs::LineTables::entries_at))]
     fn by_formats(
         start: u64,
-        source: Source<'s, 'f>,
+        source: PathSections<'s, 'f>,
         mut cursor: Cursor<'f>,
-    ) -> Result<Files<'s, 'f>, u8>
+    ) -> Result<FilesLeft<'s, 'f>, u8>
         ensures { GivesLeft start result (with_numbers 0 (new_files source.entry.sections.now source.entry.wide cursor.entry)) }
     {
         source.pass_entries(&mut cursor)?;
         let layout = read_layout(&mut cursor)?;
-        Ok(Files {
+        Ok(FilesLeft {
             start,
             source,
-            kind: Kind::ByFormats(layout.formats),
+            kind: FileTableKind::ByFormats(layout.formats),
             cursor,
             next: 0,
             end: layout.count,
@@ -111,19 +115,19 @@ impl<'s, 'f> Files<'s, 'f> {
     }
 
     // The next entry, None behind the last.
-    fn entry(&mut self) -> Result<Option<Entry<'f>>, u8>
+    fn entry(&mut self) -> Result<Option<ListedPath<'f>>, u8>
         ensures value { GivesAlways (λ e. (option_map entry_seen e, self.new.cursor)) result (entry_left self.old) }
         ensures others { self.new ≡ record self.old { cursor = self.new.cursor } }
         ensures within { IfOk result (λ e. IfSome e (λ _. self.old.next < self.old.end)) }
     {
         match &self.kind {
-            Kind::UpToEnd => {
+            FileTableKind::UpToEnd => {
                 if self.next >= self.end {
                     return Err(LINES_FIELDS);
                 }
                 read_old_file(&mut self.cursor)
             }
-            Kind::ByFormats(formats) => {
+            FileTableKind::ByFormats(formats) => {
                 if self.next >= self.end {
                     return Ok(None);
                 }

@@ -6,6 +6,10 @@ ghost use Rattle.index_model.specs.Gives.{GivesAlways};
 ghost use Rattle.reach_model.specs.LineTables.{content_of, is_directory, is_path, is_form_of, is_number_form, is_string_form, format_behind, formats_at};
 
 use arrayvec::ArrayVec;
+use dwarf_codes::form::{
+    DW_FORM_block, DW_FORM_data1, DW_FORM_data2, DW_FORM_data4, DW_FORM_data8, DW_FORM_data16,
+    DW_FORM_line_strp, DW_FORM_string, DW_FORM_strp, DW_FORM_udata,
+};
 use ix_base::Cursor;
 use reach_model::code::{LINES_FIELDS, LINES_FORM};
 use reach_model::{Content, Format};
@@ -62,14 +66,17 @@ fn content_of(earlier: &[Format], code: u64) -> Content
 fn is_string_form(form: u64) -> bool
     ensures { result ≡ is_string_form form }
 {
-    matches!(form, 0x08 | 0x0e | 0x1f)
+    matches!(form, DW_FORM_string | DW_FORM_strp | DW_FORM_line_strp)
 }
 
 // Whether values of this form are unsigned numbers: data1, data2, data4, data8, udata.
 fn is_number_form(form: u64) -> bool
     ensures { result ≡ is_number_form form }
 {
-    matches!(form, 0x0b | 0x05 | 0x06 | 0x07 | 0x0f)
+    matches!(
+        form,
+        DW_FORM_data1 | DW_FORM_data2 | DW_FORM_data4 | DW_FORM_data8 | DW_FORM_udata
+    )
 }
 
 // Whether a content may have the form. Other contents than path and directory may also have block and data16.
@@ -81,7 +88,7 @@ fn is_form_of(content: Content, form: u64) -> bool
         Content::Directory => is_number_form(form),
         Content::Other => is_string_form(form)
             || is_number_form(form)
-            || matches!(form, 0x09 | 0x1e),
+            || matches!(form, DW_FORM_block | DW_FORM_data16),
     }
 }
 

@@ -11,7 +11,7 @@ use reach_model::code::{LINES_FIELDS, LINES_LENGTH, LINES_VERSION};
 
 /// A table's version, whether its offsets have 8 bytes, and what stands behind its fields.
 #[derive(Drop)]
-pub(crate) struct Header<'f> {
+pub(crate) struct LineHeader<'f> {
     pub version: u16,
     pub wide: bool,
     pub tables: Cursor<'f>,
@@ -77,13 +77,13 @@ fn pass_fields(version: u16, wide: bool, cursor: &mut Cursor<'_>) -> Result<(), 
 
 /// The header of the table at a place of `.debug_line`.
 #[tactic(auto, unfolding(reach_model::specs::LineTables::header_at))]
-pub(crate) fn read_header<'f>(lines: &'f [u8], place: u64) -> Result<Header<'f>, u8>
+pub(crate) fn read_header<'f>(lines: &'f [u8], place: u64) -> Result<LineHeader<'f>, u8>
     ensures { GivesAlways header_seen result (header_at lines.now place) }
 {
     let (wide, mut tables) = own_bytes(lines, place)?;
     let version = read_version(&mut tables)?;
     pass_fields(version, wide, &mut tables)?;
-    Ok(Header {
+    Ok(LineHeader {
         version,
         wide,
         tables,

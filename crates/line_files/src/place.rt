@@ -13,13 +13,12 @@ ghost use Rattle.reach_model.specs.LineTables.{as_line_place};
 ghost use Rattle.line_files.specs.Places.{place_by, place_of, IsAtOffset};
 
 use crate::abbreviations::AbbrevTable;
+use dwarf_codes::attribute::DW_AT_stmt_list;
 use entry_scan::{Abbrevs, Walk};
 use file_image::Image;
 use index_model::{Unit, Value};
 use ix_base::Stop;
 use std::alloc::Global;
-
-const STMT_LIST: u64 = 0x10;
 
 // The number, if it isn't negative.
 fn not_negative(number: i64) -> Option<u64>
@@ -51,7 +50,7 @@ fn place_in(bytes: &[u8], unit: &Unit, abbrevs: &Abbrevs) -> Option<u64>
     ensures { result ≡ place_by unit.now abbrevs.now bytes.now }
 {
     match Walk::new(bytes, unit, abbrevs).next() {
-        Ok(Some(root)) => as_place(unit.version, root.value(STMT_LIST)),
+        Ok(Some(root)) => as_place(unit.version, root.value(DW_AT_stmt_list)),
         _ => None,
     }
 }

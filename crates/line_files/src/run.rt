@@ -14,7 +14,7 @@ ghost use Rattle.line_files.specs.Places.{IsAtOffset};
 ghost use Rattle.line_files.specs.Runs.{hits_between, in_unit, matches, unit_hits_by, IsLast, IsRun};
 
 use crate::abbreviations::AbbrevTable;
-use crate::files::Files;
+use crate::files::FilesLeft;
 use crate::found::FileHit;
 use crate::names::is_match;
 use crate::place::{line_place, unit_at};
@@ -31,7 +31,7 @@ pub(crate) struct Last {
 
 /// The files that were found in the units so far, and what the next unit may have in common with the one before.
 #[derive(Drop)]
-pub(crate) struct Run<'n, 'f> {
+pub(crate) struct FilesSoFar<'n, 'f> {
     name: &'n [u8],
     hits: Vec<FileHit<'f>>,
     last: Option<Last>,
@@ -41,7 +41,7 @@ pub(crate) struct Run<'n, 'f> {
 // Adds the files of a unit's table with this name.
 fn add_matches<'f>(
     hits: &mut Vec<FileHit<'f>>,
-    mut files: Files<'_, 'f>,
+    mut files: FilesLeft<'_, 'f>,
     name: &[u8],
     unit: u32,
 ) -> Result<(), Stop>
@@ -68,7 +68,7 @@ fn repeat(hits: &mut Vec<FileHit<'_>>, first: usize, unit: u32) -> Result<(), No
     Ok(())
 }
 
-impl<'n, 'f> Run<'n, 'f> {
+impl<'n, 'f> FilesSoFar<'n, 'f> {
     // Adds the files of the table at a place for a unit, by its number and its joint offset. A table that was read for the unit
     // before isn't read again.
     fn add_table(
@@ -87,7 +87,7 @@ impl<'n, 'f> Run<'n, 'f> {
         match self.last {
             Some(last) if last.place == place => repeat(&mut self.hits, last.first, unit)?,
             _ => {
-                let files = Files::open(sections, start, place)?;
+                let files = FilesLeft::open(sections, start, place)?;
                 add_matches(&mut self.hits, files, self.name, unit)?;
             }
         }
@@ -122,7 +122,7 @@ pub(crate) fn hits_in_run<'f>(
     requires { to ≤ length image.now.units }
     ensures { Gives (λ v. hits_seen v.items) result (hits_between image.now name.now from to) }
 {
-    let mut run = Run {
+    let mut run = FilesSoFar {
         name,
         hits: Vec::new(alloc),
         last: None,
@@ -131,6 +131,6 @@ pub(crate) fn hits_in_run<'f>(
     'units: for number in from..to {
         run.add_unit(alloc, image, number)?;
     }
-    let Run { hits, .. } = run;
+    let FilesSoFar { hits, .. } = run;
     Ok(hits)
 }

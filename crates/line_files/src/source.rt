@@ -18,14 +18,14 @@ const VERSION: u16 = 5;
 
 /// An entry of a table: its path, and the number of its directory.
 #[derive(Clone, Copy)]
-pub(crate) struct Entry<'f> {
+pub(crate) struct ListedPath<'f> {
     pub name: &'f [u8],
     pub dir: u64,
 }
 
 /// The sections in which the paths of a table may stand, and whether the table's offsets have 8 bytes.
 #[derive(Clone, Copy)]
-pub(crate) struct Source<'s, 'f> {
+pub(crate) struct PathSections<'s, 'f> {
     pub sections: &'s Sections<'f>,
     pub wide: bool,
 }
@@ -58,7 +58,7 @@ fn number_of(value: &Value<'_>) -> u64
     }
 }
 
-impl<'f> Source<'_, 'f> {
+impl<'f> PathSections<'_, 'f> {
     // The value of a form at the cursor.
     fn value(&self, form: u64, cursor: &mut Cursor<'f>) -> Result<Value<'f>, u8>
         ensures { GivesAlways (λ v. (seen v, cursor.new)) result (value_in self.now.wide form cursor.old) }
@@ -88,16 +88,16 @@ impl<'f> Source<'_, 'f> {
         &self,
         content: Content,
         value: &Value<'f>,
-        entry: Entry<'f>,
-    ) -> Result<Entry<'f>, u8>
+        entry: ListedPath<'f>,
+    ) -> Result<ListedPath<'f>, u8>
         ensures { GivesAlways entry_seen result (with_content self.now.sections.now content (seen value.now) (entry_seen entry.entry)) }
     {
         match content {
-            Content::Path => Ok(Entry {
+            Content::Path => Ok(ListedPath {
                 name: self.path(value)?,
                 dir: entry.dir,
             }),
-            Content::Directory => Ok(Entry {
+            Content::Directory => Ok(ListedPath {
                 name: entry.name,
                 dir: number_of(value),
             }),
@@ -107,10 +107,10 @@ impl<'f> Source<'_, 'f> {
 
     /// The entry at the cursor, by the formats of its table. Where it says no path that is empty, and where it says no
     /// directory that is 0.
-    pub fn entry(&self, formats: &[Format], cursor: &mut Cursor<'f>) -> Result<Entry<'f>, u8>
+    pub fn entry(&self, formats: &[Format], cursor: &mut Cursor<'f>) -> Result<ListedPath<'f>, u8>
         ensures { GivesAlways (λ e. (entry_seen e, cursor.new)) result (new_entry self.now.sections.now self.now.wide formats.now (record { name = []; dir = 0 }) cursor.old) }
     {
-        let mut entry = Entry { name: &[], dir: 0 };
+        let mut entry = ListedPath { name: &[], dir: 0 };
         for format in formats {
             let value = self.value(format.form, cursor)?;
             entry = self.with_content(format.content, &value, entry)?;

@@ -7,7 +7,7 @@ ghost use Rattle.reach_model.specs.LineTables.{entries_at, layout_at, old_direct
 ghost use Rattle.line_files.specs.Entries.{directories_end, entry_seen, layout_seen, place_behind};
 
 use crate::formats::{Formats, read_formats};
-use crate::source::{Entry, Source};
+use crate::source::{ListedPath, PathSections};
 use ix_base::Cursor;
 use reach_model::code::LINES_FIELDS;
 
@@ -31,7 +31,7 @@ pub(crate) fn read_layout(cursor: &mut Cursor<'_>) -> Result<Layout, u8>
     Ok(Layout { formats, count })
 }
 
-impl<'f> Source<'_, 'f> {
+impl<'f> PathSections<'_, 'f> {
     /// Passes a table.
     pub fn pass_entries(&self, cursor: &mut Cursor<'f>) -> Result<(), u8>
         ensures { GivesAlways (λ _. cursor.new) result (place_behind (entries_at self.now.sections.now self.now.wide cursor.old)) }
@@ -71,7 +71,7 @@ pub(crate) fn pass_directories(cursor: &mut Cursor<'_>) -> Result<(), u8>
 
 /// The file at the cursor in a table up to version 4, None at the end of the table. Its time and its length aren't kept.
 #[tactic(auto, unfolding(reach_model::specs::LineTables::old_file_named))]
-pub(crate) fn read_old_file<'f>(cursor: &mut Cursor<'f>) -> Result<Option<Entry<'f>>, u8>
+pub(crate) fn read_old_file<'f>(cursor: &mut Cursor<'f>) -> Result<Option<ListedPath<'f>>, u8>
     ensures { GivesAlways (λ e. (option_map entry_seen e, cursor.new)) result (old_file cursor.old) }
 {
     let name = cursor.zstr().ok_or(LINES_FIELDS)?;
@@ -81,5 +81,5 @@ pub(crate) fn read_old_file<'f>(cursor: &mut Cursor<'f>) -> Result<Option<Entry<
     let dir = cursor.uleb().ok_or(LINES_FIELDS)?;
     cursor.uleb().ok_or(LINES_FIELDS)?;
     cursor.uleb().ok_or(LINES_FIELDS)?;
-    Ok(Some(Entry { name, dir }))
+    Ok(Some(ListedPath { name, dir }))
 }

@@ -7,7 +7,7 @@ ghost use Rattle.line_files.specs.Ahead.{ahead};
 ghost use Rattle.line_files.specs.Found.{files_seen};
 ghost use Rattle.line_files.specs.Programs.{ForUnit};
 
-use crate::files::Files;
+use crate::files::FilesLeft;
 use crate::found::FileName;
 use crate::place::{line_place, unit_at};
 use file_image::Image;
@@ -26,13 +26,13 @@ pub fn table<'f>(alloc: Global, image: &Image<'f>, unit: u32) -> Result<Vec<File
     let number = unit as usize;
     let start = unit_at(image, number).start;
     match line_place(alloc, image, number, &mut None)? {
-        Some(place) => all_files(alloc, Files::open(image.sections(), start, place)?),
+        Some(place) => all_files(alloc, FilesLeft::open(image.sections(), start, place)?),
         None => Ok(Vec::new(alloc)),
     }
 }
 
 // All files of a table.
-fn all_files<'f>(alloc: Global, mut files: Files<'_, 'f>) -> Result<Vec<FileName<'f>>, Stop>
+fn all_files<'f>(alloc: Global, mut files: FilesLeft<'_, 'f>) -> Result<Vec<FileName<'f>>, Stop>
     ensures { Gives (λ v. files_seen v.items) result (ahead files.entry) }
 {
     let mut found = Vec::new(alloc);

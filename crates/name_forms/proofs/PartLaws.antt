@@ -6,8 +6,8 @@ use Rattle.std.specs.List.{onto_first, ends_with, list_all}
 use Rattle.std.proofs.lemmas.Bool.{cases_Bool, eqb-true, eq-eqb, ne_eqb}
 use Rattle.common_laws.proofs.Booleans.{second_off}
 use Rattle.index_model.specs.AdaNames.{pieces, is_digit, is_letter, is_line, is_good_byte, is_good_piece}
-use Rattle.name_forms.specs.declared.parts.Part.{Part}
-use Rattle.name_forms.specs.declared.parts.Part.TheVariants as of
+use Rattle.name_forms.specs.declared.parts.Before.{Before}
+use Rattle.name_forms.specs.declared.parts.Before.TheVariants as of
 use Rattle.name_forms.specs.Coded.{front, is_good, part_after}
 use Rattle.name_forms.proofs.CutLaws.{step_on, step_off, one, nothing}
 use Rattle.name_forms.proofs.LengthLaws.{adds_up}
@@ -114,40 +114,40 @@ no_three false false z e f = f
 both_same : (g h bs x y : Bool) → g ≡ h → x ≡ y → ((g && bs) && x) ≡ ((h && bs) && y)
 both_same g h bs x y e f = rw (e, f) refl
 
-abbrev behind : Part → List ℕ → Bool
+abbrev behind : Before → List ℕ → Bool
 behind p xs = is_good (front p ++ xs)
 
-inner : (b : ℕ) (xs : List ℕ) (q : Part) → (x : Bool) → all_good (pieces (97 ∷ xs)) ≡ x → is_line b ≡ false → cond (is_letter b || is_digit b) (Some of.Inside) None ≡ Some q → ((is_good_byte b && list_all is_good_byte xs) && x) ≡ behind q xs
+inner : (b : ℕ) (xs : List ℕ) (q : Before) → (x : Bool) → all_good (pieces (97 ∷ xs)) ≡ x → is_line b ≡ false → cond (is_letter b || is_digit b) (Some of.Inside) None ≡ Some q → ((is_good_byte b && list_all is_good_byte xs) && x) ≡ behind q xs
 inner b xs q x same not e = by (is_letter b || is_digit b) refl e
   where
     by : (t : Bool) → (is_letter b || is_digit b) ≡ t → cond t (Some of.Inside) None ≡ Some q → ((is_good_byte b && list_all is_good_byte xs) && x) ≡ behind q xs
     by true is e =
         let to : of.Inside ≡ q = cc in
-        both_same (is_good_byte b) true (list_all is_good_byte xs) x (all_good (pieces (97 ∷ xs))) (three (is_letter b) (is_digit b) (is_line b) is) (sym same) ∙ ap (λ (p : Part). behind p xs) to
+        both_same (is_good_byte b) true (list_all is_good_byte xs) x (all_good (pieces (97 ∷ xs))) (three (is_letter b) (is_digit b) (is_line b) is) (sym same) ∙ ap (λ (p : Before). behind p xs) to
     by false is e = absurd cc
 
-pub goes : (p q : Part) (b : ℕ) (xs : List ℕ) → Some q ≡ part_after p b → is_good (front p ++ b ∷ xs) ≡ is_good (front q ++ xs)
+pub goes : (p q : Before) (b : ℕ) (xs : List ℕ) → Some q ≡ part_after p b → is_good (front p ++ b ∷ xs) ≡ is_good (front q ++ xs)
 goes of.Begin q b xs e = by (is_letter b) refl e
   where
     by : (t : Bool) → is_letter b ≡ t → Some q ≡ cond t (Some of.Inside) None → is_good (b ∷ xs) ≡ behind q xs
     by true is e =
         let to : of.Inside ≡ q = cc in
         let either : (is_letter b || is_digit b) ≡ true = rw is refl in
-        both_same (is_good_byte b) true (list_all is_good_byte xs) (all_good (pieces (b ∷ xs))) (all_good (pieces (97 ∷ xs))) (three (is_letter b) (is_digit b) (is_line b) either) (letter_first b xs is (letter_line b either)) ∙ ap (λ (p : Part). behind p xs) to
+        both_same (is_good_byte b) true (list_all is_good_byte xs) (all_good (pieces (b ∷ xs))) (all_good (pieces (97 ∷ xs))) (three (is_letter b) (is_digit b) (is_line b) either) (letter_first b xs is (letter_line b either)) ∙ ap (λ (p : Before). behind p xs) to
     by false is e = absurd cc
 goes of.Inside q b xs e = by (is_line b) refl e
   where
     by : (t : Bool) → is_line b ≡ t → Some q ≡ cond t (Some of.Line) (cond (is_letter b || is_digit b) (Some of.Inside) None) → is_good (97 ∷ b ∷ xs) ≡ behind q xs
     by true is e =
         let to : of.Line ≡ q = cc in
-        ap (λ (c : ℕ). is_good (97 ∷ c ∷ xs)) (eqb-true b 95 is) ∙ ap (λ (p : Part). behind p xs) to
+        ap (λ (c : ℕ). is_good (97 ∷ c ∷ xs)) (eqb-true b 95 is) ∙ ap (λ (p : Before). behind p xs) to
     by false is e = inner b xs q (all_good (pieces (97 ∷ b ∷ xs))) (sym (inside_on b xs is)) is (sym e)
 goes of.Line q b xs e = by (is_line b) refl e
   where
     by : (t : Bool) → is_line b ≡ t → Some q ≡ cond t (Some of.Begin) (cond (is_letter b || is_digit b) (Some of.Inside) None) → is_good (97 ∷ 95 ∷ b ∷ xs) ≡ behind q xs
     by true is e =
         let to : of.Begin ≡ q = cc in
-        ap (λ (c : ℕ). is_good (97 ∷ 95 ∷ c ∷ xs)) (eqb-true b 95 is) ∙ ap (λ (x : Bool). list_all is_good_byte xs && x) (line_cut xs) ∙ ap (λ (p : Part). behind p xs) to
+        ap (λ (c : ℕ). is_good (97 ∷ 95 ∷ c ∷ xs)) (eqb-true b 95 is) ∙ ap (λ (x : Bool). list_all is_good_byte xs && x) (line_cut xs) ∙ ap (λ (p : Before). behind p xs) to
     by false is e = inner b xs q (all_good (pieces (97 ∷ 95 ∷ b ∷ xs))) (sym (line_on b xs is)) is (sym e)
 
 wrong_byte : (b : ℕ) (xs : List ℕ) (x : Bool) → None ≡ cond (is_line b) (Some of.Line) (cond (is_letter b || is_digit b) (Some of.Inside) None) → ((is_good_byte b && list_all is_good_byte xs) && x) ≡ false
@@ -158,7 +158,7 @@ wrong_byte b xs x e = by (is_line b) (is_letter b || is_digit b) refl refl e
     by false true a c e = absurd cc
     by false false a c e = ap (λ (g : Bool). (g && list_all is_good_byte xs) && x) (no_three (is_letter b) (is_digit b) (is_line b) c a)
 
-pub stops : (p : Part) (b : ℕ) (xs : List ℕ) → None ≡ part_after p b → is_good (front p ++ b ∷ xs) ≡ false
+pub stops : (p : Before) (b : ℕ) (xs : List ℕ) → None ≡ part_after p b → is_good (front p ++ b ∷ xs) ≡ false
 stops of.Begin b xs e = by (is_letter b) refl e
   where
     by : (t : Bool) → is_letter b ≡ t → None ≡ cond t (Some of.Inside) None → is_good (b ∷ xs) ≡ false
@@ -182,7 +182,7 @@ ends_inside = ap all_good (one 97)
 pub ends_line : is_good (front of.Line ++ []) ≡ false
 ends_line = ap all_good (step_off 97 95 [] refl ∙ ap (onto_first 97) (one 95))
 
-pub ends_elsewhere : (p : Part) → (p ≡ of.Inside → ⊥) → is_good (front p ++ []) ≡ false
+pub ends_elsewhere : (p : Before) → (p ≡ of.Inside → ⊥) → is_good (front p ++ []) ≡ false
 ends_elsewhere of.Begin not = ends_begin
 ends_elsewhere of.Inside not = absurd (not refl)
 ends_elsewhere of.Line not = ends_line

@@ -7,7 +7,7 @@ use crate::pieces::LINE;
 
 /// What stands before a byte of a name.
 #[derive(Clone, Copy)]
-pub(crate) enum Part {
+pub(crate) enum Before {
     /// Nothing, or a `__`: a piece begins.
     Begin,
     /// A letter or a digit of a piece.
@@ -16,23 +16,23 @@ pub(crate) enum Part {
     Line,
 }
 
-impl Part {
+impl Before {
     // What stands before the next byte; none where no coded name has the byte here.
-    fn after(self, b: u8) -> Option<Part>
+    fn after(self, b: u8) -> Option<Before>
         ensures { result ≡ part_after self b }
     {
         match self {
-            Part::Begin => first(b),
-            Part::Inside => {
+            Before::Begin => first(b),
+            Before::Inside => {
                 if b == LINE {
-                    Some(Part::Line)
+                    Some(Before::Line)
                 } else {
                     further(b)
                 }
             }
-            Part::Line => {
+            Before::Line => {
                 if b == LINE {
-                    Some(Part::Begin)
+                    Some(Before::Begin)
                 } else {
                     further(b)
                 }
@@ -42,22 +42,22 @@ impl Part {
 }
 
 // A piece begins with a letter.
-fn first(b: u8) -> Option<Part>
+fn first(b: u8) -> Option<Before>
     ensures { result ≡ first b }
 {
     if b.is_ascii_lowercase() {
-        Some(Part::Inside)
+        Some(Before::Inside)
     } else {
         None
     }
 }
 
 // It goes on with letters and digits.
-fn further(b: u8) -> Option<Part>
+fn further(b: u8) -> Option<Before>
     ensures { result ≡ further b }
 {
     if b.is_ascii_lowercase() || b.is_ascii_digit() {
-        Some(Part::Inside)
+        Some(Before::Inside)
     } else {
         None
     }
@@ -67,12 +67,12 @@ fn further(b: u8) -> Option<Part>
 pub(crate) fn is_good(name: &[u8]) -> bool
     ensures { result ≡ is_good name.now }
 {
-    let mut part = Part::Begin;
+    let mut part = Before::Begin;
     for b in name {
         let Some(next) = part.after(*b) else {
             return false;
         };
         part = next;
     }
-    matches!(part, Part::Inside)
+    matches!(part, Before::Inside)
 }

@@ -8,20 +8,11 @@ ghost use Rattle.index_model.specs.Sections.{Section};
 ghost use Rattle.index_model.specs.ShardParts.{IsNodeOf};
 ghost use Rattle.parent_resolve.specs.Scopes.{greatest, names_its_members, part_length};
 
+use dwarf_codes::tag::{
+    DW_TAG_class_type, DW_TAG_enumeration_type, DW_TAG_interface_type, DW_TAG_namespace,
+    DW_TAG_structure_type, DW_TAG_union_type,
+};
 use index_model::Node;
-
-// The tags that name their members (DWARF 5, section 7.5.3).
-const CLASS_TYPE: u64 = 0x02;
-
-const ENUMERATION_TYPE: u64 = 0x04;
-
-const STRUCTURE_TYPE: u64 = 0x13;
-
-const UNION_TYPE: u64 = 0x17;
-
-const INTERFACE_TYPE: u64 = 0x38;
-
-const NAMESPACE: u64 = 0x39;
 
 // Stands behind each component of a scope.
 const SEPARATOR: &[u8] = b"::";
@@ -89,7 +80,7 @@ pub(crate) struct PathMember {
 pub(crate) fn name_with<'f>(node: &Node<'f>, spelled: Option<&'f [u8]>) -> Option<&'f [u8]>
     ensures { (ss : List Section) (d : Located) → IsNodeOf ss node.now d → option_map (λ t. t.now) result ≡ name_with d (option_map (λ t. t.now) spelled.entry) }
 {
-    if spelled.is_none() && node.tag == NAMESPACE {
+    if spelled.is_none() && node.tag == DW_TAG_namespace {
         return Some(ANONYMOUS);
     }
     spelled
@@ -97,7 +88,7 @@ pub(crate) fn name_with<'f>(node: &Node<'f>, spelled: Option<&'f [u8]>) -> Optio
 
 /// Whether entries inside this one may have names of their own scope.
 pub(crate) fn may_hold_scopes(node: &Node<'_>) -> bool {
-    names_its_members(node) || node.tag == ENUMERATION_TYPE
+    names_its_members(node) || node.tag == DW_TAG_enumeration_type
 }
 
 // Whether the entry's name is a component of the names inside it. The enumerators of an unscoped enumeration take its scope.
@@ -105,8 +96,12 @@ fn names_its_members(node: &Node<'_>) -> bool
     ensures { result ≡ names_its_members node.now.tag node.now.enum_class }
 {
     match node.tag {
-        NAMESPACE | CLASS_TYPE | STRUCTURE_TYPE | UNION_TYPE | INTERFACE_TYPE => true,
-        ENUMERATION_TYPE => node.enum_class,
+        DW_TAG_namespace
+        | DW_TAG_class_type
+        | DW_TAG_structure_type
+        | DW_TAG_union_type
+        | DW_TAG_interface_type => true,
+        DW_TAG_enumeration_type => node.enum_class,
         _ => false,
     }
 }

@@ -72,7 +72,7 @@ fn as_type_unit(number: u32, unit: &Unit) -> Option<TypeUnit>
     ensures { result ≡ as_type_unit (number, unit.now) }
 {
     match unit.sort {
-        UnitSort::Unnamed => Some(TypeUnit {
+        UnitSort::TypeUnit => Some(TypeUnit {
             signature: unit.signature,
             unit: number,
             type_offset: unit.type_offset,

@@ -22,7 +22,7 @@ use Rattle.index_model.specs.ShardLanguages.{IsLanguageAt}
 use Rattle.index_model.specs.Shards.{AreShardsOf}
 use Rattle.index_model.specs.Tags.{subprogram}
 use Rattle.parent_resolve.proofs.Entries.{home_in}
-use Rattle.qualified_names.specs.declared.sought.Sought.TheVariants.{Said, Named}
+use Rattle.qualified_names.specs.declared.sought.MainBy.TheVariants.{Said, Named}
 use Rattle.qualified_names.specs.Indexed.{IsIndexed}
 use Rattle.qualified_names.specs.Files.{all_linked}
 use Rattle.qualified_names.specs.Sought.{is_main_by, IsFound}

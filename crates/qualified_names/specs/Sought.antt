@@ -10,17 +10,17 @@ use Rattle.index_model.specs.Links.{Link}
 use Rattle.index_model.specs.MainProgram.{is_named_main}
 use Rattle.index_model.specs.Program.{Program}
 use Rattle.index_model.specs.Shards.{AreShardsOf}
-use Rattle.qualified_names.specs.declared.sought.Sought.{Sought}
-use Rattle.qualified_names.specs.declared.sought.Sought.TheVariants.{Said, Named}
+use Rattle.qualified_names.specs.declared.sought.MainBy.{MainBy}
+use Rattle.qualified_names.specs.declared.sought.MainBy.TheVariants.{Said, Named}
 use Rattle.qualified_names.specs.Indexed.{IsIndexed}
 
 -- how an entry is told to be main
-abbrev pub is_told : Sought → Link → Bool
+abbrev pub is_told : MainBy → Link → Bool
 is_told Said k = says_main k.entry.item
 is_told Named k = is_named_main k
 
 -- the unit has a language other than 0, and the entry is main
-abbrev pub is_main_by : Program → Sought → Link → Bool
+abbrev pub is_main_by : Program → MainBy → Link → Bool
 is_main_by p sought k = not (language_of p k.entry.home == 0) && is_told sought k
 
 -- whatever link the entry has in the file of these shards

@@ -6,7 +6,7 @@ ghost use Rattle.index_model.specs.Links.{name_in};
 ghost use Rattle.index_model.specs.Names.{simple_name};
 ghost use Rattle.qualified_names.specs.Indexed.{ForAnyLink, ForLink, HasAnyLink, HasLink};
 
-use crate::names::Names;
+use crate::names::QualifiedNames;
 use entry_rules::{Class, Kind, class, kind};
 use index_model::{Entry, LinkedEntry, Text};
 use ix_base::NoMemory;
@@ -22,7 +22,7 @@ const VARIABLE: u16 = 0x34;
 #[tactic(auto, unfolding(index_model::specs::Entries::entries_of_link))]
 pub(crate) fn push_entries<'f>(
     entries: &mut Vec<Entry<'f>>,
-    names: &mut Names<'_, 'f>,
+    names: &mut QualifiedNames<'_, 'f>,
     alloc: Global,
     linked: &LinkedEntry<'f>,
 ) -> Result<(), NoMemory>
@@ -52,7 +52,7 @@ fn push_with_linkage<'f>(
 
 // The entry of an indexed entry.
 fn entry_of<'f>(
-    names: &mut Names<'_, 'f>,
+    names: &mut QualifiedNames<'_, 'f>,
     alloc: Global,
     linked: &LinkedEntry<'f>,
 ) -> Result<Entry<'f>, NoMemory>

@@ -9,8 +9,8 @@ ghost use Rattle.qualified_names.specs.Files.{all_linked, AreLinkedOfFile, ForLi
 ghost use Rattle.qualified_names.specs.Indexed.{ForLink, HasLink};
 ghost use Rattle.qualified_names.specs.Sought.{ForAllCounted, is_main_by, IsFound};
 
-use crate::names::Names;
-use crate::sought::Sought;
+use crate::names::QualifiedNames;
+use crate::sought::MainBy;
 use entry_rules::{Class, class};
 use file_image::Image;
 use index_model::{Linked, LinkedEntry, Main, Shard, Text};
@@ -52,7 +52,7 @@ fn name_of<'f>(
     requires { HasLink (record { image = image.now; shards = map arc_value shards.now }) entry.now }
     ensures { ForLink (record { image = image.now; shards = map arc_value shards.now }) entry.now (λ p k. class ≡ k.class → IfOk result (λ t. qualified_of k ≡ Some t)) }
 {
-    let mut names = Names::new(alloc, image, shards)?;
+    let mut names = QualifiedNames::new(alloc, image, shards)?;
     names.qualified(alloc, entry, class)
 }
 
@@ -64,9 +64,9 @@ fn main_entry<'f>(
     ensures value { ForAllCounted languages.old (all_linked (map arc_value linked.now)) (λ p ks. IsFound p result (main_in (filter (λ k. not (language_of p k.entry.home == 0)) ks))) }
     ensures kept { languages.new ≡ languages.old }
 {
-    match first_main(languages, linked, Sought::Said) {
+    match first_main(languages, linked, MainBy::Said) {
         Some(found) => Some(found),
-        None => first_main(languages, linked, Sought::Named),
+        None => first_main(languages, linked, MainBy::Named),
     }
 }
 
@@ -74,7 +74,7 @@ fn main_entry<'f>(
 fn first_main<'f>(
     languages: &mut Languages<'_, 'f>,
     linked: &[Arc<Linked<'f>>],
-    sought: Sought,
+    sought: MainBy,
 ) -> Option<LinkedEntry<'f>>
     ensures value { ForAllCounted languages.old (all_linked (map arc_value linked.now)) (λ p ks. IsFound p result (find (is_main_by p sought) ks)) }
     ensures kept { languages.new ≡ languages.old }
@@ -91,7 +91,7 @@ fn first_main<'f>(
 fn first_main_in<'f>(
     languages: &mut Languages<'_, 'f>,
     entries: &[LinkedEntry<'f>],
-    sought: Sought,
+    sought: MainBy,
 ) -> Option<LinkedEntry<'f>>
     ensures value { ForAllCounted languages.old entries.now (λ p ks. IsFound p result (find (is_main_by p sought) ks)) }
     ensures kept { languages.new ≡ languages.old }

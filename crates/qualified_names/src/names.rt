@@ -22,13 +22,13 @@ use std::sync::Arc;
 /// The names of a file's entries, and the languages of its units. What stands before the name of the C++ entry that was
 /// named last is at hand.
 #[derive(Drop)]
-pub(crate) struct Names<'s, 'f> {
+pub(crate) struct QualifiedNames<'s, 'f> {
     references: References<'s, 'f>,
     languages: Languages<'s, 'f>,
     around: Around,
 }
 
-impl<'s, 'f> Model for Names<'s, 'f> {
+impl<'s, 'f> Model for QualifiedNames<'s, 'f> {
     ghost use Rattle.std.specs.Prelude.{◌≡◌};
     ghost use Rattle.shard_build.specs.Entries.{EntriesOf};
     ghost use Rattle.qualified_names.specs.Paths.{IsFrontAround};
@@ -40,17 +40,17 @@ impl<'s, 'f> Model for Names<'s, 'f> {
     ghost invariant = { λ n. (n.languages ≡ n.references.shards) × IsFrontAround n.references n.around.parent n.around.front.items };
 }
 
-impl<'s, 'f> Names<'s, 'f> {
+impl<'s, 'f> QualifiedNames<'s, 'f> {
     /// The names of a file's entries. The shards are those of consecutive runs that make up all its units.
     pub(crate) fn new(
         alloc: Global,
         image: &'s Image<'f>,
         shards: &'s [Arc<Shard<'f>>],
-    ) -> Result<Names<'s, 'f>, NoMemory>
+    ) -> Result<QualifiedNames<'s, 'f>, NoMemory>
         requires { AreShardsOfFile image.now (map arc_value shards.now) }
         ensures { IfOk result (λ n. n ≡ record { image = image.now; shards = map arc_value shards.now }) }
     {
-        Ok(Names {
+        Ok(QualifiedNames {
             references: References::new(alloc, image, shards)?,
             languages: Languages::new(shards),
             around: Around {

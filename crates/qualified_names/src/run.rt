@@ -7,7 +7,7 @@ ghost use Rattle.qualified_names.specs.Files.{AreLinkedOfFile, ForLinkedRun};
 ghost use Rattle.qualified_names.specs.Indexed.{ForLinksOf, HaveLinks};
 
 use crate::entry::push_entries;
-use crate::names::Names;
+use crate::names::QualifiedNames;
 use file_image::Image;
 use index_model::{Linked, LinkedEntry, List, Run, Shard};
 use ix_base::NoMemory;
@@ -32,14 +32,14 @@ pub fn run_of<'f>(
     requires within { k < length shards.now }
     ensures { ForLinkedRun image.now (map arc_value shards.now) (map arc_value linked.now) k (λ p ks. IfOk result (λ run. run ≡ entries_of p ks)) }
 {
-    let mut names = Names::new(alloc, image, shards)?;
+    let mut names = QualifiedNames::new(alloc, image, shards)?;
     entries_of(alloc, &mut names, linked[k].entries.as_slice())
 }
 
 // The entries of a run, by what the references of its indexed entries give.
 fn entries_of<'f>(
     alloc: Global,
-    names: &mut Names<'_, 'f>,
+    names: &mut QualifiedNames<'_, 'f>,
     linked: &[LinkedEntry<'f>],
 ) -> Result<Run<'f>, NoMemory>
     requires { HaveLinks names.old linked.now }

@@ -6,7 +6,7 @@ ghost use Rattle.index_model.specs.MainProgram.{full_name, is_c_or_cxx};
 ghost use Rattle.index_model.specs.Tags.{subprogram};
 ghost use Rattle.qualified_names.specs.Indexed.{ForAnyLink};
 ghost use Rattle.qualified_names.specs.Sought.{ForCounted, is_main_by};
-ghost use Rattle.qualified_names.specs.declared.sought.Sought.TheVariants.{Said, Named};
+ghost use Rattle.qualified_names.specs.declared.sought.MainBy.TheVariants.{Said, Named};
 
 use entry_rules::{Class, class};
 use index_model::LinkedEntry;
@@ -20,22 +20,22 @@ const MAIN: &[u8] = b"main";
 
 /// How the main program is told.
 #[derive(Clone, Copy)]
-pub(crate) enum Sought {
+pub(crate) enum MainBy {
     /// By an entry that says it itself.
     Said,
     /// By its name.
     Named,
 }
 
-impl Sought {
+impl MainBy {
     /// Whether an indexed entry is told to be the main program. It isn't one in a unit without a language.
     pub(crate) fn tells(self, languages: &mut Languages<'_, '_>, entry: &LinkedEntry<'_>) -> bool
         ensures value { ForCounted languages.old entry.now (λ p k. result ≡ is_main_by p self k) }
         ensures kept { languages.new ≡ languages.old }
     {
         match self {
-            Sought::Said => is_said(languages, entry),
-            Sought::Named => is_named(languages, entry),
+            MainBy::Said => is_said(languages, entry),
+            MainBy::Named => is_named(languages, entry),
         }
     }
 }

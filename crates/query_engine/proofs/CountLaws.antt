@@ -14,7 +14,7 @@ use Rattle.common_laws.proofs.Booleans.{same_each_way}
 use Rattle.index_model.specs.declared.entry.Entry.{Entry}
 use Rattle.index_model.specs.Answers.{places}
 use Rattle.query_engine.specs.declared.way.Way.{Way}
-use Rattle.query_engine.specs.declared.names.Names.{Names}
+use Rattle.query_engine.specs.declared.names.SortedNames.{SortedNames}
 use Rattle.query_engine.specs.Asked.{is_counted, text_of, is_asked}
 use Rattle.query_engine.specs.declared.way.Way.TheVariants.{ByName}
 use Rattle.query_engine.specs.Counts.{text_count, name_count}
@@ -81,10 +81,10 @@ no_entry t es none = sym (any_listed t 0 es) ∙ none_passes (λ (e : ℕ × Ent
 -- ---- the texts
 
 -- the texts of the groups
-unfoldable pub group_texts : List Entry → Names → List (List ℕ)
+unfoldable pub group_texts : List Entry → SortedNames → List (List ℕ)
 group_texts es n = map (name_at es n) (range_with_len 0 (length n.groups.items))
 
-module _ (es : List Entry) (n : Names) (names : AreNamesOf es n) where
+module _ (es : List Entry) (n : SortedNames) (names : AreNamesOf es n) where
   abbrev size : ℕ
   size = length n.groups.items
 
@@ -152,7 +152,7 @@ any_text way p q es =
     any_map (bytes_eq q) (text_of way) (filter p es) ∙ any_filter (λ e. bytes_eq q (text_of way e)) p es
     ∙ any_same (λ e. p e && bytes_eq q (text_of way e)) (λ e. p e && bytes_eq (text_of way e) q) es (λ e. ap (λ b. p e && b) (nat_list_eq_equiv.symm q (text_of way e)))
 
-pub group_count : (es : List Entry) (n : Names) → AreNamesOf es n → length n.groups.items ≡ text_count n.way es
+pub group_count : (es : List Entry) (n : SortedNames) → AreNamesOf es n → length n.groups.items ≡ text_count n.way es
 group_count es n names = sym (texts_length es n names) ∙ length-from_keys nat_list_eq_equiv (group_texts es n) (map (text_of n.way) (filter (is_counted n.way) es)) (texts_apart es n names) (λ q. same_texts es n names q ∙ sym (any_text n.way (is_counted n.way) q es))
 
 pub filter_all : {X : Type 0} (xs : List X) → filter (λ _. true) xs ≡ xs

@@ -4,7 +4,7 @@ use Rattle.std.proofs.lemmas.Bool.{cases_lt}
 use Rattle.std.proofs.lemmas.List.{get_or_append_left, get_or-append-add, get_or_push, get_or-map, map-append, length-map}
 use Rattle.std.proofs.lemmas.List.Elements.{All-append, All-weaker}
 use Rattle.index_model.specs.declared.entry.Entry.{Entry}
-use Rattle.query_engine.specs.declared.marks.Mark.{Mark}
+use Rattle.query_engine.specs.declared.marks.NumberedPlace.{NumberedPlace}
 use Rattle.query_engine.specs.declared.marks.Labelled.{Labelled}
 use Rattle.query_engine.specs.Labels.{labels_from}
 use Rattle.query_engine.specs.Marked.{AreLabelled, AreJoined}
@@ -51,8 +51,8 @@ numbered_more old ts cur next ns t n h numbers =
 
 -- ---- marks behind marks
 
-module _ (ps qs : List Pair) (ts us vs : List (List ℕ)) (ms ns : List Mark) (ks : List ℕ) (h : AreMarksOf ps ts ms) (g : AreMarksOf qs us ns) (numbered : AreNumbered ts us vs ks) where
-  abbrev both : List Mark
+module _ (ps qs : List Pair) (ts us vs : List (List ℕ)) (ms ns : List NumberedPlace) (ks : List ℕ) (h : AreMarksOf ps ts ms) (g : AreMarksOf qs us ns) (numbered : AreNumbered ts us vs ks) where
+  abbrev both : List NumberedPlace
   both = ms ++ map (ranked ks) ns
 
   size : length both ≡ length ms + length ns
@@ -69,12 +69,12 @@ module _ (ps qs : List Pair) (ts us vs : List (List ℕ)) (ms ns : List Mark) (k
     pairs = say;
     within = All-append (Within vs) ms (map (ranked ks) ns) (All-weaker (Within ts) (Within vs) (λ x lt. omega (arith, numbered.longer)) ms h.within) (within_numbers us vs ks numbered.each ns g.within);
     used = λ n lt. elim (cases_lt n (length ts)) [
-      | inl low ↦ let u = h.used n low in (u.0, omega (arith, u.1, size), ap (λ (x : Mark). x.number) (get_or_append_left ms (map (ranked ks) ns) no_mark u.0 u.1) ∙ u.2)
+      | inl low ↦ let u = h.used n low in (u.0, omega (arith, u.1, size), ap (λ (x : NumberedPlace). x.number) (get_or_append_left ms (map (ranked ks) ns) no_mark u.0 u.1) ∙ u.2)
       | inr high ↦
           let k = numbered.used n high lt in
           let u = g.used k.0 k.1 in
           let at : get_or both (length ms + u.0) no_mark ≡ ranked ks (get_or ns u.0 no_mark) = get_or-append-add ms (map (ranked ks) ns) u.0 no_mark ∙ get_or-map (ranked ks) ns u.0 no_mark no_mark u.1 in
-          (length ms + u.0, omega (arith, u.1, size), ap (λ (x : Mark). x.number) at ∙ ap (λ (w : ℕ). get_or ks w 0) u.2 ∙ k.2)
+          (length ms + u.0, omega (arith, u.1, size), ap (λ (x : NumberedPlace). x.number) at ∙ ap (λ (w : ℕ). get_or ks w 0) u.2 ∙ k.2)
     ];
   }
 

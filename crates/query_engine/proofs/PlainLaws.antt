@@ -11,7 +11,7 @@ use Rattle.std.proofs.lemmas.Map.Views.{any-filter_same}
 use Rattle.std.proofs.lemmas.Option.{slice_get_read, slice_get-get_or}
 use Rattle.index_model.specs.declared.entry.Entry.{Entry}
 use Rattle.index_model.specs.Answers.{places}
-use Rattle.query_engine.specs.declared.names.Names.{Names}
+use Rattle.query_engine.specs.declared.names.SortedNames.{SortedNames}
 use Rattle.query_engine.specs.declared.way.Way.{Way}
 use Rattle.query_engine.specs.declared.way.Way.TheVariants.{ByName}
 use Rattle.query_engine.specs.Asked.{is_asked}
@@ -85,7 +85,7 @@ absorbs : (a b : Bool) → (a ≡ true → b ≡ true) → (a && b) ≡ a
 absorbs true b f = f refl
 absorbs false b f = refl
 
-module _ (es : List Entry) (n : Names) (names : AreNamesOf es n) (way : n.way ≡ ByName) where
+module _ (es : List Entry) (n : SortedNames) (names : AreNamesOf es n) (way : n.way ≡ ByName) where
   same_members : (q : List ℕ) → list_any (bytes_eq q) (filter (has_plain es) (group_texts es n)) ≡ list_any (bytes_eq q) (map (λ (e : Entry). e.name) (without_linkage es))
   same_members q =
       let own : list_any (bytes_eq q) (group_texts es n) ≡ list_any (is_asked ByName q) es = same_texts es n names q ∙ ap (λ (w : Way). list_any (is_asked w q) es) way in
@@ -102,12 +102,12 @@ module _ (es : List Entry) (n : Names) (names : AreNamesOf es n) (way : n.way �
 -- ---- the loop
 
 -- how many of the first texts have such an entry
-abbrev pub plain_upto : List Entry → Names → ℕ → ℕ
+abbrev pub plain_upto : List Entry → SortedNames → ℕ → ℕ
 plain_upto es n k = count_by (has_plain es) (map (name_at es n) (range_with_len 0 k))
 
-pub plain_more : (es : List Entry) (n : Names) (k : ℕ) (b : Bool) → b ≡ has_plain es (name_at es n k) → plain_upto es n (k + 1) ≡ plain_upto es n k + cond b 1 0
+pub plain_more : (es : List Entry) (n : SortedNames) (k : ℕ) (b : Bool) → b ≡ has_plain es (name_at es n k) → plain_upto es n (k + 1) ≡ plain_upto es n k + cond b 1 0
 plain_more es n k b is = rw is (sum_by-map-range_with_len_more (λ (t : List ℕ). cond (has_plain es t) 1 0) (name_at es n) 0 k k (omega arith))
 
-pub plain_all : (es : List Entry) (n : Names) → AreNamesOf es n → n.way ≡ ByName → (k : ℕ) → k ≡ length n.groups.items → plain_upto es n k ≡ name_count (without_linkage es)
+pub plain_all : (es : List Entry) (n : SortedNames) → AreNamesOf es n → n.way ≡ ByName → (k : ℕ) → k ≡ length n.groups.items → plain_upto es n k ≡ name_count (without_linkage es)
 unfolding group_texts
 plain_all es n names way k is = rw is (plain_count es n names way)

@@ -6,14 +6,14 @@ use native.Mathlib.Numerals.{unary_clauses}
 use Rattle.std.proofs.lemmas.Bool.{cases_lt}
 use Rattle.std.specs.declared.cmp.Ordering.TheVariants.{Less, Greater}
 use Rattle.index_model.specs.declared.entry.Entry.{Entry}
-use Rattle.query_engine.specs.declared.names.Names.{Names}
+use Rattle.query_engine.specs.declared.names.SortedNames.{SortedNames}
 use Rattle.query_engine.specs.Halving.{AddsHalvings}
 use Rattle.query_engine.specs.Pairs.{ComesBefore}
 use Rattle.query_engine.specs.Sorted.{name_at, AreNamesOf}
 use Rattle.query_engine.proofs.TextOrder.{text_cmp, before_itself, before_trans, before_flip}
 
 -- the text can only stand from low on and below high
-pub record IsBetween (es : List Entry) (n : Names) (text : List ℕ) (low high : ℕ) : Type 0 where
+pub record IsBetween (es : List Entry) (n : SortedNames) (text : List ℕ) (low high : ℕ) : Type 0 where
   pub order : low ≤ high
   pub within : high ≤ length n.groups.items
   pub below : (k : ℕ) → k < low → name_at es n k ≢ text
@@ -27,7 +27,7 @@ pub record IsHalved (n old new left : ℕ) : Type 0 where
 
 -- ---- the range
 
-module _ (es : List Entry) (n : Names) (text : List ℕ) where
+module _ (es : List Entry) (n : SortedNames) (text : List ℕ) where
   pub between_all : IsBetween es n text 0 (length n.groups.items)
   between_all = record {
     order = omega arith;

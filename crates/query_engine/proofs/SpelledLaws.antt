@@ -8,7 +8,7 @@ use Rattle.std.proofs.lemmas.List.Elements.{All-nil, All-cons, All-head, All-tai
 use Rattle.common_laws.proofs.Members.{contains_here, contains_later, contains_cases}
 use Rattle.index_model.specs.declared.entry.Entry.{Entry}
 use Rattle.query_engine.specs.declared.label.Label.{Label}
-use Rattle.query_engine.specs.declared.marks.Mark.{Mark}
+use Rattle.query_engine.specs.declared.marks.NumberedPlace.{NumberedPlace}
 use Rattle.query_engine.specs.declared.marks.Labelled.{Labelled}
 use Rattle.query_engine.specs.declared.way.Way.{Way}
 use Rattle.query_engine.specs.Asked.{counts_by, text_by, is_counted, text_of}
@@ -103,10 +103,10 @@ first_same d p q ps qs same = ap (λ (w : List Pair). get_or w 0 d) same
 rest_same : (p q : Pair) (ps qs : List Pair) → p ∷ ps ≡ q ∷ qs → ps ≡ qs
 rest_same p q ps qs same = ap (λ (w : List Pair). drop 1 w) same
 
-own_label : (ls : List Label) (m : Mark) (x : Placed) → m.number < length ls → pair_marked (labels_seen ls) m ≡ placed x → IsLabelOf (get_or ls m.number no_label) x.1
+own_label : (ls : List Label) (m : NumberedPlace) (x : Placed) → m.number < length ls → pair_marked (labels_seen ls) m ≡ placed x → IsLabelOf (get_or ls m.number no_label) x.1
 own_label ls m x lt same = label_is (get_or ls m.number no_label) x.1 (sym (get_or-map label_list ls m.number no_label [] lt) ∙ ap (λ (p : Pair). p.1) same)
 
-abbrev Known : List Label → Mark → Type 0
+abbrev Known : List Label → NumberedPlace → Type 0
 Known ls m = m.number < length ls
 
 module _ (way : Way) (ls : List Label) (texts : List (List ℕ)) (numbers : List (Option ℕ)) (h : AreTextsOf way ls texts numbers) where
@@ -116,10 +116,10 @@ module _ (way : Way) (ls : List Label) (texts : List (List ℕ)) (numbers : List
   abbrev counted : Placed → Bool
   counted e = is_counted way e.1
 
-  abbrev kept : List Mark → List Mark
+  abbrev kept : List NumberedPlace → List NumberedPlace
   kept ms = filter_map (renumbered numbers) ms
 
-  pairs_kept : (ms : List Mark) (xs : List Placed) → All (Known ls) ms → map (pair_marked (labels_seen ls)) ms ≡ map placed xs → map (pair_marked texts) (kept ms) ≡ map pair (filter counted xs)
+  pairs_kept : (ms : List NumberedPlace) (xs : List Placed) → All (Known ls) ms → map (pair_marked (labels_seen ls)) ms ≡ map placed xs → map (pair_marked texts) (kept ms) ≡ map pair (filter counted xs)
   pairs_kept [] [] all same = refl
   pairs_kept [] (x ∷ xs) all same = cc
   pairs_kept (m ∷ ms) [] all same = cc
@@ -147,7 +147,7 @@ module _ (way : Way) (ls : List Label) (texts : List (List ℕ)) (numbers : List
           let counts : counted x ≡ false = ap (counts_by way) (sym own.linkage) ∙ numbered in
           rw (is, counts) rest
 
-  within_kept : (ms : List Mark) → All (Known ls) ms → All (Within texts) (kept ms)
+  within_kept : (ms : List NumberedPlace) → All (Known ls) ms → All (Within texts) (kept ms)
   within_kept [] all = All-nil (Within texts)
   within_kept (m ∷ ms) all = by (get_or numbers m.number None) refl (h.each m.number no_label (All-head (Known ls) m ms all)) (within_kept ms (All-tail (Known ls) m ms all))
     where
@@ -155,22 +155,22 @@ module _ (way : Way) (ls : List Label) (texts : List (List ℕ)) (numbers : List
       by (Some n) is numbered rest = rw is (All-cons (Within texts) (record { number = n; place = m.place }) (kept ms) numbered.1.within rest)
       by None is numbered rest = rw is rest
 
-  known_all : (ms : List Mark) → All (Within (labels_seen ls)) ms → All (Known ls) ms
+  known_all : (ms : List NumberedPlace) → All (Within (labels_seen ls)) ms → All (Known ls) ms
   known_all ms all = λ k d lt. omega (arith, all k d lt, length-map ls label_list)
 
-  pub marks_kept : (es : List Entry) (ms : List Mark) → AreMarksOf (map placed (enumerate_from 0 es)) (labels_seen ls) ms → AreMarksOf (pairs_in way es) texts (kept ms)
+  pub marks_kept : (es : List Entry) (ms : List NumberedPlace) → AreMarksOf (map placed (enumerate_from 0 es)) (labels_seen ls) ms → AreMarksOf (pairs_in way es) texts (kept ms)
   marks_kept es ms say = record {
     pairs = pairs_kept ms (enumerate_from 0 es) (known_all ms say.within) say.pairs;
     within = within_kept ms (known_all ms say.within);
     used = λ n lt.
         let label = h.used n lt in
         let u = say.used label.0 (omega (arith, label.1, length-map ls label_list)) in
-        let m : Mark = get_or ms u.0 no_mark in
+        let m : NumberedPlace = get_or ms u.0 no_mark in
         let there : Contains ms m = Contains-get_or ms u.0 no_mark u.1 in
-        let own : Mark = record { number = n; place = m.place } in
+        let own : NumberedPlace = record { number = n; place = m.place } in
         let is : renumbered numbers m ≡ Some own = rw (u.2, label.2) refl in
         let kept_there = has_kept (renumbered numbers) ms m own there is in
-        (kept_there.0, kept_there.1, ap (λ (x : Mark). x.number) (get_or_default (kept ms) kept_there.0 no_mark own kept_there.1 ∙ kept_there.2));
+        (kept_there.0, kept_there.1, ap (λ (x : NumberedPlace). x.number) (get_or_default (kept ms) kept_there.0 no_mark own kept_there.1 ∙ kept_there.2));
   }
 
 -- ---- labels whose names are simple
@@ -178,7 +178,7 @@ module _ (way : Way) (ls : List Label) (texts : List (List ℕ)) (numbers : List
 abbrev Whole : Label → Type 0
 Whole l = IsWholeLabel l.linkage l.tail l.name.now
 
-whole_placed : (ls : List Label) → All Whole ls → (ms : List Mark) (xs : List Placed) → All (Known ls) ms → map (pair_marked (labels_seen ls)) ms ≡ map placed xs → All (λ (x : Placed). IsWhole x.1) xs
+whole_placed : (ls : List Label) → All Whole ls → (ms : List NumberedPlace) (xs : List Placed) → All (Known ls) ms → map (pair_marked (labels_seen ls)) ms ≡ map placed xs → All (λ (x : Placed). IsWhole x.1) xs
 whole_placed ls whole [] [] all same = All-nil (λ (x : Placed). IsWhole x.1)
 whole_placed ls whole [] (x ∷ xs) all same = absurd cc
 whole_placed ls whole (m ∷ ms) [] all same = All-nil (λ (x : Placed). IsWhole x.1)

@@ -8,7 +8,7 @@ use Rattle.index_model.specs.declared.entry.Entry.{Entry}
 use Rattle.index_model.specs.Order.{Rises}
 use Rattle.index_model.specs.Ordered.{ascending, bytes_lt}
 use Rattle.index_model.proofs.Orders.{bytes_order, rises_from_pairs, ascending_is}
-use Rattle.query_engine.specs.declared.names.Names.{Names}
+use Rattle.query_engine.specs.declared.names.SortedNames.{SortedNames}
 use Rattle.query_engine.specs.declared.way.Way.{Way}
 use Rattle.query_engine.specs.declared.way.Way.TheVariants.{ByName}
 use Rattle.query_engine.specs.Asked.{is_counted, text_of}
@@ -27,7 +27,7 @@ any_from_has q xs c = list_any_at (bytes_eq q) xs c.0 q c.1 (eq_from_same q (get
 
 -- ---- the texts of the groups
 
-module _ (es : List Entry) (n : Names) (names : AreNamesOf es n) where
+module _ (es : List Entry) (n : SortedNames) (names : AreNamesOf es n) where
   abbrev size : ℕ
   size = length n.groups.items
 

@@ -2,12 +2,12 @@
 use Rattle.std.specs.Prelude.{ℕ, List, map}
 use Rattle.query_engine.specs.declared.key.Key.{Key}
 use Rattle.query_engine.specs.declared.label.Label.{Label}
-use Rattle.query_engine.specs.declared.spelling.Spelling.{Spelling}
+use Rattle.query_engine.specs.declared.spelling.FrontedText.{FrontedText}
 use Rattle.query_engine.specs.Labels.{labelled}
 use Rattle.query_engine.specs.Pairs.{Pair}
 
 -- the bytes of texts
-abbrev pub texts_seen : List Spelling → List (List ℕ)
+abbrev pub texts_seen : List FrontedText → List (List ℕ)
 texts_seen texts = map (λ t. t.bytes.now) texts
 
 -- labels, each as a list

@@ -2,7 +2,7 @@
 use Rattle.std.specs.Prelude.{◌≡◌, ℕ, ◌<◌, ◌^◌, List, length}
 use Rattle.index_model.specs.declared.entry.Entry.{Entry}
 use Rattle.query_engine.specs.declared.way.Way.TheVariants.{ByName}
-use Rattle.query_engine.specs.declared.names.Names.{Names}
+use Rattle.query_engine.specs.declared.names.SortedNames.{SortedNames}
 use Rattle.query_engine.specs.declared.simple.SimpleNames.{SimpleNames}
 use Rattle.query_engine.specs.Asked.{TailsFit}
 use Rattle.query_engine.specs.Counts.{name_count, without_linkage}
@@ -10,7 +10,7 @@ use Rattle.query_engine.specs.Simple.{AreSimpleOf}
 use Rattle.query_engine.specs.Sorted.{AreNamesOf}
 
 -- the sorted names and simple names are those of the entries, and the number is that of their names without linkage entries
-pub record AreTableOf (es : List Entry) (names : Names) (simple : SimpleNames) (distinct : ℕ) : Type 0 where
+pub record AreTableOf (es : List Entry) (names : SortedNames) (simple : SimpleNames) (distinct : ℕ) : Type 0 where
   pub few : length es < 2 ^ 32
   pub tails : TailsFit es
   pub by_name : names.way ≡ ByName

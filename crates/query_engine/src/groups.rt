@@ -4,7 +4,7 @@ ghost use Rattle.std.specs.Prelude.{◌≡◌, length, IfOk};
 ghost use Rattle.query_engine.specs.Groups.{AreGroupsOf};
 ghost use Rattle.query_engine.specs.Seen.{texts_seen};
 
-use crate::spelling::Spelling;
+use crate::spelling::FrontedText;
 use std::alloc::{AllocError, Global};
 
 /// The entries with one text, by the index of the first one's place and the index behind the last one's, and the front of that
@@ -19,7 +19,7 @@ pub(crate) struct Group {
 /// The groups of texts whose places end here. Each begins where the one before it ends.
 pub(crate) fn groups_of(
     alloc: Global,
-    texts: &[Spelling<'_>],
+    texts: &[FrontedText<'_>],
     ends: &[u32],
 ) -> Result<Vec<Group>, AllocError>
     requires { length ends.now ≡ length texts.now }

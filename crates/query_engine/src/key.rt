@@ -8,7 +8,7 @@ ghost use Rattle.std.specs.Cmp.Lexicographic.{pointwise, slice_cmp, nat_list_eq_
 ghost use Rattle.query_engine.specs.Pairs.{IsSortOf};
 ghost use Rattle.query_engine.specs.Seen.{pairs_seen, texts_seen};
 
-use crate::spelling::Spelling;
+use crate::spelling::FrontedText;
 use rayon::slice::par_sort;
 use std::alloc::{AllocError, Global};
 use std::cmp::Ordering;
@@ -17,7 +17,7 @@ use std::thread::Threads;
 /// A text and its number. Keys are ordered by their texts alone.
 #[derive(Drop)]
 pub(crate) struct Key<'r> {
-    pub text: Spelling<'r>,
+    pub text: FrontedText<'r>,
     pub number: u32,
 }
 
@@ -63,7 +63,7 @@ impl Ord for Key<'_> {
 pub(crate) fn sorted_keys<'r, R: Threads + Sync>(
     rt: &R,
     alloc: Global,
-    texts: &[Spelling<'r>],
+    texts: &[FrontedText<'r>],
 ) -> Result<Vec<Key<'r>>, AllocError>
     requires few { length texts.now < 2 ^ 32 }
     ensures { IfOk result (λ v. IsSortOf (enumerate_from 0 (texts_seen texts.now)) (pairs_seen v.items)) }
@@ -76,7 +76,7 @@ pub(crate) fn sorted_keys<'r, R: Threads + Sync>(
 /// The same by one thread.
 pub(crate) fn keys_sorted_alone<'r>(
     alloc: Global,
-    texts: &[Spelling<'r>],
+    texts: &[FrontedText<'r>],
 ) -> Result<Vec<Key<'r>>, AllocError>
     requires few { length texts.now < 2 ^ 32 }
     ensures { IfOk result (λ v. IsSortOf (enumerate_from 0 (texts_seen texts.now)) (pairs_seen v.items)) }
@@ -87,7 +87,7 @@ pub(crate) fn keys_sorted_alone<'r>(
 }
 
 // The keys of texts, in their order.
-fn keys_of<'r>(alloc: Global, texts: &[Spelling<'r>]) -> Result<Vec<Key<'r>>, AllocError>
+fn keys_of<'r>(alloc: Global, texts: &[FrontedText<'r>]) -> Result<Vec<Key<'r>>, AllocError>
     requires few { length texts.now < 2 ^ 32 }
     ensures { IfOk result (λ v. pairs_seen v.items ≡ enumerate_from 0 (texts_seen texts.now)) }
 {

@@ -23,14 +23,14 @@ const HASHED: usize = 256;
 
 // What a slot holds: the number of a label, and the hash of it.
 #[derive(Clone, Copy)]
-struct Slot {
+struct HashSlot {
     hash: u32,
     number: u32,
 }
 
 // Where a label stands.
 #[derive(Clone, Copy)]
-enum Place {
+enum Probe {
     // It has this number.
     Known(u32),
     // It has no slot, and this one is free.
@@ -45,7 +45,7 @@ enum Place {
 #[derive(Drop)]
 pub(crate) struct Labels<'r> {
     pub list: Vec<Label<'r>>,
-    slots: Vec<Option<Slot>>,
+    slots: Vec<Option<HashSlot>>,
     mask: u32,
 }
 
@@ -69,9 +69,9 @@ impl<'r> Labels<'r> {
         let hash = hash_of(label);
         let number = self.list.len() as u32;
         match self.place_of(label, hash) {
-            Place::Known(known) => return Ok(known),
-            Place::Free(at) => self.enter(at, Slot { hash, number }),
-            Place::Crowded => {}
+            Probe::Known(known) => return Ok(known),
+            Probe::Free(at) => self.enter(at, HashSlot { hash, number }),
+            Probe::Crowded => {}
         }
         self.list.push(*label)?;
         if self.list.len() > self.mask as usize / 2 && self.mask < LAST_MASK {
@@ -97,7 +97,7 @@ impl<'r> Labels<'r> {
     }
 
     // Where a label with this hash stands.
-    fn place_of(&self, label: &Label<'_>, hash: u32) -> Place
+    fn place_of(&self, label: &Label<'_>, hash: u32) -> Probe
         ensures { IsAt (labels_seen self.now.list.items) (labelled label.now.linkage label.now.tail label.now.name.now) result }
     {
         let start = (hash & self.mask) as usize;
@@ -105,14 +105,14 @@ impl<'r> Labels<'r> {
             match self.slots.get(at).copied() {
                 Some(Some(slot)) => {
                     if slot.hash == hash && self.has(slot.number, label) {
-                        return Place::Known(slot.number);
+                        return Probe::Known(slot.number);
                     }
                 }
-                Some(None) => return Place::Free(at),
-                None => return Place::Crowded,
+                Some(None) => return Probe::Free(at),
+                None => return Probe::Crowded,
             }
         }
-        Place::Crowded
+        Probe::Crowded
     }
 
     // Whether the label has this number.
@@ -124,7 +124,7 @@ impl<'r> Labels<'r> {
     }
 
     // Fills a slot.
-    fn enter(&mut self, at: usize, slot: Slot)
+    fn enter(&mut self, at: usize, slot: HashSlot)
         ensures { self.new.list ≡ self.old.list }
     {
         if let Some(free) = self.slots.get_mut(at) {
@@ -148,7 +148,7 @@ impl<'r> Labels<'r> {
     }
 
     // Fills slots as these are filled. The hashes stand there, so no name is read.
-    fn enter_all(&mut self, slots: &[Option<Slot>])
+    fn enter_all(&mut self, slots: &[Option<HashSlot>])
         ensures { self.new.list ≡ self.old.list }
     {
         for slot in slots {
@@ -184,7 +184,7 @@ fn hash_of(label: &Label<'_>) -> u32 {
 }
 
 // So many slots as a mask has, and those behind them that the last ones probe.
-fn free_slots(alloc: Global, mask: u32) -> Result<Vec<Option<Slot>>, AllocError> {
+fn free_slots(alloc: Global, mask: u32) -> Result<Vec<Option<HashSlot>>, AllocError> {
     let count = mask as usize + PROBES;
     let mut slots = Vec::with_capacity(alloc, count)?;
     for filled in 0..count {

@@ -12,7 +12,7 @@ use std::alloc::{AllocError, Global};
 
 /// The number of an entry's label or text, and the entry's place.
 #[derive(Clone, Copy)]
-pub(crate) struct Mark {
+pub(crate) struct NumberedPlace {
     pub number: u32,
     pub place: u32,
 }
@@ -21,7 +21,7 @@ pub(crate) struct Mark {
 #[derive(Drop)]
 pub(crate) struct Labelled<'r> {
     pub labels: Labels<'r>,
-    pub marks: Vec<Mark>,
+    pub marks: Vec<NumberedPlace>,
 }
 
 impl<'r> Labelled<'r> {
@@ -54,7 +54,7 @@ pub(crate) fn marks_of<'r>(
     for (index, entry) in entries.iter().enumerate() {
         let label = Label::of(entry);
         let number = labels.number(alloc, &label)?;
-        marks.push(Mark {
+        marks.push(NumberedPlace {
             number,
             place: (first + index) as u32,
         })?;
@@ -63,13 +63,13 @@ pub(crate) fn marks_of<'r>(
 }
 
 /// Gives each mark the number that its own leads to, as the rank of its text.
-pub(crate) fn rank_marks(marks: &mut Vec<Mark>, ranks: &[u32])
+pub(crate) fn rank_marks(marks: &mut Vec<NumberedPlace>, ranks: &[u32])
     requires { All (λ m. m.number < length ranks.now) marks.old.items }
     ensures { marks.new.items ≡ map (ranked ranks.now) marks.old.items }
 {
     for i in 0..marks.len() {
         let mark = marks[i];
-        marks[i] = Mark {
+        marks[i] = NumberedPlace {
             number: ranks[mark.number as usize],
             place: mark.place,
         };

@@ -17,7 +17,7 @@ use crate::groups::{Group, groups_of};
 use crate::label::Label;
 use crate::marks::Labelled;
 use crate::order::order_of;
-use crate::spelling::Spelling;
+use crate::spelling::FrontedText;
 use crate::way::Way;
 use index_model::{Entry, Steps};
 use std::alloc::{AllocError, Global};
@@ -28,14 +28,14 @@ use std::thread::Threads;
 /// The distinct texts by which entries are asked for one way, ascending. A text is that of its first entry: only `compare`
 /// reads it, and counts itself.
 #[derive(Drop)]
-pub(crate) struct Names {
+pub(crate) struct SortedNames {
     way: Way,
     groups: Vec<Group>,
     // The places of the entries, by text and then ascending.
     places: Vec<u32>,
 }
 
-impl Names {
+impl SortedNames {
     /// The texts of the entries with these labels. Threads share the work where the entries were halved for them.
     pub fn sorted<R: Threads + Sync>(
         rt: &R,
@@ -43,13 +43,13 @@ impl Names {
         way: Way,
         halvings: u32,
         labelled: &Labelled<'_>,
-    ) -> Result<Names, AllocError>
+    ) -> Result<SortedNames, AllocError>
         requires { HaveFewLabels labelled.now }
         ensures { (entries : List Entry) → AreLabelled 0 entries labelled.now → IfOk result (AreNamesBy way entries) }
     {
         let order = order_of(rt, alloc, way, halvings, labelled)?;
         let groups = groups_of(alloc, &order.texts, &order.ends)?;
-        Ok(Names {
+        Ok(SortedNames {
             way,
             groups,
             places: order.places,
@@ -68,7 +68,7 @@ impl Names {
         &self,
         entries: &[Entry<'_>],
         index: usize,
-        asked: &Spelling<'_>,
+        asked: &FrontedText<'_>,
         steps: &mut Steps<L>,
     ) -> Ordering
         requires index { index < length self.now.groups.items }

@@ -12,7 +12,7 @@ ghost use Rattle.query_engine.specs.declared.way.Way.TheVariants as ways;
 
 use crate::halves::marks_by_halves;
 use crate::marks::Labelled;
-use crate::names::Names;
+use crate::names::SortedNames;
 use crate::simple::{SimpleNames, are_whole};
 use crate::way::Way;
 use index_model::Entry;
@@ -22,7 +22,7 @@ use std::thread::{Threads, join};
 /// The distinct names of entries, and their distinct simple names.
 #[derive(Drop)]
 pub(crate) struct Orders {
-    pub by_name: Names,
+    pub by_name: SortedNames,
     pub by_simple: SimpleNames,
 }
 
@@ -60,7 +60,7 @@ fn shared_orders<R: Threads + Sync>(
     requires whole { All (λ l. IsWholeLabel l.linkage l.tail l.name.now) labelled.now.labels.list.items }
     ensures { (entries : List Entry) → AreLabelled 0 entries labelled.now → IfOk result (AreOrdersOf entries) }
 {
-    let by_name = Names::sorted(rt, alloc, Way::ByName, halvings, labelled)?;
+    let by_name = SortedNames::sorted(rt, alloc, Way::ByName, halvings, labelled)?;
     Ok(Orders {
         by_name,
         by_simple: SimpleNames::Shared,
@@ -76,8 +76,8 @@ fn orders_in_turn<R: Threads + Sync>(
     requires { HaveFewLabels labelled.now }
     ensures { (entries : List Entry) → AreLabelled 0 entries labelled.now → IfOk result (AreOrdersOf entries) }
 {
-    let by_name = Names::sorted(rt, alloc, Way::ByName, 0, labelled)?;
-    let by_simple = Names::sorted(rt, alloc, Way::BySimple, 0, labelled)?;
+    let by_name = SortedNames::sorted(rt, alloc, Way::ByName, 0, labelled)?;
+    let by_simple = SortedNames::sorted(rt, alloc, Way::BySimple, 0, labelled)?;
     Ok(Orders {
         by_name,
         by_simple: SimpleNames::Own(by_simple),
@@ -94,14 +94,14 @@ fn orders_at_once<R: Threads + Sync>(
     requires { HaveFewLabels labelled.now }
     ensures { (entries : List Entry) → AreLabelled 0 entries labelled.now → IfOk result (AreOrdersOf entries) }
 {
-    let names = || -> Result<Names, AllocError>
+    let names = || -> Result<SortedNames, AllocError>
         requires { IsSync R.row × HaveFewLabels labelled.now }
         ensures { (entries : List Entry) → AreLabelled 0 entries labelled.entry.now → IfOk result (AreNamesBy ways.ByName entries) }
-    { Names::sorted(rt, alloc, Way::ByName, halvings, labelled) };
-    let simple = || -> Result<Names, AllocError>
+    { SortedNames::sorted(rt, alloc, Way::ByName, halvings, labelled) };
+    let simple = || -> Result<SortedNames, AllocError>
         requires { IsSync R.row × HaveFewLabels labelled.now }
         ensures { (entries : List Entry) → AreLabelled 0 entries labelled.entry.now → IfOk result (AreNamesBy ways.BySimple entries) }
-    { Names::sorted(rt, alloc, Way::BySimple, halvings, labelled) };
+    { SortedNames::sorted(rt, alloc, Way::BySimple, halvings, labelled) };
     let (names, simple) = join(rt, names, simple);
     let by_name = names?;
     let by_simple = simple?;

@@ -6,13 +6,13 @@ ghost use Rattle.query_engine.specs.Ranks.{AreRanksIn, AreNumbersOf, GoesOnAt};
 ghost use Rattle.query_engine.specs.Seen.{pairs_seen, texts_seen};
 
 use crate::key::Key;
-use crate::spelling::Spelling;
+use crate::spelling::FrontedText;
 use std::alloc::{AllocError, Global};
 
 /// The distinct texts in byte order, and the rank of each text among them by its number.
 #[derive(Drop)]
 pub(crate) struct Ranks<'r> {
-    pub distinct: Vec<Spelling<'r>>,
+    pub distinct: Vec<FrontedText<'r>>,
     pub ranks: Vec<u32>,
 }
 

@@ -5,15 +5,15 @@ ghost use Rattle.query_engine.specs.Asked.{TailsFit};
 ghost use Rattle.query_engine.specs.Halving.{AddsHalvings};
 ghost use Rattle.query_engine.specs.Sorted.{AreNamesOf, name_at};
 
-use crate::names::Names;
-use crate::spelling::Spelling;
+use crate::names::SortedNames;
+use crate::spelling::FrontedText;
 use index_model::{Entry, Steps};
 use std::cmp::Ordering;
 use std::sync::ledger::Ledger;
 
 /// The index of a text among the sorted ones.
 pub(crate) fn find<L: Ledger>(
-    names: &Names,
+    names: &SortedNames,
     entries: &[Entry<'_>],
     asked: &[u8],
     steps: &mut Steps<L>,
@@ -25,7 +25,7 @@ pub(crate) fn find<L: Ledger>(
         (λ k. (k < length names.now.groups.items) × (name_at entries.now names.now k ≡ asked.now)) }
     ensures steps { AddsHalvings (length names.now.groups.items) steps.old steps.new }
 {
-    let asked = Spelling::new(asked);
+    let asked = FrontedText::new(asked);
     let mut low = 0;
     let mut high = names.len();
     while low < high {

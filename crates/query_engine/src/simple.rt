@@ -4,14 +4,14 @@ ghost use Rattle.std.specs.Prelude.{IsTrue, All};
 ghost use Rattle.query_engine.specs.Labels.{IsWholeLabel};
 
 use crate::label::Label;
-use crate::names::Names;
+use crate::names::SortedNames;
 
 /// The distinct simple names, ascending.
 #[derive(Drop)]
 pub(crate) enum SimpleNames {
     /// Each entry's name is its simple name, so they are the names.
     Shared,
-    Own(Names),
+    Own(SortedNames),
 }
 
 /// Whether each name is a simple name. Linkage entries have none.

@@ -6,22 +6,22 @@ ghost use Rattle.query_engine.specs.Marked.{AreLabelled, AreSpelled, AreTextsOf,
 ghost use Rattle.query_engine.specs.Seen.{texts_seen};
 
 use crate::label::Label;
-use crate::marks::{Labelled, Mark};
-use crate::spelling::Spelling;
+use crate::marks::{Labelled, NumberedPlace};
+use crate::spelling::FrontedText;
 use crate::way::Way;
 use std::alloc::{AllocError, Global};
 
 /// Texts, and a mark for each entry that is found by one of them, in the order of the entries.
 #[derive(Drop)]
 pub(crate) struct Spelled<'r> {
-    pub texts: Vec<Spelling<'r>>,
-    pub marks: Vec<Mark>,
+    pub texts: Vec<FrontedText<'r>>,
+    pub marks: Vec<NumberedPlace>,
 }
 
 // Texts, and of each label the number of its text.
 #[derive(Drop)]
 struct Numbered<'r> {
-    texts: Vec<Spelling<'r>>,
+    texts: Vec<FrontedText<'r>>,
     numbers: Vec<Option<u32>>,
 }
 
@@ -52,7 +52,7 @@ fn texts_of<'r>(alloc: Global, way: Way, labels: &[Label<'r>]) -> Result<Numbere
     for label in labels {
         if way.counts(label) {
             numbers.push(Some(texts.len() as u32))?;
-            texts.push(Spelling::new(way.text(label)))?;
+            texts.push(FrontedText::new(way.text(label)))?;
         } else {
             numbers.push(None)?;
         }
@@ -61,7 +61,11 @@ fn texts_of<'r>(alloc: Global, way: Way, labels: &[Label<'r>]) -> Result<Numbere
 }
 
 // The marks of labels with a text, by the numbers of their texts.
-fn marks_by(alloc: Global, marks: &[Mark], numbers: &[Option<u32>]) -> Result<Vec<Mark>, AllocError>
+fn marks_by(
+    alloc: Global,
+    marks: &[NumberedPlace],
+    numbers: &[Option<u32>],
+) -> Result<Vec<NumberedPlace>, AllocError>
     requires { All (λ m. m.number < length numbers.now) marks.now }
     ensures { IfOk result (λ v. v.items ≡ filter_map (renumbered numbers.now) marks.now) }
 {
@@ -75,12 +79,12 @@ fn marks_by(alloc: Global, marks: &[Mark], numbers: &[Option<u32>]) -> Result<Ve
 }
 
 // The mark by the number of its label's text, if it has one.
-fn renumbered(mark: Mark, numbers: &[Option<u32>]) -> Option<Mark>
+fn renumbered(mark: NumberedPlace, numbers: &[Option<u32>]) -> Option<NumberedPlace>
     requires { mark.number < length numbers.now }
     ensures { result ≡ renumbered numbers.now mark }
 {
     match numbers[mark.number as usize] {
-        Some(number) => Some(Mark {
+        Some(number) => Some(NumberedPlace {
             number,
             place: mark.place,
         }),

@@ -12,24 +12,24 @@ const WIDTH: usize = 8;
 
 /// A text beside its front.
 #[derive(Clone, Copy)]
-pub(crate) struct Spelling<'r> {
+pub(crate) struct FrontedText<'r> {
     pub front: u64,
     pub bytes: &'r [u8],
     ghost front_is: { IsFrontOf front bytes.now },
 }
 
-impl<'r> Spelling<'r> {
-    pub fn new(bytes: &'r [u8]) -> Spelling<'r>
+impl<'r> FrontedText<'r> {
+    pub fn new(bytes: &'r [u8]) -> FrontedText<'r>
         ensures { result.bytes.now ≡ bytes.now }
     {
-        Spelling {
+        FrontedText {
             front: front_of(bytes),
             bytes,
         }
     }
 
     /// The order of the bytes. Fronts that differ decide it.
-    pub fn order(&self, other: &Spelling<'_>) -> Ordering
+    pub fn order(&self, other: &FrontedText<'_>) -> Ordering
         ensures { result ≡ slice_cmp nat_cmp self.now.bytes.now other.now.bytes.now }
     {
         match self.front.cmp(&other.front) {

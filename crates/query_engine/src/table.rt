@@ -11,7 +11,7 @@ ghost use Rattle.query_engine.specs.declared.way.Way.TheVariants.{ByListed};
 ghost use Rattle.query_engine.specs.Texts.{table_names};
 
 use crate::marks::marks_of;
-use crate::names::Names;
+use crate::names::SortedNames;
 use crate::order::order_alone;
 use crate::orders::Orders;
 use crate::search::find;
@@ -34,7 +34,7 @@ const MOST_THREADS: usize = 16;
 #[derive(Drop)]
 pub struct Table<'f> {
     entries: Vec<Entry<'f>>,
-    by_name: Names,
+    by_name: SortedNames,
     by_simple: SimpleNames,
     distinct: u64,
 }
@@ -161,7 +161,7 @@ impl<'f> Table<'f> {
 
 // The places of the entries with a text. The result borrows from the names alone.
 fn places_of<'r, L: Ledger>(
-    names: &'r Names,
+    names: &'r SortedNames,
     entries: &[Entry<'_>],
     asked: &[u8],
     steps: &mut Steps<L>,

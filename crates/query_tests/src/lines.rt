@@ -102,7 +102,7 @@ fn entry(offset: u64, kind: Kind, local: bool, name: &'static [u8]) -> Entry<'st
     Entry {
         unit: 0,
         offset,
-        tag: if kind == Kind::Named { 0x24 } else { 0x2e },
+        tag: if kind == Kind::TypeName { 0x24 } else { 0x2e },
         kind,
         local,
         linkage: name.starts_with(b"_Z"),
@@ -118,7 +118,7 @@ fn are_written(alloc: Global, text: &[u8]) -> Result<bool, AllocError> {
     out.take_at_most(2)?;
     let entries = [
         entry(0x13, Kind::Function, false, b"_Z1gv"),
-        entry(0x2e, Kind::Named, true, b"int"),
+        entry(0x2e, Kind::TypeName, true, b"int"),
     ];
     let hits = Hits {
         entries: &entries,
@@ -138,7 +138,7 @@ fn replies_with_entries(rt: HostRuntime) -> Result<(), Fail> {
 
 // Whether a reply that has one entry two hundred times is written, and by how many calls.
 fn calls(alloc: Global) -> (bool, u64) {
-    let entries = [entry(0x2e, Kind::Named, true, b"int")];
+    let entries = [entry(0x2e, Kind::TypeName, true, b"int")];
     let hits = Hits {
         entries: &entries,
         places: &[0; 200],

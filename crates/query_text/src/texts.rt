@@ -104,7 +104,7 @@ fn kind_word(kind: Kind) -> &'static [u8]
     ensures most { length result.now ≤ 10 }
 {
     match kind {
-        Kind::Named => b" type ",
+        Kind::TypeName => b" type ",
         Kind::Variable => b" variable ",
         Kind::Function => b" function ",
         Kind::Other => b" other ",

@@ -17,10 +17,10 @@ use Rattle.index_model.specs.Strings.{base_of}
 use Rattle.index_model.specs.RangeLists.{End, Base, Bounds, Offsets, EntryReader, indexed_address, address_of, one, two, long, plain, fixed, kind_reader, kind_at, pair_at, list_at, list_offset, list_of}
 use Rattle.index_model.specs.Ranges.{bounds, first_base, ranges_by}
 use Rattle.range_lists.specs.Lists.{kept, reader_for}
-use Rattle.range_lists.specs.declared.list_entry.Format.{Format}
-use Rattle.range_lists.specs.declared.list_entry.Format.TheVariants.{Pairs, Kinds}
+use Rattle.range_lists.specs.declared.list_entry.ListFormat.{ListFormat}
+use Rattle.range_lists.specs.declared.list_entry.ListFormat.TheVariants.{Pairs, Kinds}
 use Rattle.range_lists.specs.Homes.{as_value, as_high, unit_with}
-use Rattle.range_lists.specs.declared.home.Home.{Home}
+use Rattle.range_lists.specs.declared.home.RangeUnit.{RangeUnit}
 use Rattle.index_model.specs.declared.shard.Raw.{Raw}
 use Rattle.index_model.specs.declared.shard.LinkedEntry.{LinkedEntry}
 use Rattle.index_model.specs.ShardParts.{root_facts}
@@ -64,7 +64,7 @@ module _ (ss : List Section) (w v : Walked) (addresses : base_of 0x73 w ≡ base
   kind_same = ap kind_by look_same
 
   -- lists of units with one base of addresses are read alike
-  pub reader_same : (format : Format) → reader_for format ss w ≡ reader_for format ss v
+  pub reader_same : (format : ListFormat) → reader_for format ss w ≡ reader_for format ss v
   reader_same Pairs = refl
   reader_same Kinds = kind_same
 
@@ -130,7 +130,7 @@ facts_lists : (w : Walked) → (root_facts w).rnglists_base ≡ base_of 0x74 w
 unfolding root_facts
 facts_lists w = refl
 
-pub home_alike : (h : Home) (w : Walked) → h.header ≡ w.unit → h.addr_base ≡ (root_facts w).addr_base → h.rnglists_base ≡ (root_facts w).rnglists_base → option_and_then low_pc (root_of w) ≡ option_and_then (λ r. as_address (as_value r)) h.low → Alike (unit_with h) w
+pub home_alike : (h : RangeUnit) (w : Walked) → h.header ≡ w.unit → h.addr_base ≡ (root_facts w).addr_base → h.rnglists_base ≡ (root_facts w).rnglists_base → option_and_then low_pc (root_of w) ≡ option_and_then (λ r. as_address (as_value r)) h.low → Alike (unit_with h) w
 home_alike h w header addresses lists low = record {
   unit = header_at h ∙ header;
   addresses = addresses_at h ∙ addresses ∙ facts_addresses w;
@@ -139,7 +139,7 @@ home_alike h w header addresses lists low = record {
 }
 
 -- what holds of a home's ranges holds of the unit's
-pub moved : (Holds : Result (List Range) Fault → Type 0) (ss secs : List Section) (h : Home) (w : Walked) (nodes others : List Node) (entries links : List LinkedEntry) → ss ≡ secs → Alike (unit_with h) w → nodes ≡ others → entries ≡ links →
+pub moved : (Holds : Result (List Range) Fault → Type 0) (ss secs : List Section) (h : RangeUnit) (w : Walked) (nodes others : List Node) (entries links : List LinkedEntry) → ss ≡ secs → Alike (unit_with h) w → nodes ≡ others → entries ≡ links →
     Holds (all_node_ranges ss (unit_with h) (nodes_with_ranges entries nodes)) → Holds (all_node_ranges secs w (nodes_with_ranges links others))
 moved Holds ss secs h w nodes others entries links sections alike ns es holds =
     subst Holds (

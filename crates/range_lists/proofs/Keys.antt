@@ -12,10 +12,10 @@ use Rattle.std.proofs.lemmas.Cmp.{ranked}
 use mathlib.Core.Logic.{◌⊎◌}
 use Rattle.common_laws.proofs.Members.{contains_here, contains_later, contains_cases}
 use Rattle.range_lists.specs.declared.found.RangeList.{RangeList}
-use Rattle.range_lists.specs.declared.list_entry.Format.{Format}
-use Rattle.range_lists.specs.declared.list_entry.Format.TheVariants.{Pairs, Kinds}
+use Rattle.range_lists.specs.declared.list_entry.ListFormat.{ListFormat}
+use Rattle.range_lists.specs.declared.list_entry.ListFormat.TheVariants.{Pairs, Kinds}
 use Rattle.range_lists.specs.contracts.found.RangeListOrd.TheImpl as list_ord
-use Rattle.range_lists.specs.contracts.list_entry.FormatOrd.TheImpl as format_ord
+use Rattle.range_lists.specs.contracts.list_entry.ListFormatOrd.TheImpl as format_ord
 
 module _ {K : Type 0} (cmp : K → K → Ordering) where
   -- of a set with one key more
@@ -60,7 +60,7 @@ options None (Some y) h = absurd cc
 options (Some x) None h = absurd cc
 options (Some x) (Some y) h = ap {B = Option ℕ} (λ (n : ℕ). Some n) (numbers x y h)
 
-formats : (x y : Format) → (format_ord.ghosts).cmp x y ≡ Equal → x ≡ y
+formats : (x y : ListFormat) → (format_ord.ghosts).cmp x y ≡ Equal → x ≡ y
 formats Pairs Pairs h = refl
 formats Pairs Kinds h = absurd cc
 formats Kinds Pairs h = absurd cc
@@ -78,7 +78,7 @@ lists x y h =
     let b = both (nat_cmp x.place y.place) (ordering_then (nat_cmp x.base y.base) (option_cmp nat_cmp x.addr_base y.addr_base)) a.1 in
     let d = both (nat_cmp x.base y.base) (option_cmp nat_cmp x.addr_base y.addr_base) b.1 in
     sym (
-    ap (λ (f : Format). record x { format = f }) (formats x.format y.format a.0) ∙
+    ap (λ (f : ListFormat). record x { format = f }) (formats x.format y.format a.0) ∙
     ap (λ (n : ℕ). record y { place = n; base = x.base; addr_base = x.addr_base }) (numbers x.place y.place b.0) ∙
     ap (λ (n : ℕ). record y { base = n; addr_base = x.addr_base }) (numbers x.base y.base d.0) ∙
     ap (λ (o : Option ℕ). record y { addr_base = o }) (options x.addr_base y.addr_base d.1))

@@ -83,7 +83,6 @@ module _ (d : Located) (n : Node) (is : n ≡ node_facts d) where
       ap (λ (o : Option Value). at_place d.item.at (kept (ranges_by ss d.home (ranges_value d.home.unit.version d.item) o (option_map as_high n.high)))) node_low ∙
       ap (λ (o : Option High). at_place d.item.at (kept (ranges_by ss d.home (ranges_value d.home.unit.version d.item) (low_pc d.item) o))) node_high
 
-
   pub node_has : has_node_ranges n ≡ has_ranges d.home.unit.version d.item
   node_has =
       ap (λ (b : Bool). b || (is_some n.low && is_some n.high)) (sym (some_of_map as_value n.ranges) ∙ ap is_some node_list) ∙

@@ -12,8 +12,8 @@ use Rattle.index_model.specs.Forms.{Offset, RangeIndex}
 use Rattle.index_model.specs.Program.{Walked}
 use Rattle.index_model.specs.RangeLists.{ListEntry, End, Base, Bounds, Offsets, EntryReader, with_entry, list_from, list_at, pair_at, kind_at, list_offset, list_of, top}
 use Rattle.index_model.specs.Ranges.{is_kept}
-use Rattle.range_lists.specs.declared.list_entry.Format.{Format}
-use Rattle.range_lists.specs.declared.list_entry.Format.TheVariants.{Pairs, Kinds}
+use Rattle.range_lists.specs.declared.list_entry.ListFormat.{ListFormat}
+use Rattle.range_lists.specs.declared.list_entry.ListFormat.TheVariants.{Pairs, Kinds}
 use Rattle.range_lists.specs.Same.{with_unit, of_unit}
 use Rattle.range_lists.specs.Lists.{reader_for, lists_in, kept, behind, range_in, base_behind, capped}
 
@@ -79,21 +79,21 @@ module _ (read : EntryReader) (n base : ℕ) (i : Input) (unit : ℕ) (front : L
 
 -- ---- places
 
-from_nothing : (format : Format) (ss : List Section) (w : Walked) (n base place : ℕ) → list_from n (reader_for format ss w) base (record { at = place; rest = [] }) ≡ Err BAD_RANGE
+from_nothing : (format : ListFormat) (ss : List Section) (w : Walked) (n base place : ℕ) → list_from n (reader_for format ss w) base (record { at = place; rest = [] }) ≡ Err BAD_RANGE
 unfolding list_from pair_at kind_at
 from_nothing Pairs ss w zero base place = refl
 from_nothing Pairs ss w (suc n) base place = refl
 from_nothing Kinds ss w zero base place = refl
 from_nothing Kinds ss w (suc n) base place = refl
 
-pub list_past : (format : Format) (ss : List Section) (w : Walked) (base : ℕ) (bytes : List ℕ) (place : ℕ) → length bytes < place → list_at (reader_for format ss w) base bytes place ≡ Err BAD_RANGE
+pub list_past : (format : ListFormat) (ss : List Section) (w : Walked) (base : ℕ) (bytes : List ℕ) (place : ℕ) → length bytes < place → list_at (reader_for format ss w) base bytes place ≡ Err BAD_RANGE
 unfolding list_at
 list_past format ss w base bytes place past =
     let none : drop place bytes ≡ [] = drop_all place bytes (omega (arith, past)) in
     ap (λ (rest : List ℕ). list_from (length bytes) (reader_for format ss w) base (record { at = place; rest = rest })) none ∙ from_nothing format ss w (length bytes) base place
 
 -- a place that is too high is past the section, like the greatest
-pub list_capped : (format : Format) (ss : List Section) (w : Walked) (base : ℕ) (bytes : List ℕ) (place : ℕ) → length bytes < top → list_at (reader_for format ss w) base bytes (min place top) ≡ list_at (reader_for format ss w) base bytes place
+pub list_capped : (format : ListFormat) (ss : List Section) (w : Walked) (base : ℕ) (bytes : List ℕ) (place : ℕ) → length bytes < top → list_at (reader_for format ss w) base bytes (min place top) ≡ list_at (reader_for format ss w) base bytes place
 list_capped format ss w base bytes place small = ⊎_elim
     (λ (high : top < place).
     list_past format ss w base bytes (min place top) (omega (arith, high, small)) ∙ sym (list_past format ss w base bytes place (omega (arith, high, small))))

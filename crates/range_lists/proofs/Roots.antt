@@ -13,7 +13,7 @@ use Rattle.index_model.specs.declared.shard.Raw.{Raw}
 use Rattle.index_model.specs.Attributes.{read_as, as_address, as_offset, low_pc}
 use Rattle.index_model.specs.Program.{root_of}
 use Rattle.index_model.specs.Strings.{base_of, offset_size}
-use Rattle.range_lists.specs.declared.home.Home.{Home}
+use Rattle.range_lists.specs.declared.home.RangeUnit.{RangeUnit}
 use Rattle.range_lists.specs.Homes.{as_value, root_with, unit_with}
 
 addresses : (a l : Option ℕ) (low : Option Raw) → read_as as_offset 0x73 (root_with a l low) ≡ a
@@ -41,15 +41,15 @@ lows None (Some l) None = refl
 lows None None (Some low) = refl
 lows None None None = refl
 
-pub addresses_at : (h : Home) → base_of 0x73 (unit_with h) ≡ h.addr_base
+pub addresses_at : (h : RangeUnit) → base_of 0x73 (unit_with h) ≡ h.addr_base
 unfolding unit_with
 addresses_at h = addresses h.addr_base h.rnglists_base h.low
 
-pub lists_at : (h : Home) → base_of 0x74 (unit_with h) ≡ h.rnglists_base
+pub lists_at : (h : RangeUnit) → base_of 0x74 (unit_with h) ≡ h.rnglists_base
 unfolding unit_with
 lists_at h = lists h.addr_base h.rnglists_base h.low
 
-pub low_at : (h : Home) → option_and_then low_pc (root_of (unit_with h)) ≡ option_and_then as_address (option_map as_value h.low)
+pub low_at : (h : RangeUnit) → option_and_then low_pc (root_of (unit_with h)) ≡ option_and_then as_address (option_map as_value h.low)
 unfolding unit_with
 low_at h = lows h.addr_base h.rnglists_base h.low
 
@@ -57,11 +57,11 @@ low_at h = lows h.addr_base h.rnglists_base h.low
 abbrev pub address_behind : List Section → ℕ → Option ℕ → Result ℕ ℕ
 address_behind ss n base = some_or base NO_BASE >>= λ b. some_or (number 8 (input (section_bytes ss (codes ".debug_addr")) (b + 8 * n))) BAD_RANGE >>= λ a. Ok a.0
 
-pub indexed_at : (h : Home) (ss : List Section) (n : ℕ) → indexed_address ss (unit_with h) n ≡ address_behind ss n h.addr_base
+pub indexed_at : (h : RangeUnit) (ss : List Section) (n : ℕ) → indexed_address ss (unit_with h) n ≡ address_behind ss n h.addr_base
 unfolding indexed_address
 indexed_at h ss n = ap (address_behind ss n) (addresses_at h)
 
-pub header_at : (h : Home) → (unit_with h).unit ≡ h.header
+pub header_at : (h : RangeUnit) → (unit_with h).unit ≡ h.header
 unfolding unit_with
 header_at h = refl
 
@@ -69,6 +69,6 @@ header_at h = refl
 abbrev pub list_behind : List Section → Bool → ℕ → Option ℕ → Result ℕ ℕ
 list_behind ss wide n base = some_or base NO_BASE >>= λ b. some_or (offset wide (input (section_bytes ss (codes ".debug_rnglists")) (b + offset_size wide * n))) BAD_RANGE >>= λ o. Ok (b + o.0)
 
-pub list_offset_at : (h : Home) (ss : List Section) (n : ℕ) → list_offset ss (unit_with h) n ≡ list_behind ss h.header.wide n h.rnglists_base
+pub list_offset_at : (h : RangeUnit) (ss : List Section) (n : ℕ) → list_offset ss (unit_with h) n ≡ list_behind ss h.header.wide n h.rnglists_base
 unfolding list_offset
 list_offset_at h ss n = ap (list_behind ss (unit_with h).unit.wide n) (lists_at h) ∙ ap (λ (wide : Bool). list_behind ss wide n h.rnglists_base) (ap (λ (u : UnitHeader). u.wide) (header_at h))

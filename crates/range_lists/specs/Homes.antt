@@ -6,7 +6,7 @@ use Rattle.index_model.specs.Forms.{Value, Addr, Unsigned, AddrIndex, Offset, Ra
 use Rattle.index_model.specs.Attributes.{High, EndsAt, Bytes}
 use Rattle.index_model.specs.Walk.{Item, Entry}
 use Rattle.index_model.specs.Program.{Walked}
-use Rattle.range_lists.specs.declared.home.Home.{Home}
+use Rattle.range_lists.specs.declared.home.RangeUnit.{RangeUnit}
 
 -- the value that a shard keeps of a low_pc or of ranges
 abbrev pub as_value : Raw → Value
@@ -41,5 +41,5 @@ root_with addr_base rnglists_base low = record {
 }
 
 -- A unit with this header and a root of which this is known. The ranges of an entry depend on nothing else of its unit.
-unfoldable pub unit_with : Home → Walked
+unfoldable pub unit_with : RangeUnit → Walked
 unit_with h = record { number = 0; unit = h.header; walk = record { tokens = Entry (root_with h.addr_base h.rnglists_base h.low) ∷ []; end = None } }

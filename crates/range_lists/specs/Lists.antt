@@ -8,13 +8,13 @@ use Rattle.index_model.specs.Program.{Walked}
 use Rattle.index_model.specs.RangeLists as meant
 use Rattle.index_model.specs.Ranges.{is_kept}
 use Rattle.range_lists.specs.Same.{of_unit}
-use Rattle.range_lists.specs.declared.list_entry.Format.{Format}
-use Rattle.range_lists.specs.declared.list_entry.Format.TheVariants.{Pairs, Kinds}
-use Rattle.range_lists.specs.declared.list_entry.Entry.{Entry}
-use Rattle.range_lists.specs.declared.list_entry.Entry.TheVariants.{End, Base, Bounds, Offsets, Length}
+use Rattle.range_lists.specs.declared.list_entry.ListFormat.{ListFormat}
+use Rattle.range_lists.specs.declared.list_entry.ListFormat.TheVariants.{Pairs, Kinds}
+use Rattle.range_lists.specs.declared.list_entry.RangeListEntry.{RangeListEntry}
+use Rattle.range_lists.specs.declared.list_entry.RangeListEntry.TheVariants.{End, Base, Bounds, Offsets, Length}
 
 -- an entry as the definitions see it
-abbrev pub entry_seen : Entry → meant.ListEntry
+abbrev pub entry_seen : RangeListEntry → meant.ListEntry
 entry_seen End = meant.End
 entry_seen (Base b) = meant.Base b
 entry_seen (Bounds low end) = meant.Bounds low end
@@ -22,12 +22,12 @@ entry_seen (Offsets low end) = meant.Offsets low end
 entry_seen (Length low bytes) = meant.Bounds low (low + bytes)
 
 -- the reader of an entry of a list
-abbrev pub reader_for : Format → List Section → Walked → meant.EntryReader
+abbrev pub reader_for : ListFormat → List Section → Walked → meant.EntryReader
 reader_for Pairs ss w = meant.pair_at
 reader_for Kinds ss w = meant.kind_at ss w
 
 -- the section in which lists of a format stand
-abbrev pub lists_in : Format → List Section → List ℕ
+abbrev pub lists_in : ListFormat → List Section → List ℕ
 lists_in Pairs ss = section_bytes ss (codes ".debug_ranges")
 lists_in Kinds ss = section_bytes ss (codes ".debug_rnglists")
 

@@ -8,7 +8,7 @@ ghost use Rattle.index_model.specs.Sections.{Section};
 ghost use Rattle.range_lists.specs.Found.{AreRead};
 ghost use Rattle.range_lists.specs.declared.found.RangeList.{RangeList};
 
-use crate::list_entry::Format;
+use crate::list_entry::ListFormat;
 use index_model::UnitRange;
 use ix_base::NoMemory;
 use std::alloc::Global;
@@ -17,7 +17,7 @@ use std::collections::BTreeSet;
 /// A list, by all that its ranges depend on.
 #[derive(Clone, Copy, PartialEq, Eq, PartialOrd, Ord, Drop)]
 pub(crate) struct RangeList {
-    pub(crate) format: Format,
+    pub(crate) format: ListFormat,
     /// Where it begins in its section.
     pub(crate) place: u64,
     /// The base from which it counts at first.

@@ -19,7 +19,7 @@ const ADDRESS_SIZE: u64 = 8;
 
 /// A unit, by its header and what its root says of all its ranges.
 #[derive(Clone, Copy)]
-pub(crate) struct Home<'f> {
+pub(crate) struct RangeUnit<'f> {
     pub(crate) sections: &'f Sections<'f>,
     /// The number of the unit in section order.
     pub(crate) number: u32,
@@ -40,7 +40,7 @@ pub(crate) fn cursor_at<'a>(bytes: &'a [u8], at: u64) -> Cursor<'a>
     Cursor::new(bytes, at as usize)
 }
 
-impl<'f> Home<'f> {
+impl<'f> RangeUnit<'f> {
     /// The address at an index of `.debug_addr`.
     pub(crate) fn indexed(&self, index: u64) -> Result<u64, u8>
         ensures { GivesAlways (λ a. a) result (indexed_address self.now.sections.now (unit_with self.now) index) }

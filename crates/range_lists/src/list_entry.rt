@@ -6,13 +6,13 @@ ghost use Rattle.index_model.specs.RangeLists.{pair_at, kind_at, index, plain, f
 ghost use Rattle.range_lists.specs.Homes.{unit_with};
 ghost use Rattle.range_lists.specs.Lists.{entry_seen, reader_for};
 
-use crate::home::Home;
+use crate::home::RangeUnit;
 use ix_base::Cursor;
 use ix_base::code::BAD_RANGE;
 
 /// How a list is written.
 #[derive(Clone, Copy, PartialEq, Eq, PartialOrd, Ord, Drop)]
-pub(crate) enum Format {
+pub(crate) enum ListFormat {
     /// Pairs of addresses, in `.debug_ranges`.
     Pairs,
     /// A kind and its operands, in `.debug_rnglists`.
@@ -21,7 +21,7 @@ pub(crate) enum Format {
 
 /// An entry of a list.
 #[derive(Clone, Copy)]
-pub(crate) enum Entry {
+pub(crate) enum RangeListEntry {
     /// The list ends.
     End,
     /// A new base.
@@ -36,17 +36,17 @@ pub(crate) enum Entry {
 
 // A pair of versions 2 to 4.
 #[tactic(auto, unfolding(index_model::specs::RangeLists::pair_at))]
-fn read_pair(cursor: &mut Cursor<'_>) -> Result<Entry, u8>
+fn read_pair(cursor: &mut Cursor<'_>) -> Result<RangeListEntry, u8>
     ensures { GivesAlways (λ e. (entry_seen e, cursor.new)) result (pair_at cursor.old) }
 {
     let low = cursor.u64().ok_or(BAD_RANGE)?;
     let high = cursor.u64().ok_or(BAD_RANGE)?;
     if low == 0 && high == 0 {
-        Ok(Entry::End)
+        Ok(RangeListEntry::End)
     } else if low == u64::MAX {
-        Ok(Entry::Base(high))
+        Ok(RangeListEntry::Base(high))
     } else {
-        Ok(Entry::Offsets(low, high))
+        Ok(RangeListEntry::Offsets(low, high))
     }
 }
 
@@ -70,7 +70,7 @@ fn plain(cursor: &mut Cursor<'_>) -> Result<u64, u8>
     }
 }
 
-impl Home<'_> {
+impl RangeUnit<'_> {
     // The address at an index, which is looked up as soon as it was read.
     fn read_index(&self, cursor: &mut Cursor<'_>) -> Result<u64, u8>
         ensures { GivesAlways (λ a. (a, cursor.new)) result (index self.now.sections.now (unit_with self.now) cursor.old) }
@@ -81,29 +81,33 @@ impl Home<'_> {
 
     // A kind and its operands.
     #[tactic(auto, unfolding(index_model::specs::RangeLists::kind_at))]
-    fn read_kind(&self, cursor: &mut Cursor<'_>) -> Result<Entry, u8>
+    fn read_kind(&self, cursor: &mut Cursor<'_>) -> Result<RangeListEntry, u8>
         ensures { GivesAlways (λ e. (entry_seen e, cursor.new)) result (kind_at self.now.sections.now (unit_with self.now) cursor.old) }
     {
         match cursor.u8().ok_or(BAD_RANGE)? {
-            0 => Ok(Entry::End),
-            1 => Ok(Entry::Base(self.read_index(cursor)?)),
-            2 => Ok(Entry::Bounds(self.read_index(cursor)?, self.read_index(cursor)?)),
-            3 => Ok(Entry::Length(self.read_index(cursor)?, plain(cursor)?)),
-            4 => Ok(Entry::Offsets(plain(cursor)?, plain(cursor)?)),
-            5 => Ok(Entry::Base(fixed(cursor)?)),
-            6 => Ok(Entry::Bounds(fixed(cursor)?, fixed(cursor)?)),
-            7 => Ok(Entry::Length(fixed(cursor)?, plain(cursor)?)),
+            0 => Ok(RangeListEntry::End),
+            1 => Ok(RangeListEntry::Base(self.read_index(cursor)?)),
+            2 => Ok(RangeListEntry::Bounds(self.read_index(cursor)?, self.read_index(cursor)?)),
+            3 => Ok(RangeListEntry::Length(self.read_index(cursor)?, plain(cursor)?)),
+            4 => Ok(RangeListEntry::Offsets(plain(cursor)?, plain(cursor)?)),
+            5 => Ok(RangeListEntry::Base(fixed(cursor)?)),
+            6 => Ok(RangeListEntry::Bounds(fixed(cursor)?, fixed(cursor)?)),
+            7 => Ok(RangeListEntry::Length(fixed(cursor)?, plain(cursor)?)),
             _ => Err(BAD_RANGE),
         }
     }
 
     /// The entry at the cursor of a list.
-    pub(crate) fn read_entry(&self, format: Format, cursor: &mut Cursor<'_>) -> Result<Entry, u8>
+    pub(crate) fn read_entry(
+        &self,
+        format: ListFormat,
+        cursor: &mut Cursor<'_>,
+    ) -> Result<RangeListEntry, u8>
         ensures { GivesAlways (λ e. (entry_seen e, cursor.new)) result (reader_for format self.now.sections.now (unit_with self.now) cursor.old) }
     {
         match format {
-            Format::Pairs => read_pair(cursor),
-            Format::Kinds => self.read_kind(cursor),
+            ListFormat::Pairs => read_pair(cursor),
+            ListFormat::Kinds => self.read_kind(cursor),
         }
     }
 }

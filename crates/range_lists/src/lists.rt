@@ -13,8 +13,8 @@ ghost use Rattle.range_lists.specs.Lists.{entry_seen, reader_for, lists_in, kept
 ghost use Rattle.range_lists.specs.Same.{of_unit};
 
 use crate::found::{FoundRanges, RangeList};
-use crate::home::{Home, cursor_at};
-use crate::list_entry::{Entry, Format};
+use crate::home::{RangeUnit, cursor_at};
+use crate::list_entry::{ListFormat, RangeListEntry};
 use crate::refusal::Refusal;
 use index_model::{Range, Raw, UnitRange};
 use ix_base::code::{BAD_RANGE, NO_BASE};
@@ -53,16 +53,16 @@ fn offset_size(wide: bool) -> u64
     if wide { 8 } else { 4 }
 }
 
-impl Entry {
+impl RangeListEntry {
     // The range of the entry, if it has one that counts.
     fn range(&self, base: u64) -> Option<Range>
         ensures { as_list result ≡ range_in (entry_seen self.now) base }
     {
         match *self {
-            Entry::End | Entry::Base(_) => None,
-            Entry::Bounds(low, end) => range_from(0, low, end),
-            Entry::Offsets(low, end) => range_from(base, low, end),
-            Entry::Length(low, bytes) => range_from(low, 0, bytes),
+            RangeListEntry::End | RangeListEntry::Base(_) => None,
+            RangeListEntry::Bounds(low, end) => range_from(0, low, end),
+            RangeListEntry::Offsets(low, end) => range_from(base, low, end),
+            RangeListEntry::Length(low, bytes) => range_from(low, 0, bytes),
         }
     }
 
@@ -71,20 +71,21 @@ impl Entry {
         ensures { result ≡ base_behind (entry_seen self.now) base }
     {
         match *self {
-            Entry::End => None,
-            Entry::Base(address) => Some(address),
-            Entry::Bounds(..) | Entry::Offsets(..) | Entry::Length(..) => Some(base),
+            RangeListEntry::End => None,
+            RangeListEntry::Base(address) => Some(address),
+            RangeListEntry::Bounds(..) | RangeListEntry::Offsets(..) | RangeListEntry::Length(..) =>
+                Some(base),
         }
     }
 }
 
-impl<'f> Home<'f> {
+impl<'f> RangeUnit<'f> {
     // Adds the ranges of the list at a place of a section.
     #[tactic(auto, unfolding(index_model::specs::RangeLists::list_at))]
     fn add_list_at(
         &self,
         ranges: &mut Vec<UnitRange>,
-        format: Format,
+        format: ListFormat,
         first_base: u64,
         bytes: &[u8],
         place: u64,
@@ -123,13 +124,13 @@ impl<'f> Home<'f> {
     }
 
     // The section in which lists of a format stand.
-    fn lists_in(&self, format: Format) -> &'f [u8]
+    fn lists_in(&self, format: ListFormat) -> &'f [u8]
         ensures value { result.now ≡ lists_in format self.now.sections.now }
         ensures small { length result.now < top }
     {
         match format {
-            Format::Pairs => self.sections.debug_ranges(),
-            Format::Kinds => self.sections.debug_rnglists(),
+            ListFormat::Pairs => self.sections.debug_ranges(),
+            ListFormat::Kinds => self.sections.debug_rnglists(),
         }
     }
 
@@ -137,7 +138,7 @@ impl<'f> Home<'f> {
     fn add_list_once(
         &self,
         found: &mut FoundRanges,
-        format: Format,
+        format: ListFormat,
         first_base: u64,
         place: u64,
     ) -> Result<(), Refusal>
@@ -170,13 +171,13 @@ impl<'f> Home<'f> {
         match list {
             Raw::RangeIndex(index) => {
                 let place = self.list_place(index)?;
-                self.add_list_once(found, Format::Kinds, first_base, place)
+                self.add_list_once(found, ListFormat::Kinds, first_base, place)
             }
             Raw::Offset(place) => {
                 if self.header.version == 5 {
-                    self.add_list_once(found, Format::Kinds, first_base, place)
+                    self.add_list_once(found, ListFormat::Kinds, first_base, place)
                 } else {
-                    self.add_list_once(found, Format::Pairs, first_base, place)
+                    self.add_list_once(found, ListFormat::Pairs, first_base, place)
                 }
             }
             Raw::Address(_) | Raw::AddressIndex(_) | Raw::Constant(_) => {

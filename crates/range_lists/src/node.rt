@@ -10,7 +10,7 @@ ghost use Rattle.range_lists.specs.Lists.{as_list, behind, kept};
 ghost use Rattle.range_lists.specs.Nodes.{has_node_ranges, node_ranges};
 
 use crate::found::FoundRanges;
-use crate::home::Home;
+use crate::home::RangeUnit;
 use crate::lists::{add_range, range_from};
 use crate::refusal::Refusal;
 use index_model::{Node, Range, Raw, UnitRange};
@@ -24,7 +24,7 @@ pub(crate) fn has_ranges(node: &Node<'_>) -> bool
     node.ranges.is_some() || (node.low.is_some() && node.high.is_some())
 }
 
-impl Home<'_> {
+impl RangeUnit<'_> {
     // The range from a low end to a high end, if it counts.
     #[tactic(auto, unfolding(index_model::specs::Ranges::bounds, index_model::specs::RangeLists::address_of))]
     fn range_to(&self, low: u64, high: Raw) -> Result<Option<Range>, u8>

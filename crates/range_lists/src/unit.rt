@@ -10,23 +10,21 @@ ghost use Rattle.range_lists.specs.Units.{first_low, ForUnit, ForWalk};
 ghost use Rattle.range_lists.specs.Nodes.{all_node_ranges, is_linked_subprogram, nodes_with_ranges, EntriesRise};
 
 use crate::found::FoundRanges;
-use crate::home::Home;
+use crate::home::RangeUnit;
 use crate::node::has_ranges;
 use crate::run::{is_linked, root_in, run_of};
 use crate::unit_nodes::UnitNodes;
+use dwarf_codes::tag::DW_TAG_subprogram;
 use file_image::Image;
 use index_model::{Linked, LinkedEntry, Node, Raw, Shard, Unit};
 use ix_base::{MAX_UNITS, Stop};
 use std::sync::Arc;
 
-// The tag of a subprogram (DWARF 5, section 7.5.3).
-const SUBPROGRAM: u64 = 0x2e;
-
 // Whether the node is that of a subprogram that is linked.
 fn is_linked_subprogram(node: &Node<'_>, entries: &[LinkedEntry<'_>]) -> bool
     ensures { EntriesRise entries.now → result ≡ is_linked_subprogram entries.now node.now }
 {
-    node.tag == SUBPROGRAM && is_linked(entries, node.offset)
+    node.tag == DW_TAG_subprogram && is_linked(entries, node.offset)
 }
 
 // The low_pc of the first node.
@@ -48,7 +46,7 @@ fn header_of(image: &Image<'_>, unit: u32) -> Option<Unit>
     image.units().get(unit as usize).copied()
 }
 
-impl Home<'_> {
+impl RangeUnit<'_> {
     // Adds the ranges of the linked subprograms among these nodes.
     fn add_subprograms(
         &self,
@@ -103,7 +101,7 @@ fn add_in_run(
         return Ok(());
     };
     let nodes = UnitNodes::of(shard, unit);
-    let home = Home {
+    let home = RangeUnit {
         sections: image.sections(),
         number: unit,
         header,

@@ -4,9 +4,9 @@ use entry_rules::{Class, Facts, Kind, Parent, class, in_table, indexed, is_stati
 
 // A tag, its kind, and whether a name that isn't external is static in C, C++ and Ada.
 const TAGS: [(u64, Kind, [bool; 3]); 5] = [
-    (0x39, Kind::Named, [false, false, false]),
-    (0x13, Kind::Named, [true, false, true]),
-    (0x24, Kind::Named, [true, true, true]),
+    (0x39, Kind::TypeName, [false, false, false]),
+    (0x13, Kind::TypeName, [true, false, true]),
+    (0x24, Kind::TypeName, [true, true, true]),
     (0x2e, Kind::Function, [true, true, false]),
     (0x34, Kind::Variable, [true, true, true]),
 ];

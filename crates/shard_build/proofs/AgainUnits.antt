@@ -22,7 +22,7 @@ use Rattle.index_model.proofs.Meanings.{some_ok}
 use Rattle.index_model.proofs.Scans.{AreScans, read, scanned_walked, program_parts}
 use Rattle.index_model.proofs.UnitsApart.{walk_parts}
 use Rattle.file_image.specs.Images.{Image, image_of, unit_bytes}
-use Rattle.shard_build.specs.declared.home.Home.{Home}
+use Rattle.shard_build.specs.declared.home.UnitInFile.{UnitInFile}
 use Rattle.shard_build.specs.Again.{walk_by, IsSound}
 use Rattle.shard_build.specs.Entries.{IsNodeIn}
 use Rattle.shard_build.specs.Found.{IsSpanOfParent, located_in_span}
@@ -63,7 +63,7 @@ module _ (im : Image) (image : image_of im.file ≡ Ok im) (p : Program) (is : p
   pub number_within : w.number < length im.units
   number_within = has_number im.file p is im.units parts.units w wc
 
-  module _ (h : Home) (sections : h.sections.now ≡ im.sections) (number : h.number ≡ w.number) (unit : slice_get im.units w.number ≡ Some h.unit) where
+  module _ (h : UnitInFile) (sections : h.sections.now ≡ im.sections) (number : h.number ≡ w.number) (unit : slice_get im.units w.number ≡ Some h.unit) where
     unit_is : h.unit ≡ w.unit
     unit_is = sym (get_or_from_slice_get im.units w.number h.unit w.unit unit) ∙ unit_with_number im.file p is im.units parts.units w wc
 

@@ -7,13 +7,13 @@ use Rattle.index_model.specs.NodeSeen.{NodeSeen}
 use Rattle.index_model.specs.Sections.{Section}
 use Rattle.index_model.specs.Strings.{Texts}
 use Rattle.index_model.specs.Walk.{Item, Token, Entry}
-use Rattle.shard_build.specs.declared.frame.Frame.{Frame}
+use Rattle.shard_build.specs.declared.frame.UnitFacts.{UnitFacts}
 use Rattle.shard_build.specs.Frames.{frame_at}
 use Rattle.shard_build.specs.Kept.{Behind, innermost, is_visited_in, opened_by, spans_by, imports_by, node_by, nodes_by, has_node, entered, behind_all}
 use Rattle.shard_build.specs.Texts.{texts_by}
 
 module _ (ss : List Section) (u : ℕ × UnitHeader) (b : Behind) (d : Item) where
-  abbrev pub frame : Frame
+  abbrev pub frame : UnitFacts
   frame = frame_at b.frame d
 
   abbrev pub visited : Bool

@@ -14,7 +14,7 @@ use Rattle.index_model.specs.Faults.{program_of}
 use Rattle.index_model.specs.Program.{Program, Located, item_with_offset}
 use Rattle.index_model.specs.Shards.{AreShardsOf}
 use Rattle.index_model.proofs.ShardRuns.{shard_run}
-use Rattle.shard_build.specs.declared.found.Found.{Found}
+use Rattle.shard_build.specs.declared.found.NodeOrSpan.{NodeOrSpan}
 use Rattle.shard_build.specs.Found.{has_unit, IsUnitAt, IsFound, IsFoundIn}
 use Rattle.shard_build.proofs.OnePlace.{find_none, home_of, in_program}
 use Rattle.shard_build.proofs.UnitNumbers.{some_shard, unit_in_run}
@@ -74,7 +74,7 @@ module _ (f : List ℕ) (p : Program) (is : program_of f ≡ Ok p) (shards : Lis
             absurd (none s.0 s.1 (subst (λ (n : ℕ). has_unit n s.0 ≡ true) (sym (unit_is d e)) s.2))
 
     -- an entry is found in the shard that has the unit
-    pub found_in : (s : Shard) → Contains shards s → has_unit u s ≡ true → (found : Found) → IsFoundIn s o found → IsFound p o found
+    pub found_in : (s : Shard) → Contains shards s → has_unit u s ≡ true → (found : NodeOrSpan) → IsFoundIn s o found → IsFound p o found
     found_in s c on found there =
         let r = shard_run p shards are s c in
         there f p r.0 is r.1 r.2 (λ d e. let h = home_of f p is o d e in unit_in_run f p is s r.0 r.1 r.2 (in_program p r.0 r.1) d.home h.0 (has_home d e s on))

@@ -10,17 +10,17 @@ use Rattle.index_model.specs.Rules.{is_ada}
 use Rattle.index_model.specs.ShardParts.{is_partial, root_facts, may_be_ada}
 use Rattle.index_model.specs.Strings.{Texts, base_of, texts_of}
 use Rattle.index_model.specs.Walk.{Item}
-use Rattle.shard_build.specs.declared.frame.Frame.{Frame}
+use Rattle.shard_build.specs.declared.frame.UnitFacts.{UnitFacts}
 use Rattle.shard_build.specs.Frames.{blank, frame_of}
 use Rattle.shard_build.specs.Texts.{text_by, texts_by}
 
 -- what is known of a unit with this root
-abbrev pub frame_by : Option Item → Frame
+abbrev pub frame_by : Option Item → UnitFacts
 frame_by None = blank
 frame_by (Some r) = frame_of r
 
 -- what is known of a unit
-abbrev pub unit_frame : Walked → Frame
+abbrev pub unit_frame : Walked → UnitFacts
 unit_frame w = frame_by (root_of w)
 
 root_by : (o : Option Item) → (frame_by o).root ≡ record { language = option_and_then language_value o; addr_base = option_and_then (read_as as_offset 0x73) o; rnglists_base = option_and_then (read_as as_offset 0x74) o; partial = is_partial o }

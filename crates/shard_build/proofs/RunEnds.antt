@@ -18,7 +18,7 @@ use Rattle.index_model.specs.Meaning.{each, fault, some_or}
 use Rattle.index_model.specs.Program.{Walked, walked}
 use Rattle.index_model.specs.Sections.{Section, section_bytes}
 use Rattle.index_model.specs.Shards.{first_number}
-use Rattle.shard_build.specs.declared.run.Run.{Run}
+use Rattle.shard_build.specs.declared.run.ShardSoFar.{ShardSoFar}
 use Rattle.shard_build.specs.Runs.{Holds, HoldsOneMore}
 use Rattle.index_model.proofs.Meanings.{bind_ok, same_ok}
 use Rattle.index_model.proofs.Scans.{scanned_walked, walked_read}
@@ -61,7 +61,7 @@ abbrev pub units_from : List UnitHeader → ℕ → List Numbered
 units_from us first = drop first (enumerate_from 0 us)
 
 -- what is kept of the units below a number
-pub record SoFar (ss : List Section) (us : List UnitHeader) (first n : ℕ) (r : Run) : Type 0 where
+pub record SoFar (ss : List Section) (us : List UnitHeader) (first n : ℕ) (r : ShardSoFar) : Type 0 where
   pub front : List Walked
   pub read : each (scanned ss) (take (n - first) (units_from us first)) ≡ Ok front
   pub holds : Holds ss r front
@@ -133,7 +133,7 @@ module _ (ss : List Section) (us : List UnitHeader) (first count : ℕ) (fits : 
           subst (λ (n : ℕ). first_number front n) number (first_of ss x xs front (sym (ap (each (scanned ss)) same) ∙ is))
 
   -- before the first unit nothing is kept
-  pub so_far_none : (r : Run) → r.roots.items ≡ [] → r.kept.nodes ≡ [] → r.kept.spans ≡ [] → r.kept.imports.items ≡ [] → SoFar ss us first first r
+  pub so_far_none : (r : ShardSoFar) → r.roots.items ≡ [] → r.kept.nodes ≡ [] → r.kept.spans ≡ [] → r.kept.imports.items ≡ [] → SoFar ss us first first r
   so_far_none r roots nodes spans imports =
       let zero_units : first - first ≡ 0 = omega arith in
       record {
@@ -143,7 +143,7 @@ module _ (ss : List Section) (us : List UnitHeader) (first count : ℕ) (fits : 
       }
 
   -- one unit more
-  pub so_far_more : (n : ℕ) (u : UnitHeader) (old new : Run) → first ≤ n → n < first + count → slice_get us n ≡ Some u → SoFar ss us first n old → IsOkAnd (scanned ss (n, u)) (λ w. HoldsOneMore ss old new w) → SoFar ss us first (n + 1) new
+  pub so_far_more : (n : ℕ) (u : UnitHeader) (old new : ShardSoFar) → first ≤ n → n < first + count → slice_get us n ≡ Some u → SoFar ss us first n old → IsOkAnd (scanned ss (n, u)) (λ w. HoldsOneMore ss old new w) → SoFar ss us first (n + 1) new
   so_far_more n u old new low high is h more = by_unit (scanned ss (n, u)) refl more
     where
       by_unit : (r : Result Walked Fault) → scanned ss (n, u) ≡ r → IsOkAnd r (λ w. HoldsOneMore ss old new w) → SoFar ss us first (n + 1) new

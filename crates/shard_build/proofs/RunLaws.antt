@@ -14,7 +14,7 @@ use Rattle.index_model.specs.Program.{Walked, Located, located, joint, body}
 use Rattle.index_model.specs.Sections.{Section}
 use Rattle.index_model.specs.ShardParts.{root_facts, is_kept, kept_in, spans_of, imports_in, IsSeenOf}
 use Rattle.file_image.specs.Images.{unit_bytes}
-use Rattle.shard_build.specs.declared.run.Run.{Run}
+use Rattle.shard_build.specs.declared.run.ShardSoFar.{ShardSoFar}
 use Rattle.shard_build.specs.Kept.{Behind, kept_seen}
 use Rattle.shard_build.specs.Runs.{HoldsOneMore}
 use Rattle.shard_build.proofs.UnitEnd.{Adds}
@@ -31,7 +31,7 @@ flat_push f ws w = flat_map-append f ws (w ∷ []) ∙ ap (λ (xs : List _). fla
 kept_push : (ws : List Walked) (w : Walked) → kept_in (ws ++ w ∷ []) ≡ kept_in ws ++ filter (λ d. is_kept d.home d.item) (located w)
 kept_push ws w = ap (filter (λ (d : Located). is_kept d.home d.item)) (flat_push located ws w) ∙ filter-append (λ (d : Located). is_kept d.home d.item) (flat_map located ws) (located w)
 
-module _ (ss : List Section) (old new : Run) (w : Walked) (b : Behind) (nodes : b.nodes ≡ old.kept.nodes) (spans : b.spans ≡ old.kept.spans) (imports : b.imports ≡ old.kept.imports.items) where
+module _ (ss : List Section) (old new : ShardSoFar) (w : Walked) (b : Behind) (nodes : b.nodes ≡ old.kept.nodes) (spans : b.spans ≡ old.kept.spans) (imports : b.imports ≡ old.kept.imports.items) where
   -- the run holds what the unit adds
   pub holds_more : Adds ss b (kept_seen new.kept) w → new.roots.items ≡ old.roots.items ++ new.kept.frame.root ∷ [] → HoldsOneMore ss old new w
   holds_more a roots ws h = record {

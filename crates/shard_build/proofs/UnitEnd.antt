@@ -22,7 +22,7 @@ use Rattle.index_model.proofs.OrderLaws.{walks_in_order, walk_rises}
 use Rattle.index_model.proofs.Scans.{read}
 use Rattle.index_model.proofs.TokenReads.{Follow, start, walk_follows}
 use Rattle.index_model.specs.Program.{body}
-use Rattle.shard_build.specs.declared.frame.Frame.{Frame}
+use Rattle.shard_build.specs.declared.frame.UnitFacts.{UnitFacts}
 use Rattle.shard_build.specs.declared.open.Open.{Open}
 use Rattle.shard_build.specs.Frames.{blank}
 use Rattle.shard_build.specs.Kept.{Behind, behind_all}
@@ -90,7 +90,7 @@ module _ (ss : List Section) (u : ℕ × UnitHeader) (a : List Abbrev) (found : 
         let spans = spans_behind ss u start (body ss u.1) w.walk.tokens follows b c size ascend is in
         let none = ap (λ (os : List Open). filled os 0 w.walk.tokens b.spans) starts.opened in
         record {
-          root = ap (λ (f : Frame). f.root) (frame_is (items_of w) c.frame refl good.frame) ∙ root_says w;
+          root = ap (λ (f : UnitFacts). f.root) (frame_is (items_of w) c.frame refl good.frame) ∙ root_says w;
           more = good.more;
           nodes = good.nodes;
           are_nodes = good.are_nodes;
@@ -98,7 +98,7 @@ module _ (ss : List Section) (u : ℕ × UnitHeader) (a : List Abbrev) (found : 
           imports = good.imports ∙ ap (λ (xs : List Import). b.imports ++ xs) (all_imports ss w);
         }
       where
-        frame_is : (ds : List Item) (f : Frame) → ds ≡ items_of w → FrameEnd (unit_frame w) ds b.frame f → f ≡ unit_frame w
+        frame_is : (ds : List Item) (f : UnitFacts) → ds ≡ items_of w → FrameEnd (unit_frame w) ds b.frame f → f ≡ unit_frame w
         frame_is [] f same h = sym h ∙ starts.frame ∙ ap (λ (ds : List Item). frame_by (find (λ d. eqb d.depth 0) ds)) same
         frame_is (d ∷ ds) f same h = h
 

@@ -23,7 +23,7 @@ use Rattle.index_model.proofs.OrderLaws.{entries}
 use Rattle.index_model.proofs.ParentLaws.{Rise}
 use Rattle.index_model.proofs.TokenReads.{Follow}
 use Rattle.index_model.proofs.Located.{at_home}
-use Rattle.shard_build.specs.declared.frame.Frame.{Frame}
+use Rattle.shard_build.specs.declared.frame.UnitFacts.{UnitFacts}
 use Rattle.shard_build.specs.declared.open.Open.{Open}
 use Rattle.shard_build.specs.Kept.{Behind, innermost, is_visited_in, role_of, opened_by, closed, imports_by, node_by, has_node, behind_all}
 use Rattle.shard_build.specs.Texts.{texts_by}
@@ -54,11 +54,11 @@ closed_opened ada ds es b (o ∷ os) n after same h = open_closed ada ds es o os
 -- ---- what comes of the tokens
 
 -- what was known before some entries, and is known behind them
-abbrev pub FrameEnd : Frame → List Item → Frame → Frame → Type 0
+abbrev pub FrameEnd : UnitFacts → List Item → UnitFacts → UnitFacts → Type 0
 FrameEnd known [] old new = old ≡ new
 FrameEnd known (d ∷ ds) old new = new ≡ known
 
-frame_end : (known : Frame) (ds : List Item) (old new : Frame) → old ≡ known → FrameEnd known ds old new → new ≡ known
+frame_end : (known : UnitFacts) (ds : List Item) (old new : UnitFacts) → old ≡ known → FrameEnd known ds old new → new ≡ known
 frame_end known [] old new is h = sym h ∙ is
 frame_end known (d ∷ ds) old new is h = h
 
@@ -96,7 +96,7 @@ module _ (ss : List Section) (w : Walked) where
   out_null depth after ts b a fe ne ie (Ok c) h = record {
     read = h.read;
     texts = h.texts;
-    frame = subst (λ (f : Frame). FrameEnd (unit_frame w) (entries ts) f c.frame) fe h.frame;
+    frame = subst (λ (f : UnitFacts). FrameEnd (unit_frame w) (entries ts) f c.frame) fe h.frame;
     more = h.more;
     nodes = h.nodes ∙ ap (λ (ns : List NodeSeen). ns ++ h.more) ne;
     are_nodes = h.are_nodes;
@@ -159,7 +159,7 @@ module _ (ss : List Section) (w : Walked) where
         (cases_eq d.depth 0)
 
     same_texts : (b : Behind) (d : Item) → frame ss u b d ≡ unit_frame w → texts ss u b d ≡ texts_at (at_home w d)
-    same_texts b d known = ap (λ (f : Frame). at_place d.at (texts_by ss f.str_offsets_base w.unit.wide d)) known ∙ ap (at_place d.at) (texts_say ss w d)
+    same_texts b d known = ap (λ (f : UnitFacts). at_place d.at (texts_by ss f.str_offsets_base w.unit.wide d)) known ∙ ap (at_place d.at) (texts_say ss w d)
 
     abbrev ada : Bool
     ada = may_be_ada w
@@ -197,6 +197,6 @@ module _ (ss : List Section) (w : Walked) where
         let member : Contains (items_of w) d = subst (λ (xs : List Item). Contains xs d) whole (Contains-append_right es (d ∷ entries ts) d (contains_here d (entries ts))) in
         let known = known_at b d member (λ lt. ready (omega (arith, lt, deep))) in
         let p = is_parent ada (items_of w) low es d (entries ts) whole rise b.opened open_.depth deep open_are (λ top. (ordered.root d member top).1) (ordered.parents d member) in
-        let seen : visited ss u b d ≡ is_visited ada (items_of w) d = ap (λ (f : Frame). is_visited_in (innermost b.opened) f.ada) known ∙ ap (is_visited_in (innermost b.opened)) (ada_says w) ∙ p.visited in
+        let seen : visited ss u b d ≡ is_visited ada (items_of w) d = ap (λ (f : UnitFacts). is_visited_in (innermost b.opened) f.ada) known ∙ ap (is_visited_in (innermost b.opened)) (ada_says w) ∙ p.visited in
         let go = λ (t : Texts). all_behind (es ++ d ∷ []) ts (levels_after open_ (Entry d)) f.1 f.3 (append_assoc es (d ∷ []) (entries ts) ∙ whole) (made ss u b d t) (λ _. known) (open_after es d (entries ts) whole (visited ss u b d) seen (length b.spans) b.opened open_.depth deep open_are) in
         by_texts b d ts known p.place seen (same_texts b d known) go (texts_at (at_home w d)) refl

@@ -9,14 +9,14 @@ use Rattle.index_model.specs.Program.{Walked, Program, located}
 use Rattle.index_model.specs.ShardParts.{IsSeenOf}
 use Rattle.index_model.specs.Walk.{Item}
 use Rattle.entry_scan.specs.Inside.{walked_of}
-use Rattle.shard_build.specs.declared.home.Home.{Home}
+use Rattle.shard_build.specs.declared.home.UnitInFile.{UnitInFile}
 
 -- the walk of the unit by these abbreviations
-abbrev pub walk_by : Home → List Abbrev → Walked
+abbrev pub walk_by : UnitInFile → List Abbrev → Walked
 walk_by h table = walked_of h.unit table h.bytes.now h.number
 
 -- the unit has no fault, and these are its abbreviations
-abbrev pub IsSound : Home → List Abbrev → Type 0
+abbrev pub IsSound : UnitInFile → List Abbrev → Type 0
 IsSound h table = scanned h.sections.now (h.number, h.unit) ≡ Ok (walk_by h table)
 
 -- ---- whole units

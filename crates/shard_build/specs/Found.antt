@@ -8,8 +8,8 @@ use Rattle.index_model.specs.Program.{Walked, Program, Located, items_of, item_w
 use Rattle.index_model.specs.ShardParts.{spans_of, item_in_span}
 use Rattle.index_model.specs.Shards.{StandsFor, IsRunOf}
 use Rattle.index_model.specs.Walk.{Item}
-use Rattle.shard_build.specs.declared.found.Found.{Found}
-use Rattle.shard_build.specs.declared.found.Found.TheVariants.{Kept, Within, Nowhere}
+use Rattle.shard_build.specs.declared.found.NodeOrSpan.{NodeOrSpan}
+use Rattle.shard_build.specs.declared.found.NodeOrSpan.TheVariants.{Kept, Within, Nowhere}
 use Rattle.shard_build.specs.Entries.{IsNodeIn}
 
 -- the unit is one of the shard's run
@@ -37,12 +37,12 @@ pub record IsWithin (p : Program) (o : ℕ) (s : Span) : Type 0 where
   pub parent : IsSpanOfParent home s o
 
 -- the entry at the offset, if there is one, is found there
-abbrev pub IsFound : Program → ℕ → Found → Type 0
+abbrev pub IsFound : Program → ℕ → NodeOrSpan → Type 0
 IsFound p o (Kept n) = IsNodeIn p.sections (Some n) (item_with_offset p o)
 IsFound p o (Within s) = IsWithin p o s
 IsFound p o Nowhere = item_with_offset p o ≡ None
 
 -- Whatever run of a file's units the Shard stands for: if the entry at the offset stands in one of them or nowhere, it is found there.
-abbrev pub IsFoundIn : Shard → ℕ → Found → Type 0
+abbrev pub IsFoundIn : Shard → ℕ → NodeOrSpan → Type 0
 IsFoundIn s o found = (f : List ℕ) (p : Program) (run : List Walked) → program_of f ≡ Ok p → IsRunOf p run → StandsFor p.sections s run →
     ((d : Located) → item_with_offset p o ≡ Some d → Contains run d.home) → IsFound p o found

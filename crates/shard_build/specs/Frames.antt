@@ -5,14 +5,14 @@ use Rattle.index_model.specs.Languages.{class_of}
 use Rattle.index_model.specs.Rules.{is_ada}
 use Rattle.index_model.specs.Tags.{partial_unit}
 use Rattle.index_model.specs.Walk.{Item}
-use Rattle.shard_build.specs.declared.frame.Frame.{Frame}
+use Rattle.shard_build.specs.declared.frame.UnitFacts.{UnitFacts}
 
 -- of a unit without entries nothing is known
-abbrev pub blank : Frame
+abbrev pub blank : UnitFacts
 blank = record { root = record { language = None; addr_base = None; rnglists_base = None; partial = false }; str_offsets_base = None; ada = false }
 
 -- what a root says; a partial one without a language counts as one of Ada
-unfoldable pub frame_of : Item → Frame
+unfoldable pub frame_of : Item → UnitFacts
 frame_of d = record {
   root = record { language = language_value d; addr_base = read_as as_offset 0x73 d; rnglists_base = read_as as_offset 0x74 d; partial = d.tag == partial_unit };
   str_offsets_base = read_as as_offset 0x72 d;
@@ -20,5 +20,5 @@ frame_of d = record {
 }
 
 -- what is known at an entry: its own attributes count, where it is the root
-abbrev pub frame_at : Frame → Item → Frame
+abbrev pub frame_at : UnitFacts → Item → UnitFacts
 frame_at before d = if d.depth == 0 then frame_of d else before

@@ -17,22 +17,22 @@ use Rattle.index_model.specs.ShardParts.{raw_of, raw_of_high, as_next}
 use Rattle.index_model.specs.Strings.{Texts}
 use Rattle.index_model.specs.Tags.{imported_unit}
 use Rattle.index_model.specs.Walk.{Item, Token, Null, Entry}
-use Rattle.shard_build.specs.declared.frame.Frame.{Frame}
-use Rattle.shard_build.specs.declared.kept.Kept.{Kept}
+use Rattle.shard_build.specs.declared.frame.UnitFacts.{UnitFacts}
+use Rattle.shard_build.specs.declared.kept.ItemsSoFar.{ItemsSoFar}
 use Rattle.shard_build.specs.declared.open.Open.{Open}
 use Rattle.shard_build.specs.Frames.{frame_at}
 use Rattle.shard_build.specs.Texts.{texts_by}
 
 -- What is kept: what the root said, the entries whose children are still open, the innermost first, the nodes, the spans and the imports.
 pub record Behind : Type 0 where
-  pub frame : Frame
+  pub frame : UnitFacts
   pub opened : List Open
   pub nodes : List NodeSeen
   pub spans : List Span
   pub imports : List Import
 
 -- what a scan has kept
-abbrev pub kept_seen : Kept → Behind
+abbrev pub kept_seen : ItemsSoFar → Behind
 kept_seen k = record { frame = k.frame; opened = reverse k.opened.items; nodes = k.nodes; spans = k.spans; imports = k.imports.items }
 
 -- ---- the entry in whose children the next one stands
@@ -117,7 +117,7 @@ module _ (ss : List Section) (u : ℕ × UnitHeader) where
   node_by outer d t = node_under (option_map (λ o. o.at) outer) d t
 
   -- whether an entry in this one has a node
-  unfoldable pub has_node : Frame → Option Open → Item → Bool
+  unfoldable pub has_node : UnitFacts → Option Open → Item → Bool
   has_node f outer d = d.depth == 0 || (is_in_table d.tag && is_visited_in outer f.ada)
 
   -- what the texts of an entry give, or the first fault of them
@@ -125,13 +125,13 @@ module _ (ss : List Section) (u : ℕ × UnitHeader) where
   with_texts base d made = at_place d.at (texts_by ss base u.1.wide d) >>= λ t. Ok (made t)
 
   -- the node of an entry, or the first fault of its texts
-  unfoldable pub nodes_by : Frame → Option Open → Item → Result (List NodeSeen) Fault
+  unfoldable pub nodes_by : UnitFacts → Option Open → Item → Result (List NodeSeen) Fault
   nodes_by f outer d = do
     t ← at_place d.at (texts_by ss f.str_offsets_base u.1.wide d)
     Ok (if has_node f outer d then node_by outer d t ∷ [] else [])
 
   -- the nodes with that of an entry
-  abbrev pub nodes_added : Frame → Option Open → List NodeSeen → Item → Result (List NodeSeen) Fault
+  abbrev pub nodes_added : UnitFacts → Option Open → List NodeSeen → Item → Result (List NodeSeen) Fault
   nodes_added f outer ns d = nodes_by f outer d >>= λ more. Ok (ns ++ more)
 
   -- ---- tokens

@@ -6,24 +6,24 @@ use Rattle.index_model.specs.Abbreviations.{table}
 use Rattle.index_model.specs.Program.{Walked}
 use Rattle.index_model.specs.Sections.{Section}
 use Rattle.index_model.specs.ShardParts.{root_facts, kept_in, IsSeenOf, spans_of, imports_in}
-use Rattle.shard_build.specs.declared.run.Run.{Run}
-use Rattle.shard_build.specs.declared.tables.Table.{Table}
+use Rattle.shard_build.specs.declared.run.ShardSoFar.{ShardSoFar}
+use Rattle.shard_build.specs.declared.tables.AbbrevTable.{AbbrevTable}
 
 -- what is kept is what a Shard keeps of these walks
-pub record Holds (ss : List Section) (r : Run) (ws : List Walked) : Type 0 where
+pub record Holds (ss : List Section) (r : ShardSoFar) (ws : List Walked) : Type 0 where
   pub roots : r.roots.items ≡ map root_facts ws
   pub nodes : AllZip (IsSeenOf ss) r.kept.nodes (kept_in ws)
   pub spans : r.kept.spans ≡ flat_map spans_of ws
   pub imports : r.kept.imports.items ≡ flat_map (imports_in ss) ws
 
 -- behind one more unit
-abbrev pub HoldsOneMore : List Section → Run → Run → Walked → Type 0
+abbrev pub HoldsOneMore : List Section → ShardSoFar → ShardSoFar → Walked → Type 0
 HoldsOneMore ss old new w = (ws : List Walked) → Holds ss old ws → Holds ss new (ws ++ w ∷ [])
 
 -- the table is the one at its offset
-abbrev pub IsAtOffset : List ℕ → Table → Type 0
+abbrev pub IsAtOffset : List ℕ → AbbrevTable → Type 0
 IsAtOffset bytes t = table bytes t.offset ≡ Some t.abbrevs
 
 -- so is each of the tables that are kept
-abbrev pub AreAtOffsets : {S : Type 0} → List ℕ → IndexMap ℕ Table S → Type 0
-AreAtOffsets bytes kept = (offset : ℕ) (t : Table) → get nat_eq kept offset ≡ Some t → IsAtOffset bytes t
+abbrev pub AreAtOffsets : {S : Type 0} → List ℕ → IndexMap ℕ AbbrevTable S → Type 0
+AreAtOffsets bytes kept = (offset : ℕ) (t : AbbrevTable) → get nat_eq kept offset ≡ Some t → IsAtOffset bytes t

@@ -1,6 +1,6 @@
 -- The texts of an entry, by what its unit's root says (DWARF 5, 7.5.5 on the class string).
 use Rattle.std.specs.Prelude.{◌≡◌, ℕ, ◌-◌, Bool, List, Option, Some, IfSome, option_map, Result, Ok}
-use Rattle.shard_build.specs.declared.texts.Texts.{Texts as TextsRead}
+use Rattle.shard_build.specs.declared.texts.ItemTexts.{ItemTexts as TextsRead}
 use Rattle.shard_build.specs.declared.texts.TextOffsets.{TextOffsets}
 use Rattle.index_model.specs.declared.unit.Unit.{Unit as UnitHeader}
 use Rattle.index_model.specs.Meaning.{◌>>=◌, if_some}

@@ -15,14 +15,14 @@ ghost use Rattle.shard_build.specs.Texts.{texts_by, HoldsTexts};
 
 use crate::above::Above;
 use crate::facts;
-use crate::home::Home;
+use crate::home::UnitInFile;
 use crate::text_places::TextPlaces;
 use entry_scan::{Abbrevs, Item, Walk, item_at};
 use index_model::{Node, Nodes, Span};
 use ix_base::NoMemory;
 use std::alloc::Global;
 
-impl<'s, 'f> Home<'s, 'f> {
+impl<'s, 'f> UnitInFile<'s, 'f> {
     /// The node of the entry at a joint offset in the span of its parent, None where no entry of the unit stands there.
     pub fn node_within(&self, abbrevs: &Abbrevs, span: &Span, offset: u64) -> Option<Node<'f>>
         requires own { self.now.bytes.now ≡ unit_bytes self.now.sections.now self.now.unit }

@@ -8,9 +8,9 @@ ghost use Rattle.index_model.specs.ShardParts.{as_next};
 ghost use Rattle.shard_build.specs.Entries.{AreShardsOfFile, ForProgram, IsNodeIn, IsTargetOf, entry_meant};
 ghost use Rattle.shard_build.specs.Found.{IsFound, IsWithin};
 
-use crate::found::{Found, node_at};
-use crate::home::Home;
-use crate::tables::Table;
+use crate::found::{NodeOrSpan, node_at};
+use crate::home::UnitInFile;
+use crate::tables::AbbrevTable;
 use crate::units_again::UnitsAgain;
 use file_image::Image;
 use index_model::{Next, Node, Shard, Span};
@@ -24,7 +24,7 @@ use std::sync::Arc;
 pub struct Entries<'s, 'f> {
     image: &'s Image<'f>,
     shards: &'s [Arc<Shard<'f>>],
-    at_hand: Option<Table>,
+    at_hand: Option<AbbrevTable>,
     // Units that were read again, once there was need of it.
     units: Option<UnitsAgain<'f>>,
 }
@@ -79,17 +79,17 @@ impl<'s, 'f> Entries<'s, 'f> {
         ensures kept { self.new ≡ self.old }
     {
         match self.find(offset) {
-            Found::Kept(node) => Ok(Some(node)),
-            Found::Within(span) => {
+            NodeOrSpan::Kept(node) => Ok(Some(node)),
+            NodeOrSpan::Within(span) => {
                 let whole = self.is_too_much(alloc, &span, offset)?;
                 self.again(alloc, &span, offset, whole)
             }
-            Found::Nowhere => Ok(None),
+            NodeOrSpan::Nowhere => Ok(None),
         }
     }
 
     // What is known of the entry at a joint offset.
-    fn find(&self, offset: u64) -> Found<'f>
+    fn find(&self, offset: u64) -> NodeOrSpan<'f>
         ensures { ForProgram self.now (λ p. IsFound p offset result) }
     {
         if let Some(units) = &self.units {
@@ -97,7 +97,7 @@ impl<'s, 'f> Entries<'s, 'f> {
                 return found;
             }
         }
-        Found::of(self.image, self.shards, offset)
+        NodeOrSpan::of(self.image, self.shards, offset)
     }
 
     // Whether more bytes than a unit has would be read for single entries of it, with the one at an offset in this span.
@@ -132,9 +132,9 @@ impl<'s, 'f> Entries<'s, 'f> {
     {
         // The units are those of the image's file, and the span's is one of them.
         let _units = self.image.units();
-        let home = Home::of(self.image, span.unit);
+        let home = UnitInFile::of(self.image, span.unit);
         let section = self.image.sections().debug_abbrev();
-        let table = Table::of_sound(alloc, section, &home.unit, self.at_hand.take())?;
+        let table = AbbrevTable::of_sound(alloc, section, &home.unit, self.at_hand.take())?;
         let table = self.at_hand.insert(table);
         if !whole {
             return Ok(home.node_within(&table.abbrevs, span, offset));
@@ -169,5 +169,5 @@ fn target(image: &Image<'_>, unit: u32, reference: Next) -> Option<u64>
     if unit as usize >= image.units().len() {
         return None;
     }
-    Home::of(image, unit).target(reference)
+    UnitInFile::of(image, unit).target(reference)
 }

@@ -15,7 +15,7 @@ use index_model::{Node, Nodes, Shard, Span};
 use std::sync::Arc;
 
 /// What the shards of a file say of the entry at a joint offset.
-pub(crate) enum Found<'f> {
+pub(crate) enum NodeOrSpan<'f> {
     /// The entry has this node.
     Kept(Node<'f>),
     /// The entry has no node. If there is one, its parent is the entry of this span, in which it stands.
@@ -24,30 +24,30 @@ pub(crate) enum Found<'f> {
     Nowhere,
 }
 
-impl<'f> Found<'f> {
+impl<'f> NodeOrSpan<'f> {
     /// What the shards of all units of the image's file say.
-    pub fn of(image: &Image<'f>, shards: &[Arc<Shard<'f>>], offset: u64) -> Found<'f>
+    pub fn of(image: &Image<'f>, shards: &[Arc<Shard<'f>>], offset: u64) -> NodeOrSpan<'f>
         ensures { (p : Program) → program_of image.now.file ≡ Ok p → AreShardsOf p (map arc_value shards.now) → IsFound p offset result }
     {
         let Some(unit) = unit_at(image, offset) else {
-            return Found::Nowhere;
+            return NodeOrSpan::Nowhere;
         };
         match shard_of(shards, unit) {
-            Some(place) => Found::in_shard(&shards[place], offset),
-            None => Found::Nowhere,
+            Some(place) => NodeOrSpan::in_shard(&shards[place], offset),
+            None => NodeOrSpan::Nowhere,
         }
     }
 
     // What the shard of the run says in which the entry stands, if there is one.
-    fn in_shard(shard: &Shard<'f>, offset: u64) -> Found<'f>
+    fn in_shard(shard: &Shard<'f>, offset: u64) -> NodeOrSpan<'f>
         ensures { IsFoundIn shard.now offset result }
     {
         if let Some(node) = node_at(&shard.nodes, offset) {
-            return Found::Kept(node);
+            return NodeOrSpan::Kept(node);
         }
         match innermost(shard, offset) {
-            Some(span) => Found::Within(span),
-            None => Found::Nowhere,
+            Some(span) => NodeOrSpan::Within(span),
+            None => NodeOrSpan::Nowhere,
         }
     }
 }

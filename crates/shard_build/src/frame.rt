@@ -6,15 +6,14 @@ ghost use Rattle.index_model.specs.Rules.{is_ada};
 ghost use Rattle.shard_build.specs.Frames.{blank, frame_of, frame_at};
 
 use crate::facts;
+use dwarf_codes::tag::DW_TAG_partial_unit;
 use entry_rules::{Class, class};
 use entry_scan::Item;
 use index_model::Root;
 
-const PARTIAL_UNIT: u64 = 0x3c;
-
 /// What is known of the whole unit.
 #[derive(Clone, Copy)]
-pub(crate) struct Frame {
+pub(crate) struct UnitFacts {
     pub root: Root,
     /// Where the unit's part of `.debug_str_offsets` begins.
     pub str_offsets_base: Option<u64>,
@@ -22,12 +21,12 @@ pub(crate) struct Frame {
     pub ada: bool,
 }
 
-impl Frame {
+impl UnitFacts {
     /// That of a unit without entries.
-    pub fn blank() -> Frame
+    pub fn blank() -> UnitFacts
         ensures { result ≡ blank }
     {
-        Frame {
+        UnitFacts {
             root: Root {
                 language: None,
                 addr_base: None,
@@ -41,12 +40,12 @@ impl Frame {
 
     // What a root says.
     #[tactic(auto, unfolding(crate::specs::Frames::frame_of))]
-    fn of(entry: &Item<'_>) -> Frame
+    fn of(entry: &Item<'_>) -> UnitFacts
         ensures { result ≡ frame_of entry.now }
     {
         let language = facts::language(entry);
-        let partial = entry.tag() == PARTIAL_UNIT;
-        Frame {
+        let partial = entry.tag() == DW_TAG_partial_unit;
+        UnitFacts {
             root: Root {
                 language,
                 addr_base: facts::addr_base(entry),
@@ -63,7 +62,7 @@ impl Frame {
         ensures { self.new ≡ frame_at self.old entry.now }
     {
         if entry.depth() == 0 {
-            *self = Frame::of(entry);
+            *self = UnitFacts::of(entry);
         }
     }
 }

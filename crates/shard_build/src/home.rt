@@ -9,16 +9,15 @@ ghost use Rattle.shard_build.specs.Texts.{texts_seen};
 
 use crate::facts;
 use crate::open::Open;
-use crate::texts::Texts;
+use crate::texts::ItemTexts;
+use dwarf_codes::tag::DW_TAG_imported_unit;
 use entry_scan::Item;
 use file_image::{Image, Sections};
 use index_model::{Import, Next, Node, Span, Unit};
 
-pub(crate) const IMPORTED_UNIT: u64 = 0x3d;
-
 /// A unit, its number in section order, its bytes, and the sections of its file.
 #[derive(Clone, Copy)]
-pub(crate) struct Home<'s, 'f> {
+pub(crate) struct UnitInFile<'s, 'f> {
     pub sections: &'s Sections<'f>,
     /// The unit's own bytes, from its first byte to its end.
     pub bytes: &'f [u8],
@@ -26,9 +25,9 @@ pub(crate) struct Home<'s, 'f> {
     pub number: u32,
 }
 
-impl<'s, 'f> Home<'s, 'f> {
+impl<'s, 'f> UnitInFile<'s, 'f> {
     /// The unit with this number.
-    pub fn of(image: &'s Image<'f>, number: u32) -> Home<'s, 'f>
+    pub fn of(image: &'s Image<'f>, number: u32) -> UnitInFile<'s, 'f>
         requires { number < length image.now.units }
         ensures sections { result.sections.now ≡ image.now.sections }
         ensures number { result.number ≡ number }
@@ -38,7 +37,7 @@ impl<'s, 'f> Home<'s, 'f> {
         ensures small { result.unit.start + length result.bytes.now < 2 ^ 63 }
         ensures ends { result.unit.start + result.unit.length < 2 ^ 63 }
     {
-        Home {
+        UnitInFile {
             sections: image.sections(),
             bytes: image.unit_bytes(number as usize),
             unit: image.units()[number as usize],
@@ -49,7 +48,7 @@ impl<'s, 'f> Home<'s, 'f> {
     /// The node of an entry in this one, with these texts.
     #[inline(always)]
     #[tactic(auto, unfolding(crate::specs::Kept::node_by))]
-    pub fn node(&self, outer: Option<Open>, entry: &Item<'_>, texts: Texts<'f>) -> Node<'f>
+    pub fn node(&self, outer: Option<Open>, entry: &Item<'_>, texts: ItemTexts<'f>) -> Node<'f>
         ensures { node_seen result ≡ node_by self.now.sections.now (self.now.number, self.now.unit) outer entry.now (texts_seen texts.entry) }
     {
         self.node_under(outer.map(|open| open.at), entry, texts)
@@ -58,7 +57,12 @@ impl<'s, 'f> Home<'s, 'f> {
     /// The node of an entry whose parent has this joint offset, with these texts.
     #[inline(always)]
     #[tactic(auto, unfolding(crate::specs::Kept::node_under))]
-    pub fn node_under(&self, parent: Option<u64>, entry: &Item<'_>, texts: Texts<'f>) -> Node<'f>
+    pub fn node_under(
+        &self,
+        parent: Option<u64>,
+        entry: &Item<'_>,
+        texts: ItemTexts<'f>,
+    ) -> Node<'f>
         ensures { node_seen result ≡ node_under self.now.sections.now (self.now.number, self.now.unit) parent entry.now (texts_seen texts.entry) }
     {
         let version = self.unit.version;
@@ -102,7 +106,7 @@ impl<'s, 'f> Home<'s, 'f> {
         requires { self.now.unit.start + self.now.unit.length < 2 ^ 63 }
         ensures { option_to_list result ≡ imports_by self.now.sections.now (self.now.number, self.now.unit) entry.now }
     {
-        if entry.tag() != IMPORTED_UNIT {
+        if entry.tag() != DW_TAG_imported_unit {
             return None;
         }
         match facts::import(entry) {

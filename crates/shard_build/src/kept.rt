@@ -5,8 +5,8 @@ ghost use Rattle.index_model.specs.Gives.{Gives};
 ghost use Rattle.shard_build.specs.Kept.{has_node, is_visited_in, node_by, nodes_added, with_texts, spans_by, opened_by, imports_by};
 ghost use Rattle.shard_build.specs.Texts.{HoldsTexts};
 
-use crate::frame::Frame;
-use crate::home::Home;
+use crate::frame::UnitFacts;
+use crate::home::UnitInFile;
 use crate::open::{Open, role_of};
 use crate::text_places::TextPlaces;
 use crate::texts::TextOffsets;
@@ -17,9 +17,9 @@ use ix_base::{NoMemory, Stop};
 
 /// What is kept of the entries of a run behind some of its tokens.
 #[derive(Drop)]
-pub(crate) struct Kept<'f> {
+pub(crate) struct ItemsSoFar<'f> {
     // What the root of the unit at hand said.
-    pub frame: Frame,
+    pub frame: UnitFacts,
     // Its entries whose children are still to come, the outermost first.
     pub opened: Vec<Open>,
     pub nodes: Nodes<'f>,
@@ -34,8 +34,8 @@ pub(crate) struct Kept<'f> {
 pub(crate) fn add_node<'f>(
     nodes: &mut Nodes<'f>,
     places: &TextPlaces,
-    home: &Home<'_, 'f>,
-    frame: &Frame,
+    home: &UnitInFile<'_, 'f>,
+    frame: &UnitFacts,
     outer: Option<Open>,
     visited: bool,
     entry: &Item<'_>,
@@ -55,8 +55,8 @@ pub(crate) fn add_node<'f>(
 // Whether an entry in this one has a node.
 #[tactic(auto, unfolding(crate::specs::Kept::has_node))]
 fn has_node(
-    home: &Home<'_, '_>,
-    frame: &Frame,
+    home: &UnitInFile<'_, '_>,
+    frame: &UnitFacts,
     outer: Option<Open>,
     visited: bool,
     item: &Item<'_>,
@@ -71,7 +71,7 @@ fn has_node(
 fn add_node_with_texts<'f>(
     nodes: &mut Nodes<'f>,
     places: &TextPlaces,
-    home: &Home<'_, 'f>,
+    home: &UnitInFile<'_, 'f>,
     base: Option<u64>,
     outer: Option<Open>,
     entry: &Item<'_>,
@@ -89,7 +89,7 @@ fn add_node_with_texts<'f>(
 // Adds the import of an imported unit.
 pub(crate) fn add_import(
     imports: &mut Vec<Import>,
-    home: &Home<'_, '_>,
+    home: &UnitInFile<'_, '_>,
     entry: &Item<'_>,
 ) -> Result<(), NoMemory>
     requires { home.now.unit.start + home.now.unit.length < 2 ^ 63 }
@@ -104,7 +104,7 @@ pub(crate) fn add_import(
 // Adds the span of an entry with children.
 pub(crate) fn add_span(
     spans: &mut Spans,
-    home: &Home<'_, '_>,
+    home: &UnitInFile<'_, '_>,
     item: &Item<'_>,
 ) -> Result<(), NoMemory>
     requires { home.now.unit.start + home.now.unit.length < 2 ^ 63 }

@@ -10,9 +10,9 @@ ghost use Rattle.index_model.specs.Shards.{StandsFor, first_number};
 ghost use Rattle.file_image.specs.Images.{unit_bytes};
 ghost use Rattle.shard_build.specs.Runs.{Holds, HoldsOneMore};
 
-use crate::frame::Frame;
-use crate::home::Home;
-use crate::kept::Kept;
+use crate::frame::UnitFacts;
+use crate::home::UnitInFile;
+use crate::kept::ItemsSoFar;
 use crate::text_places::TextPlaces;
 use entry_scan::{Abbrevs, Walk};
 use index_model::{List, Nodes, Root, Shard, Spans};
@@ -21,23 +21,23 @@ use std::alloc::Global;
 
 /// What is kept of the units of a run.
 #[derive(Drop)]
-pub(crate) struct Run<'f> {
+pub(crate) struct ShardSoFar<'f> {
     pub roots: Vec<Root>,
-    pub kept: Kept<'f>,
+    pub kept: ItemsSoFar<'f>,
 }
 
-impl<'f> Run<'f> {
+impl<'f> ShardSoFar<'f> {
     /// A run of no units of a file.
-    pub fn new(alloc: Global, file: &'f [u8]) -> Run<'f>
+    pub fn new(alloc: Global, file: &'f [u8]) -> ShardSoFar<'f>
         ensures roots { result.roots.items ≡ [] }
         ensures nodes { result.kept.nodes ≡ [] }
         ensures spans { result.kept.spans ≡ [] }
         ensures imports { result.kept.imports.items ≡ [] }
     {
-        Run {
+        ShardSoFar {
             roots: Vec::new(alloc),
-            kept: Kept {
-                frame: Frame::blank(),
+            kept: ItemsSoFar {
+                frame: UnitFacts::blank(),
                 opened: Vec::new(alloc),
                 nodes: Nodes::new(alloc, file),
                 spans: Spans::new(alloc),
@@ -48,7 +48,7 @@ impl<'f> Run<'f> {
     }
 
     /// Takes in a unit with its abbreviations.
-    pub fn unit(&mut self, home: &Home<'_, 'f>, abbrevs: &Abbrevs) -> Result<(), Stop>
+    pub fn unit(&mut self, home: &UnitInFile<'_, 'f>, abbrevs: &Abbrevs) -> Result<(), Stop>
         requires table { table (section_bytes home.now.sections.now (codes ".debug_abbrev")) home.now.unit.«abbrev» ≡ Some abbrevs.now }
         requires own { home.now.bytes.now ≡ unit_bytes home.now.sections.now home.now.unit }
         requires header { home.now.unit.body ≤ length home.now.bytes.now }
@@ -56,7 +56,7 @@ impl<'f> Run<'f> {
         requires ends { home.now.unit.start + home.now.unit.length < 2 ^ 63 }
         ensures { GivesFor (λ _ w. HoldsOneMore home.now.sections.now self.old self.new w) result (scanned home.now.sections.now (home.now.number, home.now.unit)) }
     {
-        self.kept.frame = Frame::blank();
+        self.kept.frame = UnitFacts::blank();
         self.kept.opened.clear();
         self.kept
             .walk(home, Walk::new(home.bytes, &home.unit, abbrevs))?;
@@ -68,8 +68,8 @@ impl<'f> Run<'f> {
     pub fn shard(self, first: u32) -> Shard<'f>
         ensures { (ss : Sequence Section) (ws : Sequence Walked) → Holds ss self.entry ws → first_number ws first → StandsFor ss result ws }
     {
-        let Run { roots, kept } = self;
-        let Kept {
+        let ShardSoFar { roots, kept } = self;
+        let ItemsSoFar {
             frame: _,
             opened: _,
             nodes,

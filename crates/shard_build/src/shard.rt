@@ -10,9 +10,9 @@ ghost use Rattle.index_model.specs.Shards.{StandsFor};
 ghost use Rattle.index_model.specs.declared.unit.Unit.{Unit as UnitHeader};
 ghost use Rattle.shard_build.specs.Runs.{HoldsOneMore, AreAtOffsets};
 
-use crate::home::Home;
-use crate::run::Run;
-use crate::tables::{Table, Tables};
+use crate::home::UnitInFile;
+use crate::run::ShardSoFar;
+use crate::tables::{AbbrevTable, Tables};
 use file_image::Image;
 use index_model::Shard;
 use ix_base::Stop;
@@ -30,7 +30,7 @@ pub fn scan<'f>(alloc: Global, image: &Image<'f>, first: u32, count: u32) -> Res
 {
     // There are at most `MAX_UNITS` of them, so their numbers don't wrap.
     let units = &image.units()[first as usize..(first + count) as usize];
-    let mut run = Run::new(alloc, image.file());
+    let mut run = ShardSoFar::new(alloc, image.file());
     let mut tables = Tables::new(alloc, units, image.sections().debug_abbrev().len())?;
     for number in first..first + count {
         add_unit(alloc, image, number, &mut run, &mut tables)?;
@@ -43,7 +43,7 @@ fn add_unit<'f>(
     alloc: Global,
     image: &Image<'f>,
     number: u32,
-    run: &mut Run<'f>,
+    run: &mut ShardSoFar<'f>,
     tables: &mut Tables,
 ) -> Result<(), Stop>
     requires within { number < length image.now.units }
@@ -51,9 +51,9 @@ fn add_unit<'f>(
     ensures value { (u : UnitHeader) → slice_get image.now.units number ≡ Some u → GivesFor (λ _ w. HoldsOneMore image.now.sections run.old run.new w) result (scanned image.now.sections (number, u)) }
     ensures tables { OnOk result (AreAtOffsets (section_bytes image.now.sections (codes ".debug_abbrev")) tables.new.kept) }
 {
-    let home = Home::of(image, number);
+    let home = UnitInFile::of(image, number);
     let section = image.sections().debug_abbrev();
-    let table = Table::of(alloc, section, &home.unit, tables.take(home.unit.abbrev))?;
+    let table = AbbrevTable::of(alloc, section, &home.unit, tables.take(home.unit.abbrev))?;
     run.unit(&home, &table.abbrevs)?;
     tables.put(table)?;
     Ok(())

@@ -17,19 +17,19 @@ use std::alloc::Global;
 
 /// A table of abbreviations, and where it stands in `.debug_abbrev`.
 #[derive(Drop)]
-pub(crate) struct Table {
+pub(crate) struct AbbrevTable {
     pub offset: u64,
     pub abbrevs: Abbrevs,
 }
 
-impl Table {
+impl AbbrevTable {
     /// The table of a unit: the one at hand, if it stands at the same offset, else it is read.
     pub fn of(
         alloc: Global,
         bytes: &[u8],
         unit: &Unit,
-        at_hand: Option<Table>,
-    ) -> Result<Table, Stop>
+        at_hand: Option<AbbrevTable>,
+    ) -> Result<AbbrevTable, Stop>
         requires { ForSome at_hand (IsAtOffset bytes.now) }
         ensures value { Gives (λ t. t.abbrevs) result (some_or (table bytes.now unit.now.«abbrev») (fault BAD unit.now.start)) }
         ensures place { IfOk result (IsAtOffset bytes.now) }
@@ -39,9 +39,9 @@ impl Table {
             Some(table) => if table.offset == unit.abbrev {
                 Ok(table)
             } else {
-                Table::read(alloc, bytes, unit)
+                AbbrevTable::read(alloc, bytes, unit)
             },
-            None => Table::read(alloc, bytes, unit),
+            None => AbbrevTable::read(alloc, bytes, unit),
         }
     }
 
@@ -50,14 +50,14 @@ impl Table {
         alloc: Global,
         bytes: &[u8],
         unit: &Unit,
-        at_hand: Option<Table>,
-    ) -> Result<Table, NoMemory>
+        at_hand: Option<AbbrevTable>,
+    ) -> Result<AbbrevTable, NoMemory>
         requires hand { ForSome at_hand (IsAtOffset bytes.now) }
         requires sound { IsSome (table bytes.now unit.now.«abbrev») }
         ensures value { IfOk result (λ t. table bytes.now unit.now.«abbrev» ≡ Some t.abbrevs) }
         ensures place { IfOk result (IsAtOffset bytes.now) }
     {
-        match Table::of(alloc, bytes, unit, at_hand) {
+        match AbbrevTable::of(alloc, bytes, unit, at_hand) {
             Ok(table) => Ok(table),
             Err(Stop::Memory) => Err(NoMemory),
             Err(Stop::Fault(_)) => unreachable!(),
@@ -65,13 +65,13 @@ impl Table {
     }
 
     // The table of a unit. Damaged ones are a fault of the unit.
-    fn read(alloc: Global, bytes: &[u8], unit: &Unit) -> Result<Table, Stop>
+    fn read(alloc: Global, bytes: &[u8], unit: &Unit) -> Result<AbbrevTable, Stop>
         ensures value { Gives (λ t. t.abbrevs) result (some_or (table bytes.now unit.now.«abbrev») (fault BAD unit.now.start)) }
         ensures place { IfOk result (IsAtOffset bytes.now) }
         ensures own { IfOk result (λ t. t.offset ≡ unit.now.«abbrev») }
     {
         match Abbrevs::read(alloc, bytes, unit.abbrev) {
-            Ok(abbrevs) => Ok(Table {
+            Ok(abbrevs) => Ok(AbbrevTable {
                 offset: unit.abbrev,
                 abbrevs,
             }),
@@ -91,7 +91,7 @@ const OVERLAP: u64 = 4;
 #[derive(Drop)]
 pub(crate) struct Tables {
     // Those that are kept, by their offsets.
-    pub kept: IndexMap<u64, Table>,
+    pub kept: IndexMap<u64, AbbrevTable>,
     // How many units that are still to come have their table at an offset.
     left: IndexMap<u64, u32>,
     // How many bytes those that are kept take at least in `.debug_abbrev`, and how many they may take.
@@ -118,7 +118,7 @@ impl Tables {
     }
 
     /// Takes out the table at an offset, if it was kept.
-    pub fn take(&mut self, offset: u64) -> Option<Table>
+    pub fn take(&mut self, offset: u64) -> Option<AbbrevTable>
         ensures taken { (section : List ℕ) → AreAtOffsets section self.old.kept → ForSome result (IsAtOffset section) }
         ensures kept { (section : List ℕ) → AreAtOffsets section self.old.kept → AreAtOffsets section self.new.kept }
     {
@@ -128,7 +128,7 @@ impl Tables {
     }
 
     /// Keeps the table of a unit, if a later unit of the run has it too and there is room for it.
-    pub fn put(&mut self, table: Table) -> Result<(), NoMemory>
+    pub fn put(&mut self, table: AbbrevTable) -> Result<(), NoMemory>
         ensures { OnOk result ((section : List ℕ) → AreAtOffsets section self.old.kept → IsAtOffset section table → AreAtOffsets section self.new.kept) }
     {
         let bytes = self.bytes.saturating_add(table.abbrevs.least_bytes());

@@ -1,8 +1,8 @@
 //! Where in the file the texts of entries are thought to stand. Nothing rests on it: a list of nodes compares the bytes there.
 
-use crate::facts::NAME;
-use crate::home::Home;
+use crate::home::UnitInFile;
 use crate::texts::TextOffsets;
+use dwarf_codes::attribute::DW_AT_name;
 use entry_scan::Item;
 use file_image::SectionTable;
 use index_model::{Part, Places, Value};
@@ -39,7 +39,12 @@ impl TextPlaces {
     }
 
     /// Where the texts of an entry stand, whose unit's part of `.debug_str_offsets` begins at the base.
-    pub fn of_entry(&self, home: &Home<'_, '_>, base: Option<u64>, entry: &Item<'_>) -> Places {
+    pub fn of_entry(
+        &self,
+        home: &UnitInFile<'_, '_>,
+        base: Option<u64>,
+        entry: &Item<'_>,
+    ) -> Places {
         self.at_offsets(home, base, entry, &TextOffsets::of(entry))
     }
 
@@ -47,13 +52,13 @@ impl TextPlaces {
     #[inline(always)]
     pub fn at_offsets(
         &self,
-        home: &Home<'_, '_>,
+        home: &UnitInFile<'_, '_>,
         base: Option<u64>,
         entry: &Item<'_>,
         offsets: &TextOffsets,
     ) -> Places {
         Places {
-            name: self.of_attribute(home, base, entry, NAME, offsets.name),
+            name: self.of_attribute(home, base, entry, DW_AT_name, offsets.name),
             linkage: self.of_attribute(
                 home,
                 base,
@@ -68,7 +73,7 @@ impl TextPlaces {
     #[inline(always)]
     fn of_attribute(
         &self,
-        home: &Home<'_, '_>,
+        home: &UnitInFile<'_, '_>,
         base: Option<u64>,
         entry: &Item<'_>,
         attribute: u64,
@@ -83,7 +88,7 @@ impl TextPlaces {
     // Where the text of a value stands, 0 where there is none.
     fn of_value(
         &self,
-        home: &Home<'_, '_>,
+        home: &UnitInFile<'_, '_>,
         base: Option<u64>,
         item: &Item<'_>,
         value: &Option<Value<'_>>,
@@ -100,7 +105,7 @@ impl TextPlaces {
     }
 
     // Where a text that stands in an entry itself stands.
-    fn of_inline(&self, home: &Home<'_, '_>, item: &Item<'_>, text: &[u8]) -> u64 {
+    fn of_inline(&self, home: &UnitInFile<'_, '_>, item: &Item<'_>, text: &[u8]) -> u64 {
         let end = home.bytes.len();
         let from = item
             .offset()
@@ -117,7 +122,7 @@ impl TextPlaces {
     }
 
     // Where a unit begins.
-    fn of_unit(&self, home: &Home<'_, '_>) -> u64 {
+    fn of_unit(&self, home: &UnitInFile<'_, '_>) -> u64 {
         match home.unit.part {
             Part::Info => self.info.saturating_add(home.unit.start),
             Part::Types => {
@@ -130,7 +135,7 @@ impl TextPlaces {
 }
 
 // The offset that stands at an index of a unit's part of `.debug_str_offsets`, 0 where none does.
-fn indexed_offset(home: &Home<'_, '_>, base: Option<u64>, index: u64) -> u64 {
+fn indexed_offset(home: &UnitInFile<'_, '_>, base: Option<u64>, index: u64) -> u64 {
     let size = if home.unit.wide { 8 } else { 4 };
     let at = base.unwrap_or(0).saturating_add(index.saturating_mul(size));
     let offsets = home.sections.debug_str_offsets();

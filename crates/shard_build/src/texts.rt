@@ -11,9 +11,9 @@ ghost use Rattle.index_model.specs.Strings.{bounded};
 ghost use Rattle.file_image.specs.TextLimits.{tested};
 ghost use Rattle.shard_build.specs.Texts.{text_by, texts_by, texts_seen, HoldsTexts, AreOffsets};
 
-use crate::facts::{LINKAGE_NAME, NAME, OLD_LINKAGE_NAME};
 use crate::forms::is_text;
-use crate::home::Home;
+use crate::home::UnitInFile;
+use dwarf_codes::attribute::{DW_AT_MIPS_linkage_name, DW_AT_linkage_name, DW_AT_name};
 use entry_scan::Item;
 use file_image::{test_text, text};
 use index_model::Value;
@@ -23,7 +23,7 @@ use memchr::memmem;
 
 /// The texts of an entry, if it has them.
 #[derive(Clone, Copy)]
-pub(crate) struct Texts<'f> {
+pub(crate) struct ItemTexts<'f> {
     pub name: Option<&'f [u8]>,
     pub linkage: Option<&'f [u8]>,
 }
@@ -32,10 +32,10 @@ pub(crate) struct Texts<'f> {
 pub(crate) fn linkage_attribute(entry: &Item<'_>) -> u64
     ensures { read_as as_text result entry.now ≡ linkage_value entry.now }
 {
-    if entry.str_at(LINKAGE_NAME).is_some() || is_text(&entry.value(LINKAGE_NAME)) {
-        LINKAGE_NAME
+    if entry.str_at(DW_AT_linkage_name).is_some() || is_text(&entry.value(DW_AT_linkage_name)) {
+        DW_AT_linkage_name
     } else {
-        OLD_LINKAGE_NAME
+        DW_AT_MIPS_linkage_name
     }
 }
 
@@ -55,16 +55,16 @@ impl TextOffsets {
     {
         let linkage_attribute = linkage_attribute(entry);
         TextOffsets {
-            name: entry.str_at(NAME),
+            name: entry.str_at(DW_AT_name),
             linkage_attribute,
             linkage: entry.str_at(linkage_attribute),
         }
     }
 }
 
-impl<'s, 'f> Home<'s, 'f> {
+impl<'s, 'f> UnitInFile<'s, 'f> {
     /// The texts of an entry, which are borrowed from the file. The fault is the first of them, name before linkage name.
-    pub fn texts(&self, base: Option<u64>, entry: &Item<'_>) -> Result<Texts<'f>, Fault>
+    pub fn texts(&self, base: Option<u64>, entry: &Item<'_>) -> Result<ItemTexts<'f>, Fault>
         requires { HoldsTexts self.now.bytes.now self.now.unit entry.now }
         ensures { GivesAlways texts_seen result (at_place entry.now.at (texts_by self.now.sections.now base self.now.unit.wide entry.now)) }
     {
@@ -78,7 +78,7 @@ impl<'s, 'f> Home<'s, 'f> {
         base: Option<u64>,
         entry: &Item<'_>,
         offsets: &TextOffsets,
-    ) -> Result<Texts<'f>, Fault>
+    ) -> Result<ItemTexts<'f>, Fault>
         requires texts { HoldsTexts self.now.bytes.now self.now.unit entry.now }
         requires offsets { AreOffsets entry.now offsets.now }
         ensures { GivesAlways texts_seen result (at_place entry.now.at (texts_by self.now.sections.now base self.now.unit.wide entry.now)) }
@@ -100,14 +100,14 @@ impl<'s, 'f> Home<'s, 'f> {
         base: Option<u64>,
         entry: &Item<'_>,
         offsets: &TextOffsets,
-    ) -> Result<Texts<'f>, u8>
+    ) -> Result<ItemTexts<'f>, u8>
         requires texts { HoldsTexts self.now.bytes.now self.now.unit entry.now }
         requires offsets { AreOffsets entry.now offsets.now }
         ensures { GivesAlways texts_seen result (texts_by self.now.sections.now base self.now.unit.wide entry.now) }
     {
-        let name = self.text_in(base, entry, NAME, offsets.name)?;
+        let name = self.text_in(base, entry, DW_AT_name, offsets.name)?;
         let linkage = self.text_in(base, entry, offsets.linkage_attribute, offsets.linkage)?;
-        Ok(Texts { name, linkage })
+        Ok(ItemTexts { name, linkage })
     }
 
     // The text of an attribute of an entry, if it has one. It may be known to stand at an offset of `.debug_str`.
@@ -195,7 +195,7 @@ impl<'s, 'f> Home<'s, 'f> {
     fn test_own(&self, base: Option<u64>, entry: &Item<'_>) -> Result<(), u8>
         ensures { GivesAlways (λ done. done) result (tested (texts_by self.now.sections.now base self.now.unit.wide entry.now)) }
     {
-        self.test_in(base, entry, NAME)?;
+        self.test_in(base, entry, DW_AT_name)?;
         self.test_in(base, entry, linkage_attribute(entry))
     }
 

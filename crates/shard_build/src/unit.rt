@@ -9,16 +9,16 @@ ghost use Rattle.shard_build.specs.Kept.{kept_seen, entered, with_others, closed
 ghost use Rattle.shard_build.specs.Texts.{HoldsTexts};
 ghost use Rattle.shard_build.specs.Tokens.{OnEntry, ended, behind_walk};
 
-use crate::home::Home;
-use crate::kept::{Kept, add_import, add_node, add_span, open};
+use crate::home::UnitInFile;
+use crate::kept::{ItemsSoFar, add_import, add_node, add_span, open};
 use crate::open::{innermost, is_visited_in};
 use entry_scan::{Item, Token, Walk};
 use ix_base::{Fault, NoMemory, Stop};
 
-impl<'f> Kept<'f> {
+impl<'f> ItemsSoFar<'f> {
     // Takes in an entry.
     #[tactic(auto, unfolding(crate::specs::Kept::entered))]
-    fn enter(&mut self, home: &Home<'_, 'f>, entry: &Item<'_>) -> Result<(), Stop>
+    fn enter(&mut self, home: &UnitInFile<'_, 'f>, entry: &Item<'_>) -> Result<(), Stop>
         requires small { home.now.unit.start + home.now.unit.length < 2 ^ 63 }
         requires texts { HoldsTexts home.now.bytes.now home.now.unit entry.now }
         ensures { Gives (λ _. kept_seen self.new) result (entered home.now.sections.now (home.now.number, home.now.unit) (kept_seen self.old) entry.now) }
@@ -42,7 +42,7 @@ impl<'f> Kept<'f> {
     // Takes in what of an entry isn't its node.
     fn add_others(
         &mut self,
-        home: &Home<'_, 'f>,
+        home: &UnitInFile<'_, 'f>,
         entry: &Item<'_>,
         visited: bool,
     ) -> Result<(), NoMemory>
@@ -65,7 +65,7 @@ impl<'f> Kept<'f> {
     }
 
     // Takes in a token.
-    fn take(&mut self, home: &Home<'_, 'f>, token: &Token<'_>) -> Result<(), Stop>
+    fn take(&mut self, home: &UnitInFile<'_, 'f>, token: &Token<'_>) -> Result<(), Stop>
         requires small { home.now.unit.start + home.now.unit.length < 2 ^ 63 }
         requires texts { OnEntry (token_seen token.now) (HoldsTexts home.now.bytes.now home.now.unit) }
         ensures { Gives (λ _. kept_seen self.new) result (behind home.now.sections.now (home.now.number, home.now.unit) (kept_seen self.old) (token_seen token.now)) }
@@ -80,7 +80,7 @@ impl<'f> Kept<'f> {
     }
 
     /// Takes in the tokens of a walk. A fault of the walk comes before those of its texts.
-    pub fn walk(&mut self, home: &Home<'_, 'f>, mut walk: Walk<'_>) -> Result<(), Stop>
+    pub fn walk(&mut self, home: &UnitInFile<'_, 'f>, mut walk: Walk<'_>) -> Result<(), Stop>
         requires small { home.now.unit.start + home.now.unit.length < 2 ^ 63 }
         requires texts { (d : EntryOf) → Contains (items walk) d → HoldsTexts home.now.bytes.now home.now.unit d }
         ensures { Gives (λ _. kept_seen self.new) result (behind_walk home.now.sections.now (home.now.number, home.now.unit) (kept_seen self.old) walk.entry) }

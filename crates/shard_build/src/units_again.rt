@@ -10,7 +10,7 @@ ghost use Rattle.index_model.specs.Program.{Program};
 ghost use Rattle.shard_build.specs.Again.{AreOfUnit, AreOfUnits};
 ghost use Rattle.shard_build.specs.Found.{IsFound};
 
-use crate::found::{Found, node_at, unit_at};
+use crate::found::{NodeOrSpan, node_at, unit_at};
 use file_image::Image;
 use index_model::Nodes;
 use indexmap::IndexMap;
@@ -40,15 +40,15 @@ impl<'f> UnitsAgain<'f> {
     }
 
     /// What these units say of an entry, if its unit is one of them.
-    pub fn find(&self, image: &Image<'f>, offset: u64) -> Option<Found<'f>>
+    pub fn find(&self, image: &Image<'f>, offset: u64) -> Option<NodeOrSpan<'f>>
         requires { AreOfUnits image.now.file self.now.nodes }
         ensures { IfSome result (λ found. (p : Program) → program_of image.now.file ≡ Ok p → IsFound p offset found) }
     {
         let unit = unit_at(image, offset)?;
         let nodes = self.nodes.get(&unit)?;
         match node_at(nodes, offset) {
-            Some(node) => Some(Found::Kept(node)),
-            None => Some(Found::Nowhere),
+            Some(node) => Some(NodeOrSpan::Kept(node)),
+            None => Some(NodeOrSpan::Nowhere),
         }
     }
 

@@ -7,18 +7,19 @@ ghost use Rattle.entry_scan.specs.Tokens.{token_seen};
 ghost use Rattle.shard_build.specs.Kept.{kept_seen, entered, behind, innermost as innermost_of, is_visited_in as is_visited};
 ghost use Rattle.shard_build.specs.Unkept.{is_leaf as is_leaf_entry, IsSoundText, AreSoundTexts};
 
-use crate::facts::{LINKAGE_NAME, NAME, OLD_LINKAGE_NAME};
-use crate::home::{Home, IMPORTED_UNIT};
-use crate::kept::Kept;
+use crate::home::UnitInFile;
+use crate::kept::ItemsSoFar;
 use crate::open::{innermost, is_visited_in};
+use dwarf_codes::attribute::{DW_AT_MIPS_linkage_name, DW_AT_linkage_name, DW_AT_name};
+use dwarf_codes::tag::DW_TAG_imported_unit;
 use entry_rules::in_table;
 use entry_scan::{Item, Token};
 
-impl<'f> Kept<'f> {
+impl<'f> ItemsSoFar<'f> {
     /// Whether a few looks tell that nothing is kept of a token and that no text of it has a fault. Made for a token that isn't in
     /// memory, since to write it there costs more than these looks.
     #[inline(always)]
-    pub fn passes(&self, home: &Home<'_, 'f>, token: &Token<'_>) -> bool
+    pub fn passes(&self, home: &UnitInFile<'_, 'f>, token: &Token<'_>) -> bool
         ensures { result ≡ true → behind home.now.sections.now (home.now.number, home.now.unit) (kept_seen self.now) (token_seen token.now) ≡ Ok (kept_seen self.now) }
     {
         match token {
@@ -29,7 +30,7 @@ impl<'f> Kept<'f> {
 
     // The same of an entry.
     #[inline(always)]
-    fn passes_entry(&self, home: &Home<'_, 'f>, item: &Item<'_>) -> bool
+    fn passes_entry(&self, home: &UnitInFile<'_, 'f>, item: &Item<'_>) -> bool
         ensures { result ≡ true → entered home.now.sections.now (home.now.number, home.now.unit) (kept_seen self.now) item.now ≡ Ok (kept_seen self.now) }
     {
         if self.is_unkept(item) {
@@ -60,16 +61,16 @@ impl<'f> Kept<'f> {
 fn is_leaf(item: &Item<'_>) -> bool
     ensures { result ≡ is_leaf_entry item.now }
 {
-    item.depth() != 0 && !item.children() && item.tag() != IMPORTED_UNIT
+    item.depth() != 0 && !item.children() && item.tag() != DW_TAG_imported_unit
 }
 
-impl<'s, 'f> Home<'s, 'f> {
+impl<'s, 'f> UnitInFile<'s, 'f> {
     // Whether a few looks tell that the texts of an entry are sound.
     #[inline(always)]
     fn has_sound_texts(&self, item: &Item<'_>) -> bool
         ensures { result ≡ true → AreSoundTexts self.now.sections.now self.now.unit.wide item.now }
     {
-        if self.is_sound_in(item, NAME) {
+        if self.is_sound_in(item, DW_AT_name) {
             return self.has_sound_linkage_name(item);
         }
         false
@@ -80,8 +81,8 @@ impl<'s, 'f> Home<'s, 'f> {
     fn has_sound_linkage_name(&self, item: &Item<'_>) -> bool
         ensures { result ≡ true → IsSoundText self.now.sections.now (attribute_of 0x6E item.now) × (attribute_of 0x2007 item.now ≡ None) }
     {
-        if item.lacks(OLD_LINKAGE_NAME) {
-            return self.is_sound_in(item, LINKAGE_NAME);
+        if item.lacks(DW_AT_MIPS_linkage_name) {
+            return self.is_sound_in(item, DW_AT_linkage_name);
         }
         false
     }

@@ -2,7 +2,7 @@ use Rattle.std.proofs.Common.{◌≡◌, sym, subst, ◌∙◌}
 use Rattle.reach_model.specs.AddressTexts.{text_of_aranges_fault}
 use Rattle.command_base.specs.Replies.{Wrote}
 use Rattle.command_base.specs.declared.status.Status.{Status}
-use Rattle.command_base.specs.declared.status.Table.TheVariants.{Addresses}
+use Rattle.command_base.specs.declared.status.RefusedTable.TheVariants.{Addresses}
 use Rattle.command_base.proofs.ReplyLaws.{sent_table}
 use Rattle.aranges_command.specs.Compared.{SaysFault}
 use Rattle.aranges_command.proofs.aranges.refuse_table.Goals as goal

@@ -50,7 +50,7 @@ attributes-preserved-then-not-wants c =
     let left = left_behind (length c.rest.result.now) c.attributes.counter c.attributes-test.true c.attributes.specs c.read.new.cursor s listed (specs_in c.args.specs) c.in_ok-spec.ensures.value (sym c.is_last.ensures ∙ c.if-is_last.false) inv.ok inv.same in
     record {
       ok = left.ok;
-      same = left_out (kept_seen c.attributes.found) listed s _ (specs_in c.args.specs) inv.found c.if-spec-eq-FLAG_PRESENT.true (sym c.wants.ensures ∙ c.if-not-wants.true) left.same;
+      same = left_out (kept_seen c.attributes.found) listed s _ (specs_in c.args.specs) inv.found c.if-spec-eq-DW_FORM_flag_present.true (sym c.wants.ensures ∙ c.if-not-wants.true) left.same;
       found = inv.found;
     }
 

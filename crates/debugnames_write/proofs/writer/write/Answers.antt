@@ -2,7 +2,7 @@ use Rattle.std.proofs.Common.{◌≡◌, List, sym, ap, ◌∙◌, subst, arith}
 use Rattle.index_model.specs.declared.entry.Entry.{Entry}
 use Rattle.index_model.specs.declared.unit.Unit.{Unit as UnitHeader}
 use Rattle.index_model.specs.NameIndex.{Indexed, Row as IndexRow, all_indexed, rows_of}
-use Rattle.debugnames_write.specs.declared.item.Item.{Item}
+use Rattle.debugnames_write.specs.declared.item.IndexEntry.{IndexEntry}
 use Rattle.debugnames_write.specs.Groups.{AreSorted, SameByName}
 use Rattle.debugnames_write.specs.Made.{AreMadeOf}
 use Rattle.debugnames_write.specs.Seen.{items_seen}
@@ -18,17 +18,17 @@ name_bytes-requires-clause-starts c k d lt =
 pub name_bytes-requires-clause-sorted : goal.name_bytes-requires-clause-sorted
 name_bytes-requires-clause-sorted c = subst AreSorted (sym c.deref-2.ensures.value) c.in_ok-items.ensures.sorted
 
-made_of : (units : List UnitHeader) (rows : List IndexRow) (shown sorted passed : List Item) (entries : List Entry) → rows ≡ rows_of (items_seen shown) → shown ≡ sorted
+made_of : (units : List UnitHeader) (rows : List IndexRow) (shown sorted passed : List IndexEntry) (entries : List Entry) → rows ≡ rows_of (items_seen shown) → shown ≡ sorted
     → SameByName (all_indexed units entries) (items_seen sorted) → passed ≡ sorted → AreMadeOf units rows passed entries
 made_of units rows shown sorted passed entries are is_shown same is_passed =
     let all : List Indexed = all_indexed units entries in
     let seen : items_seen (items_from all) ≡ all = items_from_seen all in
-    let same_passed : SameByName all (items_seen passed) = subst (λ (w : List Item). SameByName all (items_seen w)) (sym is_passed) same in
+    let same_passed : SameByName all (items_seen passed) = subst (λ (w : List IndexEntry). SameByName all (items_seen w)) (sym is_passed) same in
     record {
       in_order = items_from all;
       all = seen;
       same = subst (λ (w : List Indexed). SameByName w (items_seen passed)) (sym seen) same_passed;
-      rows_are = are ∙ ap (λ (w : List Item). rows_of (items_seen w)) is_shown ∙ sym (same_rows all (items_seen sorted) same) ∙ ap rows_of (sym seen);
+      rows_are = are ∙ ap (λ (w : List IndexEntry). rows_of (items_seen w)) is_shown ∙ sym (same_rows all (items_seen sorted) same) ∙ ap rows_of (sym seen);
     }
 
 pub name_bytes-requires-clause-made : goal.name_bytes-requires-clause-made

@@ -2,7 +2,7 @@ use Rattle.std.proofs.Common.{◌≡◌, sym, subst, ◌∙◌}
 use Rattle.reach_model.specs.FileTexts.{text_of_files_fault}
 use Rattle.command_base.specs.Replies.{Wrote}
 use Rattle.command_base.specs.declared.status.Status.{Status}
-use Rattle.command_base.specs.declared.status.Table.TheVariants.{Lines}
+use Rattle.command_base.specs.declared.status.RefusedTable.TheVariants.{Lines}
 use Rattle.command_base.proofs.ReplyLaws.{sent_table}
 use Rattle.files_command.specs.Listed.{SaysFault}
 use Rattle.files_command.proofs.files.refuse_tables.Goals as goal

@@ -7,7 +7,7 @@ use Rattle.common_laws.proofs.Appended.{four_parts}
 use Rattle.index_model.specs.GdbIndex.{vector_bytes}
 use Rattle.index_model.specs.Layout.{ended}
 use Rattle.index_model.specs.Seen.{main_seen}
-use Rattle.gdbindex_write.specs.declared.places.Place.{Place}
+use Rattle.gdbindex_write.specs.declared.places.Slot.{Slot}
 use Rattle.gdbindex_write.specs.Places.{numbered_bytes, place_at, places_of, shortcut_of}
 use Rattle.gdbindex_write.specs.Pools.{vectors_seen}
 use Rattle.gdbindex_write.specs.Sizes.{vectors_size}
@@ -44,7 +44,7 @@ pub returns : goal.returns
 returns c =
     let symbols = c.args.symbols.now in
     let distinct = c.args.vectors.now.distinct.items in
-    let places : List Place = places_of symbols distinct c.args.vectors.now.numbers.items in
+    let places : List Slot = places_of symbols distinct c.args.vectors.now.numbers.items in
     let main = option_map main_seen c.args.main in
     let slots = c.deref.ensures.value ∙ c.in_ok-slots.ensures in
     let places_2 = c.deref-2.ensures.value ∙ c.in_ok-places.ensures in

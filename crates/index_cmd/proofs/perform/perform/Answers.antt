@@ -5,7 +5,7 @@ use Rattle.index_cmd.specs.Doings.{Did}
 use Rattle.index_cmd.specs.Requests.{TheHelp, TheVersion}
 use Rattle.index_cmd.specs.Runs.{ran}
 use Rattle.index_cmd.specs.Tasks.{request_seen, IsInBounds}
-use Rattle.index_cmd.specs.declared.task.Task.{Task}
+use Rattle.index_cmd.specs.declared.task.Requested.{Requested}
 use Rattle.index_cmd.proofs.Fileless.{drilled, own_text}
 use Rattle.index_cmd.proofs.perform.perform.Goals as goal
 
@@ -19,7 +19,7 @@ returns-in-Help-clause-did g c =
     let writes = Rose (g.K.Sink.write_faults c.args.out.now) (g.K.Sink.write_faults call.new.out) in
     let old = g.K.Sink.written c.args.out.now in
     let new = g.K.Sink.written call.new.out in
-    subst (λ (t : Task). Did (ran g.F.Shelf g.S.Source g.K.Sink (Some (request_seen t)) c.args.shelf.now c.args.shelf.now c.args.input.now c.args.input.now c.args.out.now call.new.out) call.result) (sym c.in-Help.is) (record {
+    subst (λ (t : Requested). Did (ran g.F.Shelf g.S.Source g.K.Sink (Some (request_seen t)) c.args.shelf.now c.args.shelf.now c.args.input.now c.args.input.now c.args.out.now call.new.out) call.result) (sym c.in-Help.is) (record {
       does = own_text TheHelp told input reads stores writes old new c.as_bytes.result.now tt tt c.as_bytes.ensures.value call.result call.ensures.said call.ensures.either call.ensures.fault call.ensures.left;
       uses = tt;
       input = λ _. refl;
@@ -35,7 +35,7 @@ returns-in-Version-clause-did g c =
     let writes = Rose (g.K.Sink.write_faults c.args.out.now) (g.K.Sink.write_faults call.new.out) in
     let old = g.K.Sink.written c.args.out.now in
     let new = g.K.Sink.written call.new.out in
-    subst (λ (t : Task). Did (ran g.F.Shelf g.S.Source g.K.Sink (Some (request_seen t)) c.args.shelf.now c.args.shelf.now c.args.input.now c.args.input.now c.args.out.now call.new.out) call.result) (sym c.in-Version.is) (record {
+    subst (λ (t : Requested). Did (ran g.F.Shelf g.S.Source g.K.Sink (Some (request_seen t)) c.args.shelf.now c.args.shelf.now c.args.input.now c.args.input.now c.args.out.now call.new.out) call.result) (sym c.in-Version.is) (record {
       does = own_text TheVersion told input reads stores writes old new c.as_bytes-in-Version.result.now tt tt c.as_bytes-in-Version.ensures.value call.result call.ensures.said call.ensures.either call.ensures.fault call.ensures.left;
       uses = tt;
       input = λ _. refl;
@@ -57,7 +57,7 @@ returns-in-Drill-clause-did g c =
     let writes = Rose (g.K.Sink.write_faults c.args.out.now) (g.K.Sink.write_faults call.new.out) in
     let old = g.K.Sink.written c.args.out.now in
     let new = g.K.Sink.written call.new.out in
-    subst (λ (t : Task). Did (ran g.F.Shelf g.S.Source g.K.Sink (Some (request_seen t)) c.args.shelf.now c.args.shelf.now c.args.input.now c.args.input.now c.args.out.now call.new.out) call.result) (sym c.in-Drill.is) (record {
+    subst (λ (t : Requested). Did (ran g.F.Shelf g.S.Source g.K.Sink (Some (request_seen t)) c.args.shelf.now c.args.shelf.now c.args.input.now c.args.input.now c.args.out.now call.new.out) call.result) (sym c.in-Drill.is) (record {
       does = drilled _ _ told input reads stores writes old new call.result call.ensures.wrote call.ensures.causes;
       uses = tt;
       input = λ _. refl;
@@ -69,4 +69,4 @@ read_and_act-requires-clause-bounds g c κs within = subst IsInBounds c.in-OnFil
 pub returns-in-OnFile-clause-did : goal.returns-in-OnFile-clause-did
 returns-in-OnFile-clause-did g c =
     let call = c.read_and_act in
-    subst (λ (t : Task). Did (ran g.F.Shelf g.S.Source g.K.Sink (Some (request_seen t)) c.args.shelf.now call.new.shelf c.args.input.now call.new.input c.args.out.now call.new.out) call.result) (sym c.in-OnFile.is) call.ensures.did
+    subst (λ (t : Requested). Did (ran g.F.Shelf g.S.Source g.K.Sink (Some (request_seen t)) c.args.shelf.now call.new.shelf c.args.input.now call.new.input c.args.out.now call.new.out) call.result) (sym c.in-OnFile.is) call.ensures.did

@@ -1,6 +1,6 @@
 use Rattle.std.proofs.Common.{List, [], ℕ, ◌+◌, ◌++◌, drop, get_or, sym, ap, ◌∙◌}
 use Rattle.std.proofs.lemmas.List.{drop_all, drop_more}
-use Rattle.name_forms.specs.declared.parts.Part.{Part}
+use Rattle.name_forms.specs.declared.parts.Before.{Before}
 use Rattle.name_forms.specs.Coded.{front, is_good}
 use Rattle.name_forms.proofs.PartLaws.{goes, stops, ends_elsewhere, ends_inside}
 use Rattle.name_forms.proofs.parts.is_good.Goals as goal
@@ -22,7 +22,7 @@ loop-b-preserved c =
 pub returns-in-Inside : goal.returns-in-Inside
 returns-in-Inside c =
     let none = ap (λ (xs : List ℕ). is_good (front c.loop-b.part ++ xs)) (drop_all c.loop-b.b-index c.args.name.now c.loop-b-test.false) in
-    sym (sym c.loop-b.invariant ∙ none ∙ ap (λ (p : Part). is_good (front p ++ [])) c.in-Inside.is ∙ ends_inside)
+    sym (sym c.loop-b.invariant ∙ none ∙ ap (λ (p : Before). is_good (front p ++ [])) c.in-Inside.is ∙ ends_inside)
 
 pub returns-in_default-matches : goal.returns-in_default-matches
 returns-in_default-matches c =

@@ -1,6 +1,6 @@
 use Rattle.std.proofs.Common.{find, Some, sym, subst}
 use Rattle.index_model.specs.Shards.{AreShardsOf}
-use Rattle.qualified_names.specs.declared.sought.Sought.TheVariants.{Said, Named}
+use Rattle.qualified_names.specs.declared.sought.MainBy.TheVariants.{Said, Named}
 use Rattle.qualified_names.specs.Sought.{is_main_by, IsFound}
 use Rattle.qualified_names.proofs.Mains.{either_way, found_or, none_or}
 use Rattle.qualified_names.proofs.main_program.main_entry.Goals as goal

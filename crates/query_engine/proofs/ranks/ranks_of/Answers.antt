@@ -1,7 +1,7 @@
 use Rattle.std.proofs.Common.{◌≡◌, ◌<◌, ◌≤◌, ℕ, ◌-◌, Vec, Global, List, [], ◌∷◌, ◌++◌, length, get_or, refl, ap, ◌∙◌, subst, arith}
 use Rattle.std.proofs.lemmas.List.{get_or-map, length-map, length-set, map-append}
 use Rattle.query_engine.specs.declared.key.Key.{Key}
-use Rattle.query_engine.specs.declared.spelling.Spelling.{Spelling}
+use Rattle.query_engine.specs.declared.spelling.FrontedText.{FrontedText}
 use Rattle.query_engine.specs.Pairs.{Pair, number_at, text_at}
 use Rattle.query_engine.specs.Ranks.{AreRanksIn}
 use Rattle.query_engine.specs.Seen.{pairs_seen, pair_seen, texts_seen}
@@ -32,12 +32,12 @@ loop-i-preserved c =
           let own : text_at ps i ≡ k.text.bytes.now = at_key keys i k lt w.index-keys-i.is in
           let es : List (List ℕ) = ds ++ text_at ps i ∷ [] in
           let made : texts_seen c.if-not-goes_on_at.distinct.items ≡ es = rw (w.distinct-is, w.in_ok-push.ensures.items, map-append, own, ← w.index-keys-i.is) refl in
-          let count : c.len.result - 1 ≡ length es - 1 = omega (arith, c.len.ensures, ap length made, length-map c.if-not-goes_on_at.distinct.items (λ (s : Spelling). s.bytes.now)) in
+          let count : c.len.result - 1 ≡ length es - 1 = omega (arith, c.len.ensures, ap length made, length-map c.if-not-goes_on_at.distinct.items (λ (s : FrontedText). s.bytes.now)) in
           record { size = size; ranks = rw (← at, count, made) (ranks_new ps numbers ds rs i within room inv.ranks inv.last c.requires.sorted new); last = rw made (last_new ps numbers ds rs i within room inv.ranks inv.last c.requires.sorted new) }
       | else-not-goes_on_at w ↦
           let on = rw w.if-not-goes_on_at.false at c.goes_on_at.ensures in
-          let made : texts_seen c.if-not-goes_on_at.distinct.items ≡ ds = ap (λ (d : Vec Spelling Global). texts_seen d.items) w.distinct-is in
-          let count : c.len.result - 1 ≡ length ds - 1 = omega (arith, c.len.ensures, ap length made, length-map c.if-not-goes_on_at.distinct.items (λ (s : Spelling). s.bytes.now)) in
+          let made : texts_seen c.if-not-goes_on_at.distinct.items ≡ ds = ap (λ (d : Vec FrontedText Global). texts_seen d.items) w.distinct-is in
+          let count : c.len.result - 1 ≡ length ds - 1 = omega (arith, c.len.ensures, ap length made, length-map c.if-not-goes_on_at.distinct.items (λ (s : FrontedText). s.bytes.now)) in
           record { size = size; ranks = rw (← at, count, made) (ranks_on ps numbers ds rs i within room inv.ranks inv.last on); last = rw made (last_on ps numbers ds rs i within room inv.ranks inv.last on) }
     ]
 

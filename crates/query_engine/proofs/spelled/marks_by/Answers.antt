@@ -1,5 +1,5 @@
 use Rattle.std.proofs.Common.{[], ◌∷◌, ◌++◌, sym, ap, ◌∙◌}
-use Rattle.query_engine.specs.declared.marks.Mark.{Mark}
+use Rattle.query_engine.specs.declared.marks.NumberedPlace.{NumberedPlace}
 use Rattle.std.proofs.Common.{List}
 use Rattle.query_engine.specs.Marked.{renumbered}
 use Rattle.query_engine.proofs.CountingLaws.{no_mark}
@@ -14,6 +14,6 @@ loop-mark-preserved c =
     let i = c.loop-mark.mark-index in
     elim c.match-renumbered.branch [
       | in-Some+in_ok-push w ↦
-          rw (w.kept-is, w.in_ok-push.ensures.items) (ap (λ (ys : List Mark). ys ++ w.in-Some.renumbered ∷ []) c.loop-mark.invariant ∙ sym (kept_one f ms i no_mark w.in-Some.renumbered c.loop-mark-test.true (sym c.renumbered.ensures ∙ w.in-Some.is)))
+          rw (w.kept-is, w.in_ok-push.ensures.items) (ap (λ (ys : List NumberedPlace). ys ++ w.in-Some.renumbered ∷ []) c.loop-mark.invariant ∙ sym (kept_one f ms i no_mark w.in-Some.renumbered c.loop-mark-test.true (sym c.renumbered.ensures ∙ w.in-Some.is)))
       | in_default w ↦ rw w.kept-is (c.loop-mark.invariant ∙ sym (kept_none f ms i no_mark c.loop-mark-test.true (sym c.renumbered.ensures ∙ w.in_default.is)))
     ]

@@ -1,7 +1,7 @@
 use Rattle.std.proofs.Common.{◌≡◌, ◌∙◌, arith}
 use Rattle.std.specs.Prelude.{filter_map}
 use Rattle.std.proofs.lemmas.List.{length-map}
-use Rattle.query_engine.specs.declared.spelling.Spelling.{Spelling}
+use Rattle.query_engine.specs.declared.spelling.FrontedText.{FrontedText}
 use Rattle.query_engine.specs.Marked.{AreTextsOf, renumbered}
 use Rattle.query_engine.specs.Seen.{texts_seen}
 use Rattle.query_engine.proofs.LabelLaws.{label_list}
@@ -26,6 +26,6 @@ returns c entries labelled =
     let h : AreTextsOf c.args.way ls (texts_seen n.texts.items) n.numbers.items = rw c.deref.ensures.value at c.in_ok-numbered.ensures in
     let made : c.in_ok-marks.marks.items ≡ filter_map (renumbered n.numbers.items) m.marks.items = c.in_ok-marks.ensures ∙ (λ i. filter_map (renumbered (c.deref-3.ensures.value i)) (c.deref-2.ensures.value i)) in
     record {
-      few = omega (arith, h.few, labelled.few, length-map n.texts.items (λ (s : Spelling). s.bytes.now));
+      few = omega (arith, h.few, labelled.few, length-map n.texts.items (λ (s : FrontedText). s.bytes.now));
       say = rw made (marks_kept c.args.way ls (texts_seen n.texts.items) n.numbers.items h entries m.marks.items labelled.say);
     }

@@ -1,9 +1,10 @@
 use Rattle.std.proofs.Common.{◌≡◌, Bool, true, false, refl, sym, ap, ◌∙◌}
 use Rattle.std.specs.Prelude.{is_some, not, ◌&&◌}
+use Rattle.common_laws.proofs.Options.{some_of_map}
 use Rattle.index_model.specs.Sections.{index_named}
 use Rattle.reach_model.specs.Added.{debug_str}
 use Rattle.elf_add.specs.Adders.{is_full}
-use Rattle.elf_add.proofs.Adding.{are_added, have_no_room, not_not, one_fails, other_fails, some_of_map, were_added}
+use Rattle.elf_add.proofs.Adding.{are_added, have_no_room, not_not, one_fails, other_fails, were_added}
 use Rattle.elf_add.proofs.adder.Adder.extend.Goals as goal
 use Rattle.elf_add.proofs.adder.Adder.extend.Goals.{else-is_none-via-then-is_none+else-is_full, else-is_none-via-else-is_none}
 

@@ -1,6 +1,6 @@
 use Rattle.std.proofs.Common.{Result, Ok, Err, IfOk, option_map, refl, ap, arith}
 use Rattle.index_model.specs.Sections.{section_count}
-use Rattle.elf_add.specs.declared.parts.Parts.{Parts}
+use Rattle.elf_add.specs.declared.parts.AddedProgram.{AddedProgram}
 use Rattle.elf_add.proofs.Found.{parts_are}
 use Rattle.elf_add.proofs.Opened.{long, names_inside, table_inside}
 use Rattle.elf_add.proofs.Whole.{places_are}
@@ -24,7 +24,7 @@ joined-requires-clause-table c =
 pub joined-requires-clause-places : goal.joined-requires-clause-places
 joined-requires-clause-places c =
     let i = c.self.inside in
-    let p : Parts = record { file = i.file; count = c.count.result; names_index = c.names.result; names = c.name_bytes.result; strings = c.grown_strings-strings.result; added = c.deref.result } in
+    let p : AddedProgram = record { file = i.file; count = c.count.result; names_index = c.names.result; names = c.name_bytes.result; strings = c.grown_strings-strings.result; added = c.deref.result } in
     let is = parts_are c.args.self i.file.now i.sections i.table i.added.items (option_map (λ s. s.now) i.strings) c.self.view_is c.self.invariant.of_file p c.in_ok-added.added.items
     refl c.count.ensures c.names.ensures.value c.name_bytes.ensures c.grown_strings-strings.ensures.index c.grown_strings-strings.ensures.strings c.deref.ensures.value c.in_ok-added.ensures in
     places_are p c.args.self.file c.args.self.sections c.args.self.addition is c.requires
@@ -32,7 +32,7 @@ joined-requires-clause-places c =
 pub returns : goal.returns
 returns c =
     let i = c.self.inside in
-    let p : Parts = record { file = i.file; count = c.count.result; names_index = c.names.result; names = c.name_bytes.result; strings = c.grown_strings-strings.result; added = c.deref.result } in
+    let p : AddedProgram = record { file = i.file; count = c.count.result; names_index = c.names.result; names = c.name_bytes.result; strings = c.grown_strings-strings.result; added = c.deref.result } in
     let is = parts_are c.args.self i.file.now i.sections i.table i.added.items (option_map (λ s. s.now) i.strings) c.self.view_is c.self.invariant.of_file p c.in_ok-added.added.items
     refl c.count.ensures c.names.ensures.value c.name_bytes.ensures c.grown_strings-strings.ensures.index c.grown_strings-strings.ensures.strings c.deref.ensures.value c.in_ok-added.ensures in
     if_ok _ _ c.joined.result c.joined.ensures (λ bytes given. given c.args.self.file c.args.self.sections c.args.self.addition is)

@@ -1,6 +1,6 @@
 use Rattle.std.proofs.Common.{◌≡◌, ◌+◌, ◌<◌, ℕ, List, Option, Some, None, get_or, length, ap, sym, subst, ◌∙◌, arith}
 use Rattle.std.proofs.lemmas.List.{get_or_default, length_push}
-use Rattle.gdbindex_read.specs.declared.homes.Home.{Home}
+use Rattle.gdbindex_read.specs.declared.homes.PathStart.{PathStart}
 use Rattle.gdbindex_read.specs.Slots.{slots_seen}
 use Rattle.gdbindex_read.proofs.SlotsRead.{length-slots}
 use Rattle.gdbindex_read.proofs.WalkLaws.{homes_more}
@@ -24,8 +24,8 @@ loop-place-preserved c =
     let old = c.loop-place.homes.items in
     let items = c.in-Ok.ensures.items in
     record {
-      size = ap (λ (xs : List (Option Home)). length xs) items ∙ length_push old c.home.result ∙ ap (λ (m : ℕ). m + 1) inv.size;
-      each = λ k h is. homes_more (slots_seen c.args.self.now) old c.home.result c.loop-place.place inv.size inv.each c.home.ensures k h (sym (ap (λ (xs : List (Option Home)). get_or xs k None) items) ∙ is);
+      size = ap (λ (xs : List (Option PathStart)). length xs) items ∙ length_push old c.home.result ∙ ap (λ (m : ℕ). m + 1) inv.size;
+      each = λ k h is. homes_more (slots_seen c.args.self.now) old c.home.result c.loop-place.place inv.size inv.each c.home.ensures k h (sym (ap (λ (xs : List (Option PathStart)). get_or xs k None) items) ∙ is);
     }
 
 pub returns : goal.returns

@@ -5,7 +5,7 @@ use Rattle.index_model.specs.Faults.{program_of}
 use Rattle.index_model.specs.Program.{Program}
 use Rattle.index_model.specs.Sections.{Section, section_bytes}
 use Rattle.file_image.specs.Images.{image_of, unit_bytes}
-use Rattle.shard_build.specs.declared.tables.Table.{Table}
+use Rattle.shard_build.specs.declared.tables.AbbrevTable.{AbbrevTable}
 use Rattle.std.proofs.lemmas.Option.{same_Some}
 use Rattle.shard_build.specs.declared.units_again.UnitsAgain.{UnitsAgain}
 use Rattle.shard_build.specs.Again.{AreOfUnit, AreOfUnits}
@@ -59,7 +59,7 @@ node_within-requires-clause-sound c =
     let section : c.debug_abbrev-section.result.now ≡ section_bytes im.sections (codes ".debug_abbrev") = c.debug_abbrev-section.ensures.value ∙ ap (λ (ss : List Section). section_bytes ss (codes ".debug_abbrev")) c.sections.ensures in
     let own : home.bytes.now ≡ unit_bytes home.sections.now home.unit = c.of-home.ensures.own ∙ ap (λ (ss : List Section). unit_bytes ss home.unit) (sym c.of-home.ensures.sections) in
     let t = c.insert-table.result.now in
-    let read = subst (λ (x : Table). table c.debug_abbrev-section.result.now home.unit.«abbrev» ≡ Some x.abbrevs) (sym c.insert-table.ensures.value) c.in_ok-table.ensures.value in
+    let read = subst (λ (x : AbbrevTable). table c.debug_abbrev-section.result.now home.unit.«abbrev» ≡ Some x.abbrevs) (sym c.insert-table.ensures.value) c.in_ok-table.ensures.value in
     sound im image p is h.home h.unit home c.of-home.ensures.sections (c.of-home.ensures.number ∙ number) unit own c.of-home.ensures.header c.debug_abbrev-section.result.now section t.abbrevs read
 
 pub node_within-requires-clause-span : goal.node_within-requires-clause-span
@@ -77,7 +77,7 @@ node_within-requires-clause-span c =
     let section : c.debug_abbrev-section.result.now ≡ section_bytes im.sections (codes ".debug_abbrev") = c.debug_abbrev-section.ensures.value ∙ ap (λ (ss : List Section). section_bytes ss (codes ".debug_abbrev")) c.sections.ensures in
     let own : home.bytes.now ≡ unit_bytes home.sections.now home.unit = c.of-home.ensures.own ∙ ap (λ (ss : List Section). unit_bytes ss home.unit) (sym c.of-home.ensures.sections) in
     let t = c.insert-table.result.now in
-    let read = subst (λ (x : Table). table c.debug_abbrev-section.result.now home.unit.«abbrev» ≡ Some x.abbrevs) (sym c.insert-table.ensures.value) c.in_ok-table.ensures.value in
+    let read = subst (λ (x : AbbrevTable). table c.debug_abbrev-section.result.now home.unit.«abbrev» ≡ Some x.abbrevs) (sym c.insert-table.ensures.value) c.in_ok-table.ensures.value in
     in_spans im image p is h.home h.unit home c.of-home.ensures.sections (c.of-home.ensures.number ∙ number) unit own c.of-home.ensures.header c.debug_abbrev-section.result.now section t.abbrevs read c.args.span.now h.span
 
 pub node_within-requires-clause-parent : goal.node_within-requires-clause-parent
@@ -95,7 +95,7 @@ node_within-requires-clause-parent c =
     let section : c.debug_abbrev-section.result.now ≡ section_bytes im.sections (codes ".debug_abbrev") = c.debug_abbrev-section.ensures.value ∙ ap (λ (ss : List Section). section_bytes ss (codes ".debug_abbrev")) c.sections.ensures in
     let own : home.bytes.now ≡ unit_bytes home.sections.now home.unit = c.of-home.ensures.own ∙ ap (λ (ss : List Section). unit_bytes ss home.unit) (sym c.of-home.ensures.sections) in
     let t = c.insert-table.result.now in
-    let read = subst (λ (x : Table). table c.debug_abbrev-section.result.now home.unit.«abbrev» ≡ Some x.abbrevs) (sym c.insert-table.ensures.value) c.in_ok-table.ensures.value in
+    let read = subst (λ (x : AbbrevTable). table c.debug_abbrev-section.result.now home.unit.«abbrev» ≡ Some x.abbrevs) (sym c.insert-table.ensures.value) c.in_ok-table.ensures.value in
     span_of_parent im image p is h.home h.unit home c.of-home.ensures.sections (c.of-home.ensures.number ∙ number) unit own c.of-home.ensures.header c.debug_abbrev-section.result.now section t.abbrevs read c.args.span.now c.args.offset h.parent
 
 pub returns-then-not-whole-clause-value : goal.returns-then-not-whole-clause-value
@@ -111,7 +111,7 @@ returns-then-not-whole-clause-value c p given =
     let section : c.debug_abbrev-section.result.now ≡ section_bytes im.sections (codes ".debug_abbrev") = c.debug_abbrev-section.ensures.value ∙ ap (λ (ss : List Section). section_bytes ss (codes ".debug_abbrev")) c.sections.ensures in
     let own : home.bytes.now ≡ unit_bytes home.sections.now home.unit = c.of-home.ensures.own ∙ ap (λ (ss : List Section). unit_bytes ss home.unit) (sym c.of-home.ensures.sections) in
     let t = c.insert-table.result.now in
-    let read = subst (λ (x : Table). table c.debug_abbrev-section.result.now home.unit.«abbrev» ≡ Some x.abbrevs) (sym c.insert-table.ensures.value) c.in_ok-table.ensures.value in
+    let read = subst (λ (x : AbbrevTable). table c.debug_abbrev-section.result.now home.unit.«abbrev» ≡ Some x.abbrevs) (sym c.insert-table.ensures.value) c.in_ok-table.ensures.value in
     node_there im image p is h.home h.unit home c.of-home.ensures.sections (c.of-home.ensures.number ∙ number) unit own c.of-home.ensures.header c.debug_abbrev-section.result.now section t.abbrevs read c.args.span.now c.args.offset h.same c.node_within.result c.node_within.ensures
 
 pub nodes-requires-clause-sound : goal.nodes-requires-clause-sound
@@ -129,7 +129,7 @@ nodes-requires-clause-sound c =
     let section : c.debug_abbrev-section.result.now ≡ section_bytes im.sections (codes ".debug_abbrev") = c.debug_abbrev-section.ensures.value ∙ ap (λ (ss : List Section). section_bytes ss (codes ".debug_abbrev")) c.sections.ensures in
     let own : home.bytes.now ≡ unit_bytes home.sections.now home.unit = c.of-home.ensures.own ∙ ap (λ (ss : List Section). unit_bytes ss home.unit) (sym c.of-home.ensures.sections) in
     let t = c.insert-table.result.now in
-    let read = subst (λ (x : Table). table c.debug_abbrev-section.result.now home.unit.«abbrev» ≡ Some x.abbrevs) (sym c.insert-table.ensures.value) c.in_ok-table.ensures.value in
+    let read = subst (λ (x : AbbrevTable). table c.debug_abbrev-section.result.now home.unit.«abbrev» ≡ Some x.abbrevs) (sym c.insert-table.ensures.value) c.in_ok-table.ensures.value in
     sound im image p is h.home h.unit home c.of-home.ensures.sections (c.of-home.ensures.number ∙ number) unit own c.of-home.ensures.header c.debug_abbrev-section.result.now section t.abbrevs read
 
 pub returns-clause-value : goal.returns-clause-value
@@ -145,7 +145,7 @@ returns-clause-value c p given =
     let section : c.debug_abbrev-section.result.now ≡ section_bytes im.sections (codes ".debug_abbrev") = c.debug_abbrev-section.ensures.value ∙ ap (λ (ss : List Section). section_bytes ss (codes ".debug_abbrev")) c.sections.ensures in
     let own : home.bytes.now ≡ unit_bytes home.sections.now home.unit = c.of-home.ensures.own ∙ ap (λ (ss : List Section). unit_bytes ss home.unit) (sym c.of-home.ensures.sections) in
     let t = c.insert-table.result.now in
-    let read = subst (λ (x : Table). table c.debug_abbrev-section.result.now home.unit.«abbrev» ≡ Some x.abbrevs) (sym c.insert-table.ensures.value) c.in_ok-table.ensures.value in
+    let read = subst (λ (x : AbbrevTable). table c.debug_abbrev-section.result.now home.unit.«abbrev» ≡ Some x.abbrevs) (sym c.insert-table.ensures.value) c.in_ok-table.ensures.value in
     let nodes = c.in_ok-nodes.nodes in
     let are = nodes_there im image p is h.home h.unit home c.of-home.ensures.sections (c.of-home.ensures.number ∙ number) unit own c.of-home.ensures.header c.debug_abbrev-section.result.now section t.abbrevs read nodes c.in_ok-nodes.ensures in
     let found = c.node_at-node.ensures (unit_rises im.file p is h.home h.unit nodes are) in
@@ -165,7 +165,7 @@ invariant_of-self-2 c =
     let at = subst (λ (n : ℕ). slice_get im.units n ≡ Some home.unit) number c.of-home.ensures.unit in
     let own : home.bytes.now ≡ unit_bytes home.sections.now home.unit = c.of-home.ensures.own ∙ ap (λ (ss : List Section). unit_bytes ss home.unit) (sym c.of-home.ensures.sections) in
     let t = c.insert-table.result.now in
-    let read = subst (λ (x : Table). table c.debug_abbrev-section.result.now home.unit.«abbrev» ≡ Some x.abbrevs) (sym c.insert-table.ensures.value) c.in_ok-table.ensures.value in
+    let read = subst (λ (x : AbbrevTable). table c.debug_abbrev-section.result.now home.unit.«abbrev» ≡ Some x.abbrevs) (sym c.insert-table.ensures.value) c.in_ok-table.ensures.value in
     record {
       home = h.home;
       member = h.unit;

@@ -1,11 +1,11 @@
 use Rattle.std.proofs.Common.{ℕ}
-use Rattle.shard_build.specs.declared.tables.Table.{Table}
+use Rattle.shard_build.specs.declared.tables.AbbrevTable.{AbbrevTable}
 use Rattle.shard_build.specs.Runs.{IsAtOffset, AreAtOffsets}
 use Rattle.shard_build.proofs.MapLaws.{one_more}
 use Rattle.shard_build.proofs.tables.Tables.put.Goals as goal
 
 pub returns : goal.returns
 returns c section known own =
-    let table : Table = record { offset = c.args.table.offset; abbrevs = c.args.table.abbrevs } in
+    let table : AbbrevTable = record { offset = c.args.table.offset; abbrevs = c.args.table.abbrevs } in
     let before : AreAtOffsets section c.is_needed.new.self.kept = rw c.is_needed.ensures known in
-    one_more (λ (_ : ℕ) (t : Table). IsAtOffset section t) c.is_needed.new.self.kept c.insert.new.self c.args.table.offset table before own c.in_ok-insert.ensures.updates.0
+    one_more (λ (_ : ℕ) (t : AbbrevTable). IsAtOffset section t) c.is_needed.new.self.kept c.insert.new.self c.args.table.offset table before own c.in_ok-insert.ensures.updates.0
