@@ -1,0 +1,63 @@
+-- Whole names: types, functions and conversion functions: in sight of the next token, what a symbol stands for.
+use Rattle.std.specs.Prelude.{List, [], ◌∷◌, Option, Some, None}
+use Rattle.cxx_spelling.specs.declared.kind.Kind.{Kind}
+use Rattle.cxx_spelling.specs.declared.kind.Kind.TheVariants as token
+use Rattle.cxx_spelling.specs.declared.symbol.Symbol.{Symbol}
+use Rattle.cxx_spelling.specs.declared.symbol.Symbol.TheVariants.{Do, Expand}
+use Rattle.cxx_spelling.specs.declared.symbol.Action.TheVariants.{BeginQualifiers, Skip, Take, WriteOpen, WriteSpace}
+use Rattle.cxx_spelling.specs.declared.symbol.Nonterminal.TheVariants.{ConversionRest, CvQualifiers, Declarator, DeclaratorSuffix, InnerDeclarator, Local, MemberPointer, MoreArguments, ParameterList, Parameters, ParenthesisEnd, Start, StartArguments, StartEnd, StartName, StartNext, StartParenthesis, StartRest, TemplateArgument, TypeSpecifier}
+
+-- a whole name: a conversion function ([class.conv.fct]), a type, or a function
+abbrev pub start : Kind → Option (List Symbol)
+start token.Operator = Some (Do Take ∷ Do WriteSpace ∷ Do BeginQualifiers ∷ Expand TypeSpecifier ∷ Expand ConversionRest ∷ [])
+start _ = Some (Do BeginQualifiers ∷ Expand TypeSpecifier ∷ Expand StartRest ∷ [])
+
+-- behind its type or its name
+abbrev pub start_rest : Kind → Option (List Symbol)
+start_rest token.OpenParenthesis = Some (Do Skip ∷ Expand StartParenthesis ∷ [])
+start_rest token.Name = Some (Do WriteSpace ∷ Expand StartName ∷ [])
+start_rest token.Scope = Some (Do WriteSpace ∷ Do Skip ∷ Expand StartName ∷ [])
+start_rest _ = Some (Expand Declarator ∷ [])
+
+-- behind a `(`, which is not written yet: a declarator, or the parameters of a function
+abbrev pub start_parenthesis : Kind → Option (List Symbol)
+start_parenthesis token.Star = Some (Do WriteSpace ∷ Do WriteOpen ∷ Expand InnerDeclarator ∷ Expand ParenthesisEnd ∷ Expand DeclaratorSuffix ∷ [])
+start_parenthesis token.Reference = Some (Do WriteSpace ∷ Do WriteOpen ∷ Expand InnerDeclarator ∷ Expand ParenthesisEnd ∷ Expand DeclaratorSuffix ∷ [])
+start_parenthesis token.RvalueReference = Some (Do WriteSpace ∷ Do WriteOpen ∷ Expand InnerDeclarator ∷ Expand ParenthesisEnd ∷ Expand DeclaratorSuffix ∷ [])
+start_parenthesis _ = Some (Do WriteOpen ∷ Expand ParameterList ∷ Expand Local ∷ [])
+
+-- a pointer to a member, or a function behind the type that it returns
+abbrev pub start_name : Kind → Option (List Symbol)
+start_name token.Name = Some (Do Take ∷ Expand StartArguments ∷ [])
+start_name _ = None
+
+-- its arguments
+abbrev pub start_arguments : Kind → Option (List Symbol)
+start_arguments token.Less = Some (Do Take ∷ Expand TemplateArgument ∷ Expand MoreArguments ∷ Expand StartEnd ∷ [])
+start_arguments _ = Some (Expand StartEnd ∷ [])
+
+-- how it ends
+abbrev pub start_end : Kind → Option (List Symbol)
+start_end token.Scope = Some (Do Take ∷ Expand StartNext ∷ [])
+start_end token.OpenParenthesis = Some (Expand Parameters ∷ Expand Local ∷ [])
+start_end _ = Some []
+
+-- what stands in its scope
+abbrev pub start_next : Kind → Option (List Symbol)
+start_next token.Star = Some (Do Take ∷ Do BeginQualifiers ∷ Expand CvQualifiers ∷ Expand Declarator ∷ [])
+start_next _ = Some (Expand StartName ∷ [])
+
+-- a name inside of a function
+abbrev pub local : Kind → Option (List Symbol)
+local token.Scope = Some (Do Take ∷ Expand Start ∷ [])
+local _ = Some []
+
+-- the declarator of the type to which a conversion function converts
+abbrev pub conversion_rest : Kind → Option (List Symbol)
+conversion_rest token.Star = Some (Do Take ∷ Do BeginQualifiers ∷ Expand CvQualifiers ∷ Expand ConversionRest ∷ [])
+conversion_rest token.Reference = Some (Do Take ∷ Expand ConversionRest ∷ [])
+conversion_rest token.RvalueReference = Some (Do Take ∷ Expand ConversionRest ∷ [])
+conversion_rest token.Name = Some (Do WriteSpace ∷ Expand MemberPointer ∷ Expand ConversionRest ∷ [])
+conversion_rest token.Scope = Some (Do WriteSpace ∷ Expand MemberPointer ∷ Expand ConversionRest ∷ [])
+conversion_rest token.OpenParenthesis = Some (Do Skip ∷ Expand StartParenthesis ∷ [])
+conversion_rest _ = Some (Expand Declarator ∷ [])

@@ -1,0 +1,14 @@
+pub mod Bytes
+pub mod Casts
+pub mod Declarators
+pub mod Functions
+pub mod Integers
+pub mod Keywords
+pub mod Names
+pub mod Qualifiers
+pub mod Rules
+pub mod Seen
+pub mod Spelling
+pub mod Tokens
+pub mod Translation
+pub mod Types

@@ -1,0 +1,58 @@
+-- Names and their template arguments: in sight of the next token, what a symbol stands for.
+use Rattle.std.specs.Prelude.{List, [], ◌∷◌, Option, Some, None}
+use Rattle.cxx_spelling.specs.declared.kind.Kind.{Kind}
+use Rattle.cxx_spelling.specs.declared.kind.Kind.TheVariants as token
+use Rattle.cxx_spelling.specs.declared.symbol.Symbol.{Symbol}
+use Rattle.cxx_spelling.specs.declared.symbol.Symbol.TheVariants.{Do, Expand}
+use Rattle.cxx_spelling.specs.declared.symbol.Action.TheVariants.{Skip, Take, TakeCharacter, TakeGreater, TakeNumber, WriteSpace}
+use Rattle.cxx_spelling.specs.declared.symbol.Nonterminal.TheVariants.{Address, AddressName, AddressRest, AddressScope, MoreArguments, NameArguments, NameRest, Parenthesised, QualifiedName, TemplateArgument, TypeId}
+
+-- qualified-id without what names the global namespace ([expr.prim.id.qual])
+abbrev pub qualified_name : Kind → Option (List Symbol)
+qualified_name token.Name = Some (Do Take ∷ Expand NameArguments ∷ [])
+qualified_name _ = None
+
+-- simple-template-id ([temp.names]): a name may have arguments
+abbrev pub name_arguments : Kind → Option (List Symbol)
+name_arguments token.Less = Some (Do Take ∷ Expand TemplateArgument ∷ Expand MoreArguments ∷ Expand NameRest ∷ [])
+name_arguments _ = Some (Expand NameRest ∷ [])
+
+-- nested-name-specifier: behind `::` a name goes on
+abbrev pub name_rest : Kind → Option (List Symbol)
+name_rest token.Scope = Some (Do Take ∷ Expand QualifiedName ∷ [])
+name_rest _ = Some []
+
+-- template-argument-list ([temp.names]): it has an argument at least
+abbrev pub more_arguments : Kind → Option (List Symbol)
+more_arguments token.Comma = Some (Do Take ∷ Do WriteSpace ∷ Expand TemplateArgument ∷ Expand MoreArguments ∷ [])
+more_arguments token.Greater = Some (Do TakeGreater ∷ [])
+more_arguments _ = None
+
+-- template-argument: a type-id or a constant
+abbrev pub template_argument : Kind → Option (List Symbol)
+template_argument token.Reference = Some (Do Take ∷ Expand Address ∷ [])
+template_argument token.OpenParenthesis = Some (Do Skip ∷ Expand Parenthesised ∷ [])
+template_argument token.Number = Some (Do TakeNumber ∷ [])
+template_argument token.Character = Some (Do TakeCharacter ∷ [])
+template_argument token.Truth = Some (Do Take ∷ [])
+template_argument _ = Some (Expand TypeId ∷ [])
+
+-- the address of a variable or a function
+abbrev pub address : Kind → Option (List Symbol)
+address token.Scope = Some (Do Skip ∷ Expand AddressName ∷ [])
+address _ = Some (Expand AddressName ∷ [])
+
+-- its name
+abbrev pub address_name : Kind → Option (List Symbol)
+address_name token.Name = Some (Do Take ∷ Expand AddressRest ∷ [])
+address_name _ = None
+
+-- the rest of its name
+abbrev pub address_rest : Kind → Option (List Symbol)
+address_rest token.Less = Some (Do Take ∷ Expand TemplateArgument ∷ Expand MoreArguments ∷ Expand AddressScope ∷ [])
+address_rest _ = Some (Expand NameRest ∷ [])
+
+-- a template may stand in its scope; the address of a template is written otherwise, and has no rule
+abbrev pub address_scope : Kind → Option (List Symbol)
+address_scope token.Scope = Some (Do Take ∷ Expand QualifiedName ∷ [])
+address_scope _ = None

@@ -1,0 +1,196 @@
+-- How a name is read and written anew.
+use Rattle.std.specs.Prelude.{ℕ, zero, suc, ◌+◌, ◌-◌, ◌*◌, Bool, ◌==◌, nat_lt, if◌then◌else◌, List, [], ◌∷◌, ◌++◌, length, take, drop, slice_index, count_by, codes, bytes_eq, Option, Some, None}
+use Rattle.cxx_spelling.specs.declared.kind.Kind.{Kind}
+use Rattle.cxx_spelling.specs.declared.kind.Kind.TheVariants as token
+use Rattle.cxx_spelling.specs.declared.symbol.Symbol.{Symbol}
+use Rattle.cxx_spelling.specs.declared.symbol.Symbol.TheVariants.{Do, Expand}
+use Rattle.cxx_spelling.specs.declared.symbol.Action.{Action}
+use Rattle.cxx_spelling.specs.declared.symbol.Action.TheVariants as action
+use Rattle.cxx_spelling.specs.declared.symbol.Nonterminal.TheVariants.{Start}
+use Rattle.cxx_spelling.specs.declared.integers.IntegerWords.{IntegerWords}
+use Rattle.cxx_spelling.specs.declared.integers.IntegerType.{IntegerType}
+use Rattle.cxx_spelling.specs.declared.qualifiers.Qualifiers.{Qualifiers}
+use Rattle.cxx_spelling.specs.Bytes.{until, is_suffix_byte, is_long_byte, is_unsigned_byte}
+use Rattle.cxx_spelling.specs.Integers.{no_words, with_word, is_long, integer_type, type_name, suffix_of}
+use Rattle.cxx_spelling.specs.Qualifiers.{no_qualifiers, with_qualifier}
+use Rattle.cxx_spelling.specs.Rules.{rule}
+use Rattle.cxx_spelling.specs.Tokens.{Lexeme, first_token}
+
+-- a name that is being read and written anew
+pub record State : Type 0 where
+  pub token : Lexeme  -- the next token, and what stands behind it
+  pub out : List ℕ  -- what has been written
+  pub qualifiers : Qualifiers  -- the set of qualifiers that is open
+  pub outer : List Qualifiers  -- those around it, the innermost first
+  pub words : IntegerWords  -- the words of an integer type
+  pub parts : List (List Symbol)  -- what is still to come of the rules that were begun, the last one first
+
+-- how far a step comes
+pub data Reached : Type 0 where
+  Going : State → Reached  -- something is still to be done
+  Finished : State → Reached  -- nothing is
+  Refused : Reached  -- no rule takes the next token
+
+-- ---- literals
+
+-- a literal without its suffix ([lex.icon])
+abbrev pub digits_of : List ℕ → List ℕ
+digits_of text = take (until is_suffix_byte text) text
+
+-- the one form of a suffix with so many letters `u` and `l`
+abbrev pub suffix_form : ℕ → ℕ → List ℕ
+suffix_form units longs =
+    if longs == 0 then (if units == 0 then codes "" else codes "u")
+    else if longs == 1 then (if units == 0 then codes "l" else codes "ul")
+    else (if units == 0 then codes "ll" else codes "ull")
+
+abbrev pub suffix_text : List ℕ → List ℕ
+suffix_text text = let letters = drop (until is_suffix_byte text) text in suffix_form (count_by is_unsigned_byte letters) (count_by is_long_byte letters)
+
+-- the literal in a cast: a character as it stands, a number without its suffix
+abbrev pub operand_by : Kind → List ℕ → List ℕ
+operand_by token.Character text = text
+operand_by _ text = digits_of text
+
+abbrev pub operand : Lexeme → List ℕ
+operand t = operand_by t.kind t.text
+
+-- ---- writing
+
+abbrev pub wrote : List ℕ → State → State
+wrote text s = record s { out = s.out ++ text }
+
+abbrev pub wrote_if : Bool → List ℕ → State → State
+wrote_if wanted text s = if wanted then wrote text s else s
+
+abbrev pub advanced : State → State
+advanced s = record s { token = first_token s.token.rest }
+
+-- a text is written for the token
+abbrev pub taken_as : List ℕ → State → State
+taken_as text s = advanced (wrote text s)
+
+-- the text ends with a byte
+abbrev pub ends_with : ℕ → List ℕ → Bool
+ends_with b text = slice_index text (length text - 1) == b
+
+-- qualifiers stand behind their type in one order, each once
+abbrev pub wrote_qualifiers : Qualifiers → State → State
+wrote_qualifiers set s = wrote_if set.restrict (codes " restrict") (wrote_if set.volatile (codes " volatile") (wrote_if set.constant (codes " const") s))
+
+-- a literal of an integer type: with its suffix, or behind its type
+abbrev pub wrote_typed : IntegerType → Option (List ℕ) → List ℕ → State → State
+wrote_typed type (Some suffix) digits s = wrote suffix (wrote digits s)
+wrote_typed type None digits s = wrote digits (wrote (codes ")") (wrote (type_name type) (wrote (codes "(") s)))
+
+-- a literal of `bool`
+abbrev pub wrote_bool : List ℕ → State → State
+wrote_bool digits s =
+    if bytes_eq digits (codes "0") then wrote (codes "false") s
+    else if bytes_eq digits (codes "1") then wrote (codes "true") s
+    else wrote digits (wrote (codes "(bool)") s)
+
+-- ---- what rules do
+
+abbrev pub takes_qualifier : Kind → State → Reached
+takes_qualifier (token.Qualifier one) s = Going (advanced (record s { qualifiers = with_qualifier s.qualifiers one }))
+takes_qualifier _ s = Refused
+
+abbrev pub ends_qualifiers : List Qualifiers → State → Reached
+ends_qualifiers [] s = Refused
+ends_qualifiers (set ∷ outer) s = Going (record (wrote_qualifiers s.qualifiers s) { qualifiers = set; outer = outer })
+
+abbrev pub takes_word : Kind → State → Reached
+takes_word (token.Integer word) s = Going (advanced (record s { words = with_word s.words word }))
+takes_word _ s = Refused
+
+abbrev pub writes_words : Option IntegerType → State → Reached
+writes_words None s = Refused
+writes_words (Some type) s = Going (record (wrote (type_name type) s) { words = no_words })
+
+abbrev pub takes_long_double : State → Reached
+takes_long_double s = if is_long s.words then Going (taken_as (codes "long double") (record s { words = no_words })) else Refused
+
+abbrev pub takes_integer_cast : Option IntegerType → State → Reached
+takes_integer_cast None s = Refused
+takes_integer_cast (Some type) s = Going (advanced (wrote_typed type (suffix_of type) (operand s.token) (record s { words = no_words })))
+
+abbrev pub act : Action → State → Reached
+act action.Take s = Going (taken_as s.token.text s)
+act action.Skip s = Going (advanced s)
+act action.WriteSpace s = Going (wrote (codes " ") s)
+act action.WriteOpen s = Going (wrote (codes "(") s)
+act action.WriteVoid s = Going (wrote (codes "void") s)
+act action.WriteBool s = Going (wrote (codes "bool") s)
+act action.BeginQualifiers s = Going (record s { qualifiers = no_qualifiers; outer = s.qualifiers ∷ s.outer })
+act action.TakeQualifier s = takes_qualifier s.token.kind s
+act action.EndQualifiers s = ends_qualifiers s.outer s
+act action.TakeWord s = takes_word s.token.kind s
+act action.WriteWords s = writes_words (integer_type s.words) s
+act action.TakeLongDouble s = takes_long_double s
+act action.TakeGreater s = Going (taken_as (if ends_with 62 s.out then codes " >" else codes ">") s)
+act action.TakeNestedOpen s = Going (taken_as (if ends_with 42 s.out then codes "(" else codes " (") s)
+act action.TakeNumber s = Going (advanced (wrote (suffix_text s.token.text) (wrote (digits_of s.token.text) s)))
+act action.TakeDigits s = Going (taken_as (digits_of s.token.text) s)
+act action.TakeCharacter s = Going (taken_as s.token.text (wrote (codes "(char)") s))
+act action.TakeIntegerCast s = takes_integer_cast (integer_type s.words) s
+act action.TakeBoolCast s = Going (advanced (wrote_bool (operand s.token) s))
+
+-- ---- steps
+
+-- a symbol becomes what its rule says
+abbrev pub expanded : Option (List Symbol) → State → Reached
+expanded None s = Refused
+expanded (Some symbols) s = Going (record s { parts = symbols ∷ s.parts })
+
+-- a rule has come to its end: the one before it goes on
+abbrev pub closed : List (List Symbol) → State → Reached
+closed [] s = Finished s
+closed (symbols ∷ outer) s = Going (record s { parts = symbols ∷ outer })
+
+abbrev pub performed : Symbol → State → Reached
+performed (Do what) s = act what s
+performed (Expand symbol) s = expanded (rule symbol s.token.kind) s
+
+abbrev pub step_by : List (List Symbol) → State → Reached
+step_by [] s = Finished s
+step_by ([] ∷ outer) s = closed outer s
+step_by ((symbol ∷ symbols) ∷ outer) s = performed symbol (record s { parts = symbols ∷ outer })
+
+abbrev pub step : State → Reached
+step s = step_by s.parts s
+
+-- what has been written where the whole name was taken
+abbrev pub finished_by : Kind → List ℕ → Option (List ℕ)
+finished_by token.End text = Some text
+finished_by _ text = None
+
+abbrev pub finished : State → Option (List ℕ)
+finished s = finished_by s.token.kind s.out
+
+-- what comes of a step, where the rest of the steps goes on
+abbrev pub after : (State → Option (List ℕ)) → Reached → Option (List ℕ)
+after go (Going s) = go s
+after go (Finished s) = finished s
+after go Refused = None
+
+-- so many steps at most; None where the grammar refuses the name, or where they don't suffice
+unfoldable pub run : ℕ → State → Option (List ℕ)
+run zero s = None
+run (suc n) s = after (λ t. run n t) (step s)
+
+-- a name that nothing was read of
+abbrev pub begun : List ℕ → State
+begun name = record { token = first_token name; out = []; qualifiers = no_qualifiers; outer = []; words = no_words; parts = (Expand Start ∷ []) ∷ [] }
+
+-- no name needs as many steps
+abbrev pub steps_for : List ℕ → ℕ
+steps_for name = 32 * length name + 64
+
+-- the longest name that is read, in bytes
+abbrev pub max_length : ℕ
+max_length = 1048576
+
+-- a name written anew; None where it stands as it is
+unfoldable pub translation : List ℕ → Option (List ℕ)
+translation name = if nat_lt max_length (length name) then None else run (steps_for name) (begun name)

@@ -1,0 +1,174 @@
+//! Declarators without a name: the rules.
+
+ghost use Rattle.std.specs.Prelude.{◌≡◌, option_map};
+ghost use Rattle.cxx_spelling.specs.Declarators.{declarator, inner_declarator, inner_rest, nested_declarator, declarator_suffix, parenthesis_end, member_pointer, member_name, member_arguments, member_scope, member_next};
+
+use crate::kind::Kind;
+use crate::symbol::Action::{BeginQualifiers, Skip, Take, TakeNestedOpen, WriteSpace};
+use crate::symbol::Nonterminal::{
+    Array, CvQualifiers, Declarator, DeclaratorSuffix, InnerDeclarator, InnerRest, MemberArguments,
+    MemberName, MemberNext, MemberPointer, MemberScope, MoreArguments, MoreArrays,
+    NestedDeclarator, Parameters, ParenthesisEnd, TemplateArgument,
+};
+use crate::symbol::Symbol;
+use crate::symbol::Symbol::{Do, Expand};
+
+/// Abstract-declarator ([dcl.name]): pointers, references, pointers to members, and functions or arrays behind them.
+pub(crate) fn declarator(kind: Kind) -> Option<&'static [Symbol]>
+    ensures { option_map (λ symbols. symbols.now) result ≡ declarator kind }
+{
+    match kind {
+        Kind::Star => Some(&[
+            Do(Take),
+            Do(BeginQualifiers),
+            Expand(CvQualifiers),
+            Expand(Declarator),
+        ]),
+        Kind::Reference | Kind::RvalueReference => Some(&[Do(Take), Expand(Declarator)]),
+        Kind::Name | Kind::Scope => Some(&[
+            Do(WriteSpace),
+            Expand(MemberPointer),
+            Expand(Declarator),
+        ]),
+        Kind::OpenParenthesis => Some(&[
+            Do(WriteSpace),
+            Do(Take),
+            Expand(InnerDeclarator),
+            Expand(ParenthesisEnd),
+            Expand(DeclaratorSuffix),
+        ]),
+        Kind::OpenBracket => Some(&[Do(WriteSpace), Expand(Array), Expand(MoreArrays)]),
+        _ => Some(&[]),
+    }
+}
+
+/// A declarator in parentheses: it begins with a ptr-operator ([dcl.decl]).
+pub(crate) fn inner_declarator(kind: Kind) -> Option<&'static [Symbol]>
+    ensures { option_map (λ symbols. symbols.now) result ≡ inner_declarator kind }
+{
+    match kind {
+        Kind::Star => Some(&[
+            Do(Take),
+            Do(BeginQualifiers),
+            Expand(CvQualifiers),
+            Expand(InnerRest),
+        ]),
+        Kind::Reference | Kind::RvalueReference => Some(&[Do(Take), Expand(InnerRest)]),
+        Kind::Name | Kind::Scope => Some(&[Expand(MemberPointer), Expand(InnerRest)]),
+        _ => None,
+    }
+}
+
+/// How it goes on.
+pub(crate) fn inner_rest(kind: Kind) -> Option<&'static [Symbol]>
+    ensures { option_map (λ symbols. symbols.now) result ≡ inner_rest kind }
+{
+    match kind {
+        Kind::Star => Some(&[
+            Do(Take),
+            Do(BeginQualifiers),
+            Expand(CvQualifiers),
+            Expand(InnerRest),
+        ]),
+        Kind::Reference | Kind::RvalueReference => Some(&[Do(Take), Expand(InnerRest)]),
+        Kind::Name | Kind::Scope => Some(&[
+            Do(WriteSpace),
+            Expand(MemberPointer),
+            Expand(InnerRest),
+        ]),
+        Kind::OpenParenthesis => Some(&[
+            Do(TakeNestedOpen),
+            Expand(NestedDeclarator),
+            Expand(ParenthesisEnd),
+            Expand(Parameters),
+        ]),
+        Kind::OpenBracket => Some(&[Do(WriteSpace), Expand(Array), Expand(MoreArrays)]),
+        _ => Some(&[]),
+    }
+}
+
+/// One in parentheses again, behind which only parameters may stand.
+pub(crate) fn nested_declarator(kind: Kind) -> Option<&'static [Symbol]>
+    ensures { option_map (λ symbols. symbols.now) result ≡ nested_declarator kind }
+{
+    match kind {
+        Kind::Star | Kind::Reference | Kind::RvalueReference => Some(&[Expand(InnerDeclarator)]),
+        _ => None,
+    }
+}
+
+/// Behind a declarator in parentheses: parameters or bounds.
+pub(crate) fn declarator_suffix(kind: Kind) -> Option<&'static [Symbol]>
+    ensures { option_map (λ symbols. symbols.now) result ≡ declarator_suffix kind }
+{
+    match kind {
+        Kind::OpenParenthesis => Some(&[Expand(Parameters)]),
+        Kind::OpenBracket => Some(&[Do(WriteSpace), Expand(Array), Expand(MoreArrays)]),
+        _ => None,
+    }
+}
+
+/// The end of parentheses.
+pub(crate) fn parenthesis_end(kind: Kind) -> Option<&'static [Symbol]>
+    ensures { option_map (λ symbols. symbols.now) result ≡ parenthesis_end kind }
+{
+    match kind {
+        Kind::CloseParenthesis => Some(&[Do(Take)]),
+        _ => None,
+    }
+}
+
+/// Ptr-operator of a member ([dcl.mptr]).
+pub(crate) fn member_pointer(kind: Kind) -> Option<&'static [Symbol]>
+    ensures { option_map (λ symbols. symbols.now) result ≡ member_pointer kind }
+{
+    match kind {
+        Kind::Scope => Some(&[Do(Skip), Expand(MemberName)]),
+        _ => Some(&[Expand(MemberName)]),
+    }
+}
+
+/// The class of the member.
+pub(crate) fn member_name(kind: Kind) -> Option<&'static [Symbol]>
+    ensures { option_map (λ symbols. symbols.now) result ≡ member_name kind }
+{
+    match kind {
+        Kind::Name => Some(&[Do(Take), Expand(MemberArguments)]),
+        _ => None,
+    }
+}
+
+/// Its arguments.
+pub(crate) fn member_arguments(kind: Kind) -> Option<&'static [Symbol]>
+    ensures { option_map (λ symbols. symbols.now) result ≡ member_arguments kind }
+{
+    match kind {
+        Kind::Less => Some(&[
+            Do(Take),
+            Expand(TemplateArgument),
+            Expand(MoreArguments),
+            Expand(MemberScope),
+        ]),
+        _ => Some(&[Expand(MemberScope)]),
+    }
+}
+
+/// Its end.
+pub(crate) fn member_scope(kind: Kind) -> Option<&'static [Symbol]>
+    ensures { option_map (λ symbols. symbols.now) result ≡ member_scope kind }
+{
+    match kind {
+        Kind::Scope => Some(&[Do(Take), Expand(MemberNext)]),
+        _ => None,
+    }
+}
+
+/// `*`, or a class inside of it.
+pub(crate) fn member_next(kind: Kind) -> Option<&'static [Symbol]>
+    ensures { option_map (λ symbols. symbols.now) result ≡ member_next kind }
+{
+    match kind {
+        Kind::Star => Some(&[Do(Take), Do(BeginQualifiers), Expand(CvQualifiers)]),
+        _ => Some(&[Expand(MemberName)]),
+    }
+}

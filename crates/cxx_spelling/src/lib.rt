@@ -1,0 +1,37 @@
+//! C++ names as gdb spells them: `Box<unsigned long>` for `Box<long unsigned int>`.
+//!
+//! A name is read as a sequence of tokens (C++, [lex.token]) and written anew by a grammar, each rule of which is chosen
+//! by the next token alone. gdb writes what it reads in the order in which it stands, but for qualifiers, which move
+//! behind their type, and the words of integer types, which become one name: so no tree is needed, and a name is
+//! written in one pass. What the grammar refuses stays as it stands.
+//!
+//! Covered are types ([dcl.name]), with pointers, references, arrays, functions and pointers to members, names with their
+//! template arguments ([temp.names]), literals and casts of literals, addresses, functions with their parameters, and
+//! conversion functions. Not covered, so that such a name stays as it stands: other operators, destructors,
+//! floating-point literals, expressions with operators, the address of a template or of a function with its parameters,
+//! pointers to arrays inside of a declarator in parentheses, names that demanglers write, as `vtable for A`.
+#![tactic(auto)]
+
+mod bytes;
+mod casts;
+mod declarators;
+mod functions;
+mod integers;
+mod keywords;
+mod kind;
+mod literals;
+mod names;
+mod punctuation;
+mod qualifiers;
+mod rules;
+mod spelled;
+mod symbol;
+mod token;
+mod translation;
+mod types;
+mod writing;
+
+pub use spelled::{SpelledName, spelling};
+
+#[cfg(test)]
+mod tests;

@@ -1,0 +1,123 @@
+//! Names and their template arguments: the rules.
+
+ghost use Rattle.std.specs.Prelude.{◌≡◌, option_map};
+ghost use Rattle.cxx_spelling.specs.Names.{qualified_name, name_arguments, name_rest, more_arguments, template_argument, address, address_name, address_rest, address_scope};
+
+use crate::kind::Kind;
+use crate::symbol::Action::{Skip, Take, TakeCharacter, TakeGreater, TakeNumber, WriteSpace};
+use crate::symbol::Nonterminal::{
+    Address, AddressName, AddressRest, AddressScope, MoreArguments, NameArguments, NameRest,
+    Parenthesised, QualifiedName, TemplateArgument, TypeId,
+};
+use crate::symbol::Symbol;
+use crate::symbol::Symbol::{Do, Expand};
+
+/// Qualified-id without what names the global namespace ([expr.prim.id.qual]).
+pub(crate) fn qualified_name(kind: Kind) -> Option<&'static [Symbol]>
+    ensures { option_map (λ symbols. symbols.now) result ≡ qualified_name kind }
+{
+    match kind {
+        Kind::Name => Some(&[Do(Take), Expand(NameArguments)]),
+        _ => None,
+    }
+}
+
+/// Simple-template-id ([temp.names]): a name may have arguments.
+pub(crate) fn name_arguments(kind: Kind) -> Option<&'static [Symbol]>
+    ensures { option_map (λ symbols. symbols.now) result ≡ name_arguments kind }
+{
+    match kind {
+        Kind::Less => Some(&[
+            Do(Take),
+            Expand(TemplateArgument),
+            Expand(MoreArguments),
+            Expand(NameRest),
+        ]),
+        _ => Some(&[Expand(NameRest)]),
+    }
+}
+
+/// Nested-name-specifier: behind `::` a name goes on.
+pub(crate) fn name_rest(kind: Kind) -> Option<&'static [Symbol]>
+    ensures { option_map (λ symbols. symbols.now) result ≡ name_rest kind }
+{
+    match kind {
+        Kind::Scope => Some(&[Do(Take), Expand(QualifiedName)]),
+        _ => Some(&[]),
+    }
+}
+
+/// Template-argument-list ([temp.names]): it has an argument at least.
+pub(crate) fn more_arguments(kind: Kind) -> Option<&'static [Symbol]>
+    ensures { option_map (λ symbols. symbols.now) result ≡ more_arguments kind }
+{
+    match kind {
+        Kind::Comma => Some(&[
+            Do(Take),
+            Do(WriteSpace),
+            Expand(TemplateArgument),
+            Expand(MoreArguments),
+        ]),
+        Kind::Greater => Some(&[Do(TakeGreater)]),
+        _ => None,
+    }
+}
+
+/// Template-argument: a type-id or a constant.
+pub(crate) fn template_argument(kind: Kind) -> Option<&'static [Symbol]>
+    ensures { option_map (λ symbols. symbols.now) result ≡ template_argument kind }
+{
+    match kind {
+        Kind::Reference => Some(&[Do(Take), Expand(Address)]),
+        Kind::OpenParenthesis => Some(&[Do(Skip), Expand(Parenthesised)]),
+        Kind::Number => Some(&[Do(TakeNumber)]),
+        Kind::Character => Some(&[Do(TakeCharacter)]),
+        Kind::Truth => Some(&[Do(Take)]),
+        _ => Some(&[Expand(TypeId)]),
+    }
+}
+
+/// The address of a variable or a function.
+pub(crate) fn address(kind: Kind) -> Option<&'static [Symbol]>
+    ensures { option_map (λ symbols. symbols.now) result ≡ address kind }
+{
+    match kind {
+        Kind::Scope => Some(&[Do(Skip), Expand(AddressName)]),
+        _ => Some(&[Expand(AddressName)]),
+    }
+}
+
+/// Its name.
+pub(crate) fn address_name(kind: Kind) -> Option<&'static [Symbol]>
+    ensures { option_map (λ symbols. symbols.now) result ≡ address_name kind }
+{
+    match kind {
+        Kind::Name => Some(&[Do(Take), Expand(AddressRest)]),
+        _ => None,
+    }
+}
+
+/// The rest of its name.
+pub(crate) fn address_rest(kind: Kind) -> Option<&'static [Symbol]>
+    ensures { option_map (λ symbols. symbols.now) result ≡ address_rest kind }
+{
+    match kind {
+        Kind::Less => Some(&[
+            Do(Take),
+            Expand(TemplateArgument),
+            Expand(MoreArguments),
+            Expand(AddressScope),
+        ]),
+        _ => Some(&[Expand(NameRest)]),
+    }
+}
+
+/// A template may stand in its scope; the address of a template is written otherwise, and has no rule.
+pub(crate) fn address_scope(kind: Kind) -> Option<&'static [Symbol]>
+    ensures { option_map (λ symbols. symbols.now) result ≡ address_scope kind }
+{
+    match kind {
+        Kind::Scope => Some(&[Do(Take), Expand(QualifiedName)]),
+        _ => None,
+    }
+}

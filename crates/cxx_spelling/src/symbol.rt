@@ -1,0 +1,99 @@
+//! The symbols of the grammar.
+
+/// What a rule is made of: a symbol that rules expand, or something to do.
+#[derive(Clone, Copy)]
+pub(crate) enum Symbol {
+    Expand(Nonterminal),
+    Do(Action),
+}
+
+/// A symbol that rules expand. The rules say what each stands for.
+#[derive(Clone, Copy)]
+pub(crate) enum Nonterminal {
+    QualifiedName,
+    NameArguments,
+    NameRest,
+    MoreArguments,
+    TemplateArgument,
+    Address,
+    AddressName,
+    AddressRest,
+    AddressScope,
+    TypeId,
+    TypeSpecifier,
+    MoreWords,
+    CvQualifiers,
+    Array,
+    ArrayBound,
+    BracketEnd,
+    MoreArrays,
+    Parameters,
+    ParameterList,
+    AfterVoid,
+    MoreParameters,
+    Parameter,
+    Parenthesised,
+    GroupEnd,
+    CastWords,
+    CastBool,
+    CastEnd,
+    CastOperand,
+    IntegerOperand,
+    BoolOperand,
+    Declarator,
+    InnerDeclarator,
+    InnerRest,
+    NestedDeclarator,
+    DeclaratorSuffix,
+    ParenthesisEnd,
+    MemberPointer,
+    MemberName,
+    MemberArguments,
+    MemberScope,
+    MemberNext,
+    Start,
+    StartRest,
+    StartParenthesis,
+    StartName,
+    StartArguments,
+    StartEnd,
+    StartNext,
+    Local,
+    ConversionRest,
+}
+/// Something to do with the next token or the text.
+#[derive(Clone, Copy)]
+pub(crate) enum Action {
+    /// The token is written as it stands.
+    Take,
+    /// The token falls.
+    Skip,
+    WriteSpace,
+    /// `(`
+    WriteOpen,
+    WriteVoid,
+    WriteBool,
+    /// A set of qualifiers begins, inside of the one that is open.
+    BeginQualifiers,
+    TakeQualifier,
+    /// The set is written, and the one around it is open again.
+    EndQualifiers,
+    TakeWord,
+    /// The integer type of the words is written.
+    WriteWords,
+    TakeLongDouble,
+    /// The end of template arguments, never as `>>`.
+    TakeGreater,
+    /// A `(` inside of a declarator, behind a blank unless it stands behind a `*`.
+    TakeNestedOpen,
+    /// A literal, its suffix in its one form.
+    TakeNumber,
+    /// A literal without its suffix.
+    TakeDigits,
+    /// A character behind its type.
+    TakeCharacter,
+    /// A literal of the integer type of the words.
+    TakeIntegerCast,
+    /// A literal of `bool`.
+    TakeBoolCast,
+}

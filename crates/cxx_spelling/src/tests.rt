@@ -1,0 +1,151 @@
+//! Names with the spelling that gdb 13 has for them in an index that it writes.
+
+use crate::spelled::spelling;
+use std::alloc::Global;
+use std::process::Abort;
+use std::test::Fail;
+
+type Row = (&'static [u8], &'static [u8]);
+
+const TYPES: &[Row] = &[
+    (b"unsigned", b"unsigned int"),
+    (b"signed", b"int"),
+    (b"short int", b"short"),
+    (b"long long unsigned int", b"unsigned long long"),
+    (b"char unsigned", b"unsigned char"),
+    (b"long double", b"long double"),
+    (b"const long double", b"long double const"),
+    (b"restrict volatile const A", b"A const volatile restrict"),
+    (b"const char *const *", b"char const* const*"),
+    (b"Box<long unsigned int>", b"Box<unsigned long>"),
+    (b"A < int ,char > ", b"A<int, char>"),
+    (b"A<B<C<long int> > >::D", b"A<B<C<long> > >::D"),
+    (b"const A<const long int>", b"A<long const> const"),
+    (b"::A<::B<long int>::C>", b"A<B<long>::C>"),
+    (
+        b"(anonymous namespace)::A<long int>",
+        b"(anonymous namespace)::A<long>",
+    ),
+    (b"unsigned __int128", b"unsigned int __int128"),
+];
+
+const DECLARATORS: &[Row] = &[
+    (b"A<long int &, B&&>", b"A<long&, B&&>"),
+    (b"A<int(*)(long int)>", b"A<int (*)(long)>"),
+    (
+        b"A<int (*(*)(char))(long int)>",
+        b"A<int (*(*)(char))(long)>",
+    ),
+    (b"A<int (&)[3]>", b"A<int (&) [3]>"),
+    (b"A<int*[2][3]>", b"A<int* [2][3]>"),
+    (b"A<long int[5ul]>", b"A<long [5ul]>"),
+    (
+        b"A<void(::C::*)(long int) const>",
+        b"A<void (C::*)(long) const>",
+    ),
+    (b"A<B*C<long int>::D::*const>", b"A<B* C<long>::D::* const>"),
+    (b"A<int (* const)(void)>", b"A<int (* const)()>"),
+    (b"A<int (*)(void*, ...)>", b"A<int (*)(void*, ...)>"),
+    (b"A<int (*[3])(long int)>", b"A<int (* [3])(long)>"),
+];
+
+const CONSTANTS: &[Row] = &[
+    (
+        b"A<(bool)1, (bool)0, (bool)2, true>",
+        b"A<true, false, (bool)2, true>",
+    ),
+    (
+        b"A<(unsigned long)4, (int)-1, (short)1>",
+        b"A<4ul, -1, (short)1>",
+    ),
+    (b"A<4LU, 1lll, 0x10u>", b"A<4ul, 1ll, 0x10u>"),
+    (
+        b"A<(E)2u, (N::E)-1, (const int)4>",
+        b"A<(E)2, (N::E)-1, (int const)4>",
+    ),
+    (
+        b"A<'a', (char)97, (unsigned)'a'>",
+        b"A<(char)'a', (char)97, 'a'u>",
+    ),
+    (
+        b"A<'\\n', '\\177', '\\''>",
+        b"A<(char)'\\n', (char)'\\177', (char)'\\''>",
+    ),
+    (b"A<(& N::f<int>), (& f)>", b"A<&N::f<int>, &f>"),
+    (b"A<((E)1), (-1), (void*)0>", b"A<(E)1, -1, (void*)0>"),
+];
+
+const FUNCTIONS: &[Row] = &[
+    (b"operator const char *", b"operator char const*"),
+    (
+        b"operator A<long unsigned int>&",
+        b"operator A<unsigned long>&",
+    ),
+    (b"f(void)", b"f()"),
+    (
+        b"f<long int>(long int,char) const",
+        b"f<long>(long, char) const",
+    ),
+    (b"f(long int)::A::B", b"f(long)::A::B"),
+    (b"void N::f<long int>(long int)", b"void N::f<long>(long)"),
+    (b"A (*)(long int)", b"A (*)(long)"),
+];
+
+// What gdb's grammar refuses.
+const REFUSED: &[Row] = &[
+    (b"A<B<long int>>", b"A<B<long int>>"),
+    (b"A<void (long int)>", b"A<void (long int)>"),
+    (b"A<>", b"A<>"),
+    (b"A<long int, >", b"A<long int, >"),
+    (b"operator==", b"operator=="),
+    (b"operator==<long int>", b"operator==<long int>"),
+    (b"~A<long int>", b"~A<long int>"),
+    (
+        b"A<main()::<lambda(long int)> >",
+        b"A<main()::<lambda(long int)> >",
+    ),
+    (b"A<long int, {...}>", b"A<long int, {...}>"),
+    (b"A<struct B, long int>", b"A<struct B, long int>"),
+    (b"__int128 unsigned const", b"__int128 unsigned const"),
+    (b"A<long int, \"abc\">", b"A<long int, \"abc\">"),
+    (b"A<long int, x + 1>", b"A<long int, x + 1>"),
+    (
+        b"A<decltype(nullptr), long int>",
+        b"A<decltype(nullptr), long int>",
+    ),
+    (b"unsigned signed", b"unsigned signed"),
+    (b"", b""),
+];
+
+fn are_spelled(rt: &impl Abort, alloc: Global, rows: &[Row]) -> Result<(), Fail> {
+    for (name, wanted) in rows {
+        let spelled = spelling(alloc, name)?;
+        assert_eq!(rt; spelled.bytes(), *wanted);
+    }
+    Ok(())
+}
+
+#[test]
+fn types(rt: HostRuntime) -> Result<(), Fail> {
+    are_spelled(&rt, rt.alloc(), TYPES)
+}
+
+#[test]
+fn declarators(rt: HostRuntime) -> Result<(), Fail> {
+    are_spelled(&rt, rt.alloc(), DECLARATORS)
+}
+
+#[test]
+fn constants(rt: HostRuntime) -> Result<(), Fail> {
+    are_spelled(&rt, rt.alloc(), CONSTANTS)
+}
+
+#[test]
+fn functions(rt: HostRuntime) -> Result<(), Fail> {
+    are_spelled(&rt, rt.alloc(), FUNCTIONS)
+}
+
+#[test]
+fn refused(rt: HostRuntime) -> Result<(), Fail> {
+    are_spelled(&rt, rt.alloc(), REFUSED)
+}
