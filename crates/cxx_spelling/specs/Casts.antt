@@ -33,12 +33,12 @@ abbrev pub cast_bool : Kind → Option (List Symbol)
 cast_bool token.CloseParenthesis = Some (Do Skip ∷ Expand BoolOperand ∷ [])
 cast_bool _ = Some (Do WriteOpen ∷ Do WriteBool ∷ Do BeginQualifiers ∷ Expand CvQualifiers ∷ Expand Declarator ∷ Expand CastEnd ∷ [])
 
--- any other cast
+-- the end of any other cast
 abbrev pub cast_end : Kind → Option (List Symbol)
 cast_end token.CloseParenthesis = Some (Do Take ∷ Expand CastOperand ∷ [])
 cast_end _ = None
 
--- its literal, which stands without a suffix
+-- the literal that is cast, which stands without a suffix
 abbrev pub cast_operand : Kind → Option (List Symbol)
 cast_operand token.Number = Some (Do TakeDigits ∷ [])
 cast_operand token.Character = Some (Do Take ∷ [])

@@ -4,7 +4,7 @@ use Rattle.cxx_spelling.specs.declared.kind.Kind.{Kind}
 use Rattle.cxx_spelling.specs.declared.kind.Kind.TheVariants as token
 use Rattle.cxx_spelling.specs.declared.symbol.Symbol.{Symbol}
 use Rattle.cxx_spelling.specs.declared.symbol.Symbol.TheVariants.{Do, Expand}
-use Rattle.cxx_spelling.specs.declared.symbol.Action.TheVariants.{BeginQualifiers, Skip, Take, TakeNestedOpen, WriteSpace}
+use Rattle.cxx_spelling.specs.declared.symbol.Action.TheVariants.{BeginQualifiers, Skip, Take, WriteNestedOpen, WriteOpen, WriteSpace}
 use Rattle.cxx_spelling.specs.declared.symbol.Nonterminal.TheVariants.{Array, CvQualifiers, Declarator, DeclaratorSuffix, InnerDeclarator, InnerRest, MemberArguments, MemberName, MemberNext, MemberPointer, MemberScope, MoreArguments, MoreArrays, NestedDeclarator, Parameters, ParenthesisEnd, TemplateArgument}
 
 -- abstract-declarator ([dcl.name]): pointers, references, pointers to members, and functions or arrays behind them
@@ -27,22 +27,24 @@ inner_declarator token.Name = Some (Expand MemberPointer ∷ Expand InnerRest �
 inner_declarator token.Scope = Some (Expand MemberPointer ∷ Expand InnerRest ∷ [])
 inner_declarator _ = None
 
--- how it goes on
+-- further ptr-operators of a declarator in parentheses, and what stands behind them
 abbrev pub inner_rest : Kind → Option (List Symbol)
 inner_rest token.Star = Some (Do Take ∷ Do BeginQualifiers ∷ Expand CvQualifiers ∷ Expand InnerRest ∷ [])
 inner_rest token.Reference = Some (Do Take ∷ Expand InnerRest ∷ [])
 inner_rest token.RvalueReference = Some (Do Take ∷ Expand InnerRest ∷ [])
 inner_rest token.Name = Some (Do WriteSpace ∷ Expand MemberPointer ∷ Expand InnerRest ∷ [])
 inner_rest token.Scope = Some (Do WriteSpace ∷ Expand MemberPointer ∷ Expand InnerRest ∷ [])
-inner_rest token.OpenParenthesis = Some (Do TakeNestedOpen ∷ Expand NestedDeclarator ∷ Expand ParenthesisEnd ∷ Expand Parameters ∷ [])
+inner_rest token.OpenParenthesis = Some (Do Skip ∷ Expand NestedDeclarator ∷ Expand ParenthesisEnd ∷ Expand Parameters ∷ [])
 inner_rest token.OpenBracket = Some (Do WriteSpace ∷ Expand Array ∷ Expand MoreArrays ∷ [])
 inner_rest _ = Some []
 
--- one in parentheses again, behind which only parameters may stand
+-- a declarator in parentheses inside of one, behind a `(` that is not written yet: only parameters may stand behind it
 abbrev pub nested_declarator : Kind → Option (List Symbol)
-nested_declarator token.Star = Some (Expand InnerDeclarator ∷ [])
-nested_declarator token.Reference = Some (Expand InnerDeclarator ∷ [])
-nested_declarator token.RvalueReference = Some (Expand InnerDeclarator ∷ [])
+nested_declarator token.Star = Some (Do WriteNestedOpen ∷ Expand InnerDeclarator ∷ [])
+nested_declarator token.Reference = Some (Do WriteNestedOpen ∷ Expand InnerDeclarator ∷ [])
+nested_declarator token.RvalueReference = Some (Do WriteNestedOpen ∷ Expand InnerDeclarator ∷ [])
+nested_declarator token.Name = Some (Do WriteSpace ∷ Do WriteOpen ∷ Expand InnerDeclarator ∷ [])
+nested_declarator token.Scope = Some (Do WriteSpace ∷ Do WriteOpen ∷ Expand InnerDeclarator ∷ [])
 nested_declarator _ = None
 
 -- behind a declarator in parentheses: parameters or bounds
@@ -61,22 +63,22 @@ abbrev pub member_pointer : Kind → Option (List Symbol)
 member_pointer token.Scope = Some (Do Skip ∷ Expand MemberName ∷ [])
 member_pointer _ = Some (Expand MemberName ∷ [])
 
--- the class of the member
+-- the class of a member
 abbrev pub member_name : Kind → Option (List Symbol)
 member_name token.Name = Some (Do Take ∷ Expand MemberArguments ∷ [])
 member_name _ = None
 
--- its arguments
+-- its template arguments
 abbrev pub member_arguments : Kind → Option (List Symbol)
 member_arguments token.Less = Some (Do Take ∷ Expand TemplateArgument ∷ Expand MoreArguments ∷ Expand MemberScope ∷ [])
 member_arguments _ = Some (Expand MemberScope ∷ [])
 
--- its end
+-- the `::` behind a class
 abbrev pub member_scope : Kind → Option (List Symbol)
 member_scope token.Scope = Some (Do Take ∷ Expand MemberNext ∷ [])
 member_scope _ = None
 
--- `*`, or a class inside of it
+-- `*`, or a class inside of the class
 abbrev pub member_next : Kind → Option (List Symbol)
 member_next token.Star = Some (Do Take ∷ Do BeginQualifiers ∷ Expand CvQualifiers ∷ [])
 member_next _ = Some (Expand MemberName ∷ [])

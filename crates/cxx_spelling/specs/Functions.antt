@@ -12,7 +12,7 @@ abbrev pub start : Kind → Option (List Symbol)
 start token.Operator = Some (Do Take ∷ Do WriteSpace ∷ Do BeginQualifiers ∷ Expand TypeSpecifier ∷ Expand ConversionRest ∷ [])
 start _ = Some (Do BeginQualifiers ∷ Expand TypeSpecifier ∷ Expand StartRest ∷ [])
 
--- behind its type or its name
+-- what stands behind the type or the name that a whole name begins with
 abbrev pub start_rest : Kind → Option (List Symbol)
 start_rest token.OpenParenthesis = Some (Do Skip ∷ Expand StartParenthesis ∷ [])
 start_rest token.Name = Some (Do WriteSpace ∷ Expand StartName ∷ [])
@@ -31,18 +31,18 @@ abbrev pub start_name : Kind → Option (List Symbol)
 start_name token.Name = Some (Do Take ∷ Expand StartArguments ∷ [])
 start_name _ = None
 
--- its arguments
+-- the template arguments there
 abbrev pub start_arguments : Kind → Option (List Symbol)
 start_arguments token.Less = Some (Do Take ∷ Expand TemplateArgument ∷ Expand MoreArguments ∷ Expand StartEnd ∷ [])
 start_arguments _ = Some (Expand StartEnd ∷ [])
 
--- how it ends
+-- the scope of a member or of a function, or the parameters of a function
 abbrev pub start_end : Kind → Option (List Symbol)
 start_end token.Scope = Some (Do Take ∷ Expand StartNext ∷ [])
 start_end token.OpenParenthesis = Some (Expand Parameters ∷ Expand Local ∷ [])
 start_end _ = Some []
 
--- what stands in its scope
+-- `*`, or what stands in that scope
 abbrev pub start_next : Kind → Option (List Symbol)
 start_next token.Star = Some (Do Take ∷ Do BeginQualifiers ∷ Expand CvQualifiers ∷ Expand Declarator ∷ [])
 start_next _ = Some (Expand StartName ∷ [])

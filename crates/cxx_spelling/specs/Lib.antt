@@ -12,3 +12,4 @@ pub mod Spelling
 pub mod Tokens
 pub mod Translation
 pub mod Types
+pub mod Vectors

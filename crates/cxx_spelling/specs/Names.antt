@@ -42,17 +42,17 @@ abbrev pub address : Kind → Option (List Symbol)
 address token.Scope = Some (Do Skip ∷ Expand AddressName ∷ [])
 address _ = Some (Expand AddressName ∷ [])
 
--- its name
+-- the name whose address is taken
 abbrev pub address_name : Kind → Option (List Symbol)
 address_name token.Name = Some (Do Take ∷ Expand AddressRest ∷ [])
 address_name _ = None
 
--- the rest of its name
+-- its arguments, where it is a template
 abbrev pub address_rest : Kind → Option (List Symbol)
 address_rest token.Less = Some (Do Take ∷ Expand TemplateArgument ∷ Expand MoreArguments ∷ Expand AddressScope ∷ [])
 address_rest _ = Some (Expand NameRest ∷ [])
 
--- a template may stand in its scope; the address of a template is written otherwise, and has no rule
+-- a template there has to be the scope of a name: the address of a template is written otherwise, and has no rule
 abbrev pub address_scope : Kind → Option (List Symbol)
 address_scope token.Scope = Some (Do Take ∷ Expand QualifiedName ∷ [])
 address_scope _ = None

@@ -38,7 +38,7 @@ abbrev pub array : Kind → Option (List Symbol)
 array token.OpenBracket = Some (Do Take ∷ Expand ArrayBound ∷ [])
 array _ = None
 
--- a literal, or nothing
+-- the number of elements, or nothing
 abbrev pub array_bound : Kind → Option (List Symbol)
 array_bound token.Number = Some (Do TakeNumber ∷ Expand BracketEnd ∷ [])
 array_bound token.Character = Some (Do TakeCharacter ∷ Expand BracketEnd ∷ [])

@@ -75,7 +75,7 @@ pub(crate) fn cast_bool(kind: Kind) -> Option<&'static [Symbol]>
     }
 }
 
-/// Any other cast.
+/// The end of any other cast.
 pub(crate) fn cast_end(kind: Kind) -> Option<&'static [Symbol]>
     ensures { option_map (λ symbols. symbols.now) result ≡ cast_end kind }
 {
@@ -85,7 +85,7 @@ pub(crate) fn cast_end(kind: Kind) -> Option<&'static [Symbol]>
     }
 }
 
-/// Its literal, which stands without a suffix.
+/// The literal that is cast, which stands without a suffix.
 pub(crate) fn cast_operand(kind: Kind) -> Option<&'static [Symbol]>
     ensures { option_map (λ symbols. symbols.now) result ≡ cast_operand kind }
 {

@@ -4,7 +4,7 @@ ghost use Rattle.std.specs.Prelude.{◌≡◌, option_map};
 ghost use Rattle.cxx_spelling.specs.Declarators.{declarator, inner_declarator, inner_rest, nested_declarator, declarator_suffix, parenthesis_end, member_pointer, member_name, member_arguments, member_scope, member_next};
 
 use crate::kind::Kind;
-use crate::symbol::Action::{BeginQualifiers, Skip, Take, TakeNestedOpen, WriteSpace};
+use crate::symbol::Action::{BeginQualifiers, Skip, Take, WriteNestedOpen, WriteOpen, WriteSpace};
 use crate::symbol::Nonterminal::{
     Array, CvQualifiers, Declarator, DeclaratorSuffix, InnerDeclarator, InnerRest, MemberArguments,
     MemberName, MemberNext, MemberPointer, MemberScope, MoreArguments, MoreArrays,
@@ -59,7 +59,7 @@ pub(crate) fn inner_declarator(kind: Kind) -> Option<&'static [Symbol]>
     }
 }
 
-/// How it goes on.
+/// Further ptr-operators of a declarator in parentheses, and what stands behind them.
 pub(crate) fn inner_rest(kind: Kind) -> Option<&'static [Symbol]>
     ensures { option_map (λ symbols. symbols.now) result ≡ inner_rest kind }
 {
@@ -77,7 +77,7 @@ pub(crate) fn inner_rest(kind: Kind) -> Option<&'static [Symbol]>
             Expand(InnerRest),
         ]),
         Kind::OpenParenthesis => Some(&[
-            Do(TakeNestedOpen),
+            Do(Skip),
             Expand(NestedDeclarator),
             Expand(ParenthesisEnd),
             Expand(Parameters),
@@ -87,12 +87,16 @@ pub(crate) fn inner_rest(kind: Kind) -> Option<&'static [Symbol]>
     }
 }
 
-/// One in parentheses again, behind which only parameters may stand.
+/// A declarator in parentheses inside of one, behind a `(` that is not written yet: only parameters may stand behind it.
 pub(crate) fn nested_declarator(kind: Kind) -> Option<&'static [Symbol]>
     ensures { option_map (λ symbols. symbols.now) result ≡ nested_declarator kind }
 {
     match kind {
-        Kind::Star | Kind::Reference | Kind::RvalueReference => Some(&[Expand(InnerDeclarator)]),
+        Kind::Star | Kind::Reference | Kind::RvalueReference => Some(&[
+            Do(WriteNestedOpen),
+            Expand(InnerDeclarator),
+        ]),
+        Kind::Name | Kind::Scope => Some(&[Do(WriteSpace), Do(WriteOpen), Expand(InnerDeclarator)]),
         _ => None,
     }
 }
@@ -128,7 +132,7 @@ pub(crate) fn member_pointer(kind: Kind) -> Option<&'static [Symbol]>
     }
 }
 
-/// The class of the member.
+/// The class of a member.
 pub(crate) fn member_name(kind: Kind) -> Option<&'static [Symbol]>
     ensures { option_map (λ symbols. symbols.now) result ≡ member_name kind }
 {
@@ -138,7 +142,7 @@ pub(crate) fn member_name(kind: Kind) -> Option<&'static [Symbol]>
     }
 }
 
-/// Its arguments.
+/// Its template arguments.
 pub(crate) fn member_arguments(kind: Kind) -> Option<&'static [Symbol]>
     ensures { option_map (λ symbols. symbols.now) result ≡ member_arguments kind }
 {
@@ -153,7 +157,7 @@ pub(crate) fn member_arguments(kind: Kind) -> Option<&'static [Symbol]>
     }
 }
 
-/// Its end.
+/// The `::` behind a class.
 pub(crate) fn member_scope(kind: Kind) -> Option<&'static [Symbol]>
     ensures { option_map (λ symbols. symbols.now) result ≡ member_scope kind }
 {
@@ -163,7 +167,7 @@ pub(crate) fn member_scope(kind: Kind) -> Option<&'static [Symbol]>
     }
 }
 
-/// `*`, or a class inside of it.
+/// `*`, or a class inside of the class.
 pub(crate) fn member_next(kind: Kind) -> Option<&'static [Symbol]>
     ensures { option_map (λ symbols. symbols.now) result ≡ member_next kind }
 {

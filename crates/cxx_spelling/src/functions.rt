@@ -33,7 +33,7 @@ pub(crate) fn start(kind: Kind) -> Option<&'static [Symbol]>
     }
 }
 
-/// Behind its type or its name.
+/// What stands behind the type or the name that a whole name begins with.
 pub(crate) fn start_rest(kind: Kind) -> Option<&'static [Symbol]>
     ensures { option_map (λ symbols. symbols.now) result ≡ start_rest kind }
 {
@@ -71,7 +71,7 @@ pub(crate) fn start_name(kind: Kind) -> Option<&'static [Symbol]>
     }
 }
 
-/// Its arguments.
+/// The template arguments there.
 pub(crate) fn start_arguments(kind: Kind) -> Option<&'static [Symbol]>
     ensures { option_map (λ symbols. symbols.now) result ≡ start_arguments kind }
 {
@@ -86,7 +86,7 @@ pub(crate) fn start_arguments(kind: Kind) -> Option<&'static [Symbol]>
     }
 }
 
-/// How it ends.
+/// The scope of a member or of a function, or the parameters of a function.
 pub(crate) fn start_end(kind: Kind) -> Option<&'static [Symbol]>
     ensures { option_map (λ symbols. symbols.now) result ≡ start_end kind }
 {
@@ -97,7 +97,7 @@ pub(crate) fn start_end(kind: Kind) -> Option<&'static [Symbol]>
     }
 }
 
-/// What stands in its scope.
+/// `*`, or what stands in that scope.
 pub(crate) fn start_next(kind: Kind) -> Option<&'static [Symbol]>
     ensures { option_map (λ symbols. symbols.now) result ≡ start_next kind }
 {

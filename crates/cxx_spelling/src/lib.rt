@@ -29,6 +29,7 @@ mod symbol;
 mod token;
 mod translation;
 mod types;
+pub mod vectors;
 mod writing;
 
 pub use spelled::{SpelledName, spelling};

@@ -87,7 +87,7 @@ pub(crate) fn address(kind: Kind) -> Option<&'static [Symbol]>
     }
 }
 
-/// Its name.
+/// The name whose address is taken.
 pub(crate) fn address_name(kind: Kind) -> Option<&'static [Symbol]>
     ensures { option_map (λ symbols. symbols.now) result ≡ address_name kind }
 {
@@ -97,7 +97,7 @@ pub(crate) fn address_name(kind: Kind) -> Option<&'static [Symbol]>
     }
 }
 
-/// The rest of its name.
+/// Its arguments, where it is a template.
 pub(crate) fn address_rest(kind: Kind) -> Option<&'static [Symbol]>
     ensures { option_map (λ symbols. symbols.now) result ≡ address_rest kind }
 {
@@ -112,7 +112,7 @@ pub(crate) fn address_rest(kind: Kind) -> Option<&'static [Symbol]>
     }
 }
 
-/// A template may stand in its scope; the address of a template is written otherwise, and has no rule.
+/// A template there has to be the scope of a name: the address of a template is written otherwise, and has no rule.
 pub(crate) fn address_scope(kind: Kind) -> Option<&'static [Symbol]>
     ensures { option_map (λ symbols. symbols.now) result ≡ address_scope kind }
 {

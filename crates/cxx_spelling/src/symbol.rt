@@ -84,8 +84,8 @@ pub(crate) enum Action {
     TakeLongDouble,
     /// The end of template arguments, never as `>>`.
     TakeGreater,
-    /// A `(` inside of a declarator, behind a blank unless it stands behind a `*`.
-    TakeNestedOpen,
+    /// The `(` of a declarator inside of another one, behind a blank unless it stands behind a `*`.
+    WriteNestedOpen,
     /// A literal, its suffix in its one form.
     TakeNumber,
     /// A literal without its suffix.

@@ -36,6 +36,10 @@ const DECLARATORS: &[Row] = &[
         b"A<int (*(*)(char))(long int)>",
         b"A<int (*(*)(char))(long)>",
     ),
+    (
+        b"A<int (*(C::*)(char) const)(long int)>",
+        b"A<int (* (C::*)(char) const)(long)>",
+    ),
     (b"A<int (&)[3]>", b"A<int (&) [3]>"),
     (b"A<int*[2][3]>", b"A<int* [2][3]>"),
     (b"A<long int[5ul]>", b"A<long [5ul]>"),

@@ -71,7 +71,7 @@ pub(crate) fn array(kind: Kind) -> Option<&'static [Symbol]>
     }
 }
 
-/// A literal, or nothing.
+/// The number of elements, or nothing.
 pub(crate) fn array_bound(kind: Kind) -> Option<&'static [Symbol]>
     ensures { option_map (λ symbols. symbols.now) result ≡ array_bound kind }
 {

@@ -178,13 +178,13 @@ impl Translation<'_> {
         }
     }
 
-    fn take_nested_open(&mut self) -> Result<Progress, AllocError>
-        ensures { Reaches (seen self.new) result (act action.TakeNestedOpen (seen self.old)) }
+    fn write_nested_open(&mut self) -> Result<Progress, AllocError>
+        ensures { Reaches (seen self.new) result (act action.WriteNestedOpen (seen self.old)) }
     {
         if self.ends_with(b'*') {
-            self.take_as(b"(")
+            self.put(b"(")
         } else {
-            self.take_as(b" (")
+            self.put(b" (")
         }
     }
 
@@ -283,7 +283,7 @@ impl Translation<'_> {
             Action::WriteWords => self.write_words(),
             Action::TakeLongDouble => self.take_long_double(),
             Action::TakeGreater => self.take_greater(),
-            Action::TakeNestedOpen => self.take_nested_open(),
+            Action::WriteNestedOpen => self.write_nested_open(),
             Action::TakeNumber => self.take_number(),
             Action::TakeDigits => self.take_digits(),
             Action::TakeCharacter => self.take_character(),
