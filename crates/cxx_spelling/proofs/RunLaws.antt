@@ -6,12 +6,9 @@ use Rattle.cxx_spelling.specs.declared.translation.Progress.TheVariants as progr
 use Rattle.cxx_spelling.specs.Seen.{Reaches, Runs}
 use Rattle.cxx_spelling.specs.Translation.{State, Reached, Going, Finished, Refused, step, after, finished, run}
 
-left_after : (n k : ℕ) → k < n → n - k ≡ suc (n - (k + 1))
-left_after n k h = omega arith
-
 more : (n k : ℕ) (s : State) → k < n → run (n - k) s ≡ after (λ t. run (n - (k + 1)) t) (step s)
 unfolding run
-more n k s h = ap (λ m. run m s) (left_after n k h)
+more n k s h = let e : n - k ≡ suc (n - (k + 1)) = omega arith in ap (λ m. run m s) e
 
 -- behind a step, the rest of the run gives what the run gives
 pub run_going : (n k : ℕ) (s t : State) → k < n → step s ≡ Going t → run (n - (k + 1)) t ≡ run (n - k) s

@@ -5,33 +5,40 @@ use Rattle.cxx_spelling.specs.declared.kind.Kind.TheVariants as token
 use Rattle.cxx_spelling.specs.declared.symbol.Symbol.{Symbol}
 use Rattle.cxx_spelling.specs.declared.symbol.Symbol.TheVariants.{Do, Expand}
 use Rattle.cxx_spelling.specs.declared.symbol.Action.TheVariants.{BeginQualifiers, Skip, Take, WriteNestedOpen, WriteOpen, WriteSpace}
-use Rattle.cxx_spelling.specs.declared.symbol.Nonterminal.TheVariants.{Array, CvQualifiers, Declarator, DeclaratorSuffix, InnerDeclarator, InnerRest, MemberArguments, MemberName, MemberNext, MemberPointer, MemberScope, MoreArguments, MoreArrays, NestedDeclarator, Parameters, ParenthesisEnd, TemplateArgument}
+use Rattle.cxx_spelling.specs.declared.symbol.Nonterminal.TheVariants.{Array, CvQualifiers, Declarator, DeclaratorSuffix, InnerDeclarator, InnerRest, MemberArguments, MemberName, MemberNext, MemberPointer, MemberScope, MoreArguments, MoreArrays, NestedDeclarator, Parameters, ParenthesisEnd, PtrOperator, TemplateArgument}
 
 -- abstract-declarator ([dcl.name]): pointers, references, pointers to members, and functions or arrays behind them
 abbrev pub declarator : Kind → Option (List Symbol)
-declarator token.Star = Some (Do Take ∷ Do BeginQualifiers ∷ Expand CvQualifiers ∷ Expand Declarator ∷ [])
-declarator token.Reference = Some (Do Take ∷ Expand Declarator ∷ [])
-declarator token.RvalueReference = Some (Do Take ∷ Expand Declarator ∷ [])
+declarator token.Star = Some (Expand PtrOperator ∷ Expand Declarator ∷ [])
+declarator token.Reference = Some (Expand PtrOperator ∷ Expand Declarator ∷ [])
+declarator token.RvalueReference = Some (Expand PtrOperator ∷ Expand Declarator ∷ [])
 declarator token.Name = Some (Do WriteSpace ∷ Expand MemberPointer ∷ Expand Declarator ∷ [])
 declarator token.Scope = Some (Do WriteSpace ∷ Expand MemberPointer ∷ Expand Declarator ∷ [])
 declarator token.OpenParenthesis = Some (Do WriteSpace ∷ Do Take ∷ Expand InnerDeclarator ∷ Expand ParenthesisEnd ∷ Expand DeclaratorSuffix ∷ [])
 declarator token.OpenBracket = Some (Do WriteSpace ∷ Expand Array ∷ Expand MoreArrays ∷ [])
 declarator _ = Some []
 
--- a declarator in parentheses: it begins with a ptr-operator ([dcl.decl])
+-- ptr-operator ([dcl.decl]): a pointer with its qualifiers, or a reference
+abbrev pub ptr_operator : Kind → Option (List Symbol)
+ptr_operator token.Star = Some (Do Take ∷ Do BeginQualifiers ∷ Expand CvQualifiers ∷ [])
+ptr_operator token.Reference = Some (Do Take ∷ [])
+ptr_operator token.RvalueReference = Some (Do Take ∷ [])
+ptr_operator _ = None
+
+-- a declarator in parentheses: it begins with a ptr-operator
 abbrev pub inner_declarator : Kind → Option (List Symbol)
-inner_declarator token.Star = Some (Do Take ∷ Do BeginQualifiers ∷ Expand CvQualifiers ∷ Expand InnerRest ∷ [])
-inner_declarator token.Reference = Some (Do Take ∷ Expand InnerRest ∷ [])
-inner_declarator token.RvalueReference = Some (Do Take ∷ Expand InnerRest ∷ [])
+inner_declarator token.Star = Some (Expand PtrOperator ∷ Expand InnerRest ∷ [])
+inner_declarator token.Reference = Some (Expand PtrOperator ∷ Expand InnerRest ∷ [])
+inner_declarator token.RvalueReference = Some (Expand PtrOperator ∷ Expand InnerRest ∷ [])
 inner_declarator token.Name = Some (Expand MemberPointer ∷ Expand InnerRest ∷ [])
 inner_declarator token.Scope = Some (Expand MemberPointer ∷ Expand InnerRest ∷ [])
 inner_declarator _ = None
 
 -- further ptr-operators of a declarator in parentheses, and what stands behind them
 abbrev pub inner_rest : Kind → Option (List Symbol)
-inner_rest token.Star = Some (Do Take ∷ Do BeginQualifiers ∷ Expand CvQualifiers ∷ Expand InnerRest ∷ [])
-inner_rest token.Reference = Some (Do Take ∷ Expand InnerRest ∷ [])
-inner_rest token.RvalueReference = Some (Do Take ∷ Expand InnerRest ∷ [])
+inner_rest token.Star = Some (Expand PtrOperator ∷ Expand InnerRest ∷ [])
+inner_rest token.Reference = Some (Expand PtrOperator ∷ Expand InnerRest ∷ [])
+inner_rest token.RvalueReference = Some (Expand PtrOperator ∷ Expand InnerRest ∷ [])
 inner_rest token.Name = Some (Do WriteSpace ∷ Expand MemberPointer ∷ Expand InnerRest ∷ [])
 inner_rest token.Scope = Some (Do WriteSpace ∷ Expand MemberPointer ∷ Expand InnerRest ∷ [])
 inner_rest token.OpenParenthesis = Some (Do Skip ∷ Expand NestedDeclarator ∷ Expand ParenthesisEnd ∷ Expand Parameters ∷ [])
@@ -80,5 +87,5 @@ member_scope _ = None
 
 -- `*`, or a class inside of the class
 abbrev pub member_next : Kind → Option (List Symbol)
-member_next token.Star = Some (Do Take ∷ Do BeginQualifiers ∷ Expand CvQualifiers ∷ [])
+member_next token.Star = Some (Expand PtrOperator ∷ [])
 member_next _ = Some (Expand MemberName ∷ [])

@@ -5,7 +5,7 @@ use Rattle.cxx_spelling.specs.declared.kind.Kind.TheVariants as token
 use Rattle.cxx_spelling.specs.declared.symbol.Symbol.{Symbol}
 use Rattle.cxx_spelling.specs.declared.symbol.Symbol.TheVariants.{Do, Expand}
 use Rattle.cxx_spelling.specs.declared.symbol.Action.TheVariants.{BeginQualifiers, Skip, Take, WriteOpen, WriteSpace}
-use Rattle.cxx_spelling.specs.declared.symbol.Nonterminal.TheVariants.{ConversionRest, CvQualifiers, Declarator, DeclaratorSuffix, InnerDeclarator, Local, MemberPointer, MoreArguments, ParameterList, Parameters, ParenthesisEnd, Start, StartArguments, StartEnd, StartName, StartNext, StartParenthesis, StartRest, TemplateArgument, TypeSpecifier}
+use Rattle.cxx_spelling.specs.declared.symbol.Nonterminal.TheVariants.{ConversionRest, Declarator, DeclaratorSuffix, InnerDeclarator, Local, MemberPointer, MoreArguments, ParameterList, Parameters, ParenthesisEnd, PtrOperator, Start, StartArguments, StartEnd, StartName, StartNext, StartParenthesis, StartRest, TemplateArgument, TypeSpecifier}
 
 -- a whole name: a conversion function ([class.conv.fct]), a type, or a function
 abbrev pub start : Kind → Option (List Symbol)
@@ -44,7 +44,7 @@ start_end _ = Some []
 
 -- `*`, or what stands in that scope
 abbrev pub start_next : Kind → Option (List Symbol)
-start_next token.Star = Some (Do Take ∷ Do BeginQualifiers ∷ Expand CvQualifiers ∷ Expand Declarator ∷ [])
+start_next token.Star = Some (Expand PtrOperator ∷ Expand Declarator ∷ [])
 start_next _ = Some (Expand StartName ∷ [])
 
 -- a name inside of a function
@@ -54,9 +54,9 @@ local _ = Some []
 
 -- the declarator of the type to which a conversion function converts
 abbrev pub conversion_rest : Kind → Option (List Symbol)
-conversion_rest token.Star = Some (Do Take ∷ Do BeginQualifiers ∷ Expand CvQualifiers ∷ Expand ConversionRest ∷ [])
-conversion_rest token.Reference = Some (Do Take ∷ Expand ConversionRest ∷ [])
-conversion_rest token.RvalueReference = Some (Do Take ∷ Expand ConversionRest ∷ [])
+conversion_rest token.Star = Some (Expand PtrOperator ∷ Expand ConversionRest ∷ [])
+conversion_rest token.Reference = Some (Expand PtrOperator ∷ Expand ConversionRest ∷ [])
+conversion_rest token.RvalueReference = Some (Expand PtrOperator ∷ Expand ConversionRest ∷ [])
 conversion_rest token.Name = Some (Do WriteSpace ∷ Expand MemberPointer ∷ Expand ConversionRest ∷ [])
 conversion_rest token.Scope = Some (Do WriteSpace ∷ Expand MemberPointer ∷ Expand ConversionRest ∷ [])
 conversion_rest token.OpenParenthesis = Some (Do Skip ∷ Expand StartParenthesis ∷ [])

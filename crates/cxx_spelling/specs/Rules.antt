@@ -7,7 +7,7 @@ use Rattle.cxx_spelling.specs.declared.symbol.Nonterminal.TheVariants as symbol
 use Rattle.cxx_spelling.specs.Names.{qualified_name, name_arguments, name_rest, more_arguments, template_argument, address, address_name, address_rest, address_scope}
 use Rattle.cxx_spelling.specs.Types.{type_id, type_specifier, more_words, cv_qualifiers, array, array_bound, bracket_end, more_arrays, parameters, parameter_list, after_void, more_parameters, parameter}
 use Rattle.cxx_spelling.specs.Casts.{parenthesised, group_end, cast_words, cast_bool, cast_end, cast_operand, integer_operand, bool_operand}
-use Rattle.cxx_spelling.specs.Declarators.{declarator, inner_declarator, inner_rest, nested_declarator, declarator_suffix, parenthesis_end, member_pointer, member_name, member_arguments, member_scope, member_next}
+use Rattle.cxx_spelling.specs.Declarators.{declarator, ptr_operator, inner_declarator, inner_rest, nested_declarator, declarator_suffix, parenthesis_end, member_pointer, member_name, member_arguments, member_scope, member_next}
 use Rattle.cxx_spelling.specs.Functions.{start, start_rest, start_parenthesis, start_name, start_arguments, start_end, start_next, local, conversion_rest}
 
 -- what a symbol stands for in sight of the next token; none where the name is refused
@@ -43,6 +43,7 @@ rule symbol.CastOperand kind = cast_operand kind
 rule symbol.IntegerOperand kind = integer_operand kind
 rule symbol.BoolOperand kind = bool_operand kind
 rule symbol.Declarator kind = declarator kind
+rule symbol.PtrOperator kind = ptr_operator kind
 rule symbol.InnerDeclarator kind = inner_declarator kind
 rule symbol.InnerRest kind = inner_rest kind
 rule symbol.NestedDeclarator kind = nested_declarator kind

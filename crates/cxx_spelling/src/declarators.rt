@@ -1,14 +1,14 @@
 //! Declarators without a name: the rules.
 
 ghost use Rattle.std.specs.Prelude.{◌≡◌, option_map};
-ghost use Rattle.cxx_spelling.specs.Declarators.{declarator, inner_declarator, inner_rest, nested_declarator, declarator_suffix, parenthesis_end, member_pointer, member_name, member_arguments, member_scope, member_next};
+ghost use Rattle.cxx_spelling.specs.Declarators.{declarator, ptr_operator, inner_declarator, inner_rest, nested_declarator, declarator_suffix, parenthesis_end, member_pointer, member_name, member_arguments, member_scope, member_next};
 
 use crate::kind::Kind;
 use crate::symbol::Action::{BeginQualifiers, Skip, Take, WriteNestedOpen, WriteOpen, WriteSpace};
 use crate::symbol::Nonterminal::{
     Array, CvQualifiers, Declarator, DeclaratorSuffix, InnerDeclarator, InnerRest, MemberArguments,
     MemberName, MemberNext, MemberPointer, MemberScope, MoreArguments, MoreArrays,
-    NestedDeclarator, Parameters, ParenthesisEnd, TemplateArgument,
+    NestedDeclarator, Parameters, ParenthesisEnd, PtrOperator, TemplateArgument,
 };
 use crate::symbol::Symbol;
 use crate::symbol::Symbol::{Do, Expand};
@@ -18,13 +18,10 @@ pub(crate) fn declarator(kind: Kind) -> Option<&'static [Symbol]>
     ensures { option_map (λ symbols. symbols.now) result ≡ declarator kind }
 {
     match kind {
-        Kind::Star => Some(&[
-            Do(Take),
-            Do(BeginQualifiers),
-            Expand(CvQualifiers),
+        Kind::Star | Kind::Reference | Kind::RvalueReference => Some(&[
+            Expand(PtrOperator),
             Expand(Declarator),
         ]),
-        Kind::Reference | Kind::RvalueReference => Some(&[Do(Take), Expand(Declarator)]),
         Kind::Name | Kind::Scope => Some(&[
             Do(WriteSpace),
             Expand(MemberPointer),
@@ -42,18 +39,26 @@ pub(crate) fn declarator(kind: Kind) -> Option<&'static [Symbol]>
     }
 }
 
-/// A declarator in parentheses: it begins with a ptr-operator ([dcl.decl]).
+/// Ptr-operator ([dcl.decl]): a pointer with its qualifiers, or a reference.
+pub(crate) fn ptr_operator(kind: Kind) -> Option<&'static [Symbol]>
+    ensures { option_map (λ symbols. symbols.now) result ≡ ptr_operator kind }
+{
+    match kind {
+        Kind::Star => Some(&[Do(Take), Do(BeginQualifiers), Expand(CvQualifiers)]),
+        Kind::Reference | Kind::RvalueReference => Some(&[Do(Take)]),
+        _ => None,
+    }
+}
+
+/// A declarator in parentheses: it begins with a ptr-operator.
 pub(crate) fn inner_declarator(kind: Kind) -> Option<&'static [Symbol]>
     ensures { option_map (λ symbols. symbols.now) result ≡ inner_declarator kind }
 {
     match kind {
-        Kind::Star => Some(&[
-            Do(Take),
-            Do(BeginQualifiers),
-            Expand(CvQualifiers),
+        Kind::Star | Kind::Reference | Kind::RvalueReference => Some(&[
+            Expand(PtrOperator),
             Expand(InnerRest),
         ]),
-        Kind::Reference | Kind::RvalueReference => Some(&[Do(Take), Expand(InnerRest)]),
         Kind::Name | Kind::Scope => Some(&[Expand(MemberPointer), Expand(InnerRest)]),
         _ => None,
     }
@@ -64,13 +69,10 @@ pub(crate) fn inner_rest(kind: Kind) -> Option<&'static [Symbol]>
     ensures { option_map (λ symbols. symbols.now) result ≡ inner_rest kind }
 {
     match kind {
-        Kind::Star => Some(&[
-            Do(Take),
-            Do(BeginQualifiers),
-            Expand(CvQualifiers),
+        Kind::Star | Kind::Reference | Kind::RvalueReference => Some(&[
+            Expand(PtrOperator),
             Expand(InnerRest),
         ]),
-        Kind::Reference | Kind::RvalueReference => Some(&[Do(Take), Expand(InnerRest)]),
         Kind::Name | Kind::Scope => Some(&[
             Do(WriteSpace),
             Expand(MemberPointer),
@@ -172,7 +174,7 @@ pub(crate) fn member_next(kind: Kind) -> Option<&'static [Symbol]>
     ensures { option_map (λ symbols. symbols.now) result ≡ member_next kind }
 {
     match kind {
-        Kind::Star => Some(&[Do(Take), Do(BeginQualifiers), Expand(CvQualifiers)]),
+        Kind::Star => Some(&[Expand(PtrOperator)]),
         _ => Some(&[Expand(MemberName)]),
     }
 }

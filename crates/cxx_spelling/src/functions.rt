@@ -6,8 +6,8 @@ ghost use Rattle.cxx_spelling.specs.Functions.{start, start_rest, start_parenthe
 use crate::kind::Kind;
 use crate::symbol::Action::{BeginQualifiers, Skip, Take, WriteOpen, WriteSpace};
 use crate::symbol::Nonterminal::{
-    ConversionRest, CvQualifiers, Declarator, DeclaratorSuffix, InnerDeclarator, Local,
-    MemberPointer, MoreArguments, ParameterList, Parameters, ParenthesisEnd, Start, StartArguments,
+    ConversionRest, Declarator, DeclaratorSuffix, InnerDeclarator, Local, MemberPointer,
+    MoreArguments, ParameterList, Parameters, ParenthesisEnd, PtrOperator, Start, StartArguments,
     StartEnd, StartName, StartNext, StartParenthesis, StartRest, TemplateArgument, TypeSpecifier,
 };
 use crate::symbol::Symbol;
@@ -102,12 +102,7 @@ pub(crate) fn start_next(kind: Kind) -> Option<&'static [Symbol]>
     ensures { option_map (λ symbols. symbols.now) result ≡ start_next kind }
 {
     match kind {
-        Kind::Star => Some(&[
-            Do(Take),
-            Do(BeginQualifiers),
-            Expand(CvQualifiers),
-            Expand(Declarator),
-        ]),
+        Kind::Star => Some(&[Expand(PtrOperator), Expand(Declarator)]),
         _ => Some(&[Expand(StartName)]),
     }
 }
@@ -127,13 +122,10 @@ pub(crate) fn conversion_rest(kind: Kind) -> Option<&'static [Symbol]>
     ensures { option_map (λ symbols. symbols.now) result ≡ conversion_rest kind }
 {
     match kind {
-        Kind::Star => Some(&[
-            Do(Take),
-            Do(BeginQualifiers),
-            Expand(CvQualifiers),
+        Kind::Star | Kind::Reference | Kind::RvalueReference => Some(&[
+            Expand(PtrOperator),
             Expand(ConversionRest),
         ]),
-        Kind::Reference | Kind::RvalueReference => Some(&[Do(Take), Expand(ConversionRest)]),
         Kind::Name | Kind::Scope => Some(&[
             Do(WriteSpace),
             Expand(MemberPointer),

@@ -10,6 +10,8 @@
 //! conversion functions. Not covered, so that such a name stays as it stands: other operators, destructors,
 //! floating-point literals, expressions with operators, the address of a template or of a function with its parameters,
 //! pointers to arrays inside of a declarator in parentheses, names that demanglers write, as `vtable for A`.
+//! gdb keeps names that are nested deeper than its printer goes, some five hundred lists of arguments; here they are
+//! spelled as others are.
 #![tactic(auto)]
 
 mod bytes;
@@ -32,7 +34,7 @@ mod types;
 pub mod vectors;
 mod writing;
 
-pub use spelled::{SpelledName, spelling};
+pub use spelled::{SpelledName, c_spelling, spelling};
 
 #[cfg(test)]
 mod tests;

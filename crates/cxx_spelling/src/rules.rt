@@ -9,7 +9,7 @@ use crate::casts::{
 };
 use crate::declarators::{
     declarator, declarator_suffix, inner_declarator, inner_rest, member_arguments, member_name,
-    member_next, member_pointer, member_scope, nested_declarator, parenthesis_end,
+    member_next, member_pointer, member_scope, nested_declarator, parenthesis_end, ptr_operator,
 };
 use crate::functions::{
     conversion_rest, local, start, start_arguments, start_end, start_name, start_next,
@@ -62,6 +62,7 @@ pub(crate) fn rule(symbol: Nonterminal, kind: Kind) -> Option<&'static [Symbol]>
         Nonterminal::IntegerOperand => integer_operand(kind),
         Nonterminal::BoolOperand => bool_operand(kind),
         Nonterminal::Declarator => declarator(kind),
+        Nonterminal::PtrOperator => ptr_operator(kind),
         Nonterminal::InnerDeclarator => inner_declarator(kind),
         Nonterminal::InnerRest => inner_rest(kind),
         Nonterminal::NestedDeclarator => nested_declarator(kind),

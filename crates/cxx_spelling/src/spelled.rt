@@ -1,7 +1,7 @@
 //! The spelling of a name.
 
 ghost use Rattle.std.specs.Prelude.{◌≡◌, IfOk};
-ghost use Rattle.cxx_spelling.specs.Spelling.{is_one_word, gdb_spelling, spelling_bytes, IsSpelling};
+ghost use Rattle.cxx_spelling.specs.Spelling.{is_sign_alone, is_one_word, gdb_spelling, gdb_c_spelling, spelling_bytes, IsSpelledAs};
 
 use crate::bytes::word_length;
 use crate::translation::translated;
@@ -16,20 +16,25 @@ pub enum SpelledName<'n> {
     Owned(Vec<u8>),
 }
 
-// Whether a name is one identifier, but for the two that name other types.
+// Whether a name is one of the two words that alone name a type by another name.
+fn is_sign_alone(name: &[u8]) -> bool
+    ensures { result ≡ is_sign_alone name.now }
+{
+    name == b"signed".as_slice() || name == b"unsigned".as_slice()
+}
+
+// Whether a name is one identifier, but for these two.
 fn is_one_word(name: &[u8]) -> bool
     ensures { result ≡ is_one_word name.now }
 {
-    word_length(name) == name.len()
-        && name != b"signed".as_slice()
-        && name != b"unsigned".as_slice()
+    word_length(name) == name.len() && !is_sign_alone(name)
 }
 
 /// A component of a C++ name, without a zero byte, as gdb spells it (cp_canonicalize_string of its cp-support.c). It is
 /// lent where nothing changes: so are names that the grammar refuses, and those of more than 1 MiB.
 #[tactic(auto, unfolding(crate::specs::Spelling::gdb_spelling))]
 pub fn spelling<'n>(alloc: Global, name: &'n [u8]) -> Result<SpelledName<'n>, AllocError>
-    ensures { IfOk result (IsSpelling name.now) }
+    ensures { IfOk result (IsSpelledAs (gdb_spelling name.now) name.now) }
 {
     if is_one_word(name) {
         return Ok(SpelledName::Lent(name));
@@ -40,10 +45,22 @@ pub fn spelling<'n>(alloc: Global, name: &'n [u8]) -> Result<SpelledName<'n>, Al
     }
 }
 
+/// A name of C as gdb spells it (c_canonicalize_name of its c-lang.c): what has no blank stays, but for `signed` and
+/// `unsigned`.
+#[tactic(auto, unfolding(crate::specs::Spelling::gdb_c_spelling))]
+pub fn c_spelling<'n>(alloc: Global, name: &'n [u8]) -> Result<SpelledName<'n>, AllocError>
+    ensures { IfOk result (IsSpelledAs (gdb_c_spelling name.now) name.now) }
+{
+    if name.contains(&b' ') || is_sign_alone(name) {
+        spelling(alloc, name)
+    } else {
+        Ok(SpelledName::Lent(name))
+    }
+}
+
 // A text, unless it is the name.
 fn lent_or_owned<'n>(name: &'n [u8], text: Vec<u8>) -> SpelledName<'n>
-    requires { text.items ≡ gdb_spelling name.now }
-    ensures { IsSpelling name.now result }
+    ensures { IsSpelledAs text.items name.now result }
 {
     if text.as_slice() == name {
         SpelledName::Lent(name)

@@ -41,6 +41,7 @@ pub(crate) enum Nonterminal {
     IntegerOperand,
     BoolOperand,
     Declarator,
+    PtrOperator,
     InnerDeclarator,
     InnerRest,
     NestedDeclarator,
@@ -61,6 +62,7 @@ pub(crate) enum Nonterminal {
     Local,
     ConversionRest,
 }
+
 /// Something to do with the next token or the text.
 #[derive(Clone, Copy)]
 pub(crate) enum Action {

@@ -1,6 +1,6 @@
 //! Names with the spelling that gdb 13 has for them in an index that it writes.
 
-use crate::spelled::spelling;
+use crate::spelled::{c_spelling, spelling};
 use std::alloc::Global;
 use std::process::Abort;
 use std::test::Fail;
@@ -121,6 +121,13 @@ const REFUSED: &[Row] = &[
     (b"", b""),
 ];
 
+const NAMES_OF_C: &[Row] = &[
+    (b"long unsigned int", b"unsigned long"),
+    (b"unsigned", b"unsigned int"),
+    (b"A<unsigned>", b"A<unsigned>"),
+    (b"A<long unsigned int>", b"A<unsigned long>"),
+];
+
 fn are_spelled(rt: &impl Abort, alloc: Global, rows: &[Row]) -> Result<(), Fail> {
     for (name, wanted) in rows {
         let spelled = spelling(alloc, name)?;
@@ -152,4 +159,13 @@ fn functions(rt: HostRuntime) -> Result<(), Fail> {
 #[test]
 fn refused(rt: HostRuntime) -> Result<(), Fail> {
     are_spelled(&rt, rt.alloc(), REFUSED)
+}
+
+#[test]
+fn names_of_c(rt: HostRuntime) -> Result<(), Fail> {
+    for (name, wanted) in NAMES_OF_C {
+        let spelled = c_spelling(rt.alloc(), name)?;
+        assert_eq!(rt; spelled.bytes(), *wanted);
+    }
+    Ok(())
 }
