@@ -28,10 +28,13 @@ pub run_whole : (n : ℕ) (s : State) → run (n - 0) s ≡ run n s
 run_whole n s = let e : n - 0 ≡ n = omega arith in ap (λ m. run m s) e
 
 -- where a step says that nothing is left, nothing is
-pub reaches_finished : (p : Progress) (left : State) (reached : Reached) → p ≡ progress.Finished → Reaches left (Ok p) reached → reached ≡ Finished left
+pub reaches_finished :
+    (p : Progress) (left : State) (reached : Reached) → p ≡ progress.Finished → Reaches left (Ok p) reached → reached ≡ Finished left
 reaches_finished p left reached e h = subst (λ q. Reaches left (Ok q) reached) e h
 
 -- the text of a run is what was written, where the whole name was taken
-pub runs_to : (whole : Bool) (left : State) (text : Option (List ℕ)) → text ≡ finished left → finished left ≡ (if whole then Some left.out else None) → Runs left (Ok whole) text
+pub runs_to :
+    (whole : Bool) (left : State) (text : Option (List ℕ)) → text ≡ finished left → finished left ≡ (if whole then Some left.out else None)
+    → Runs left (Ok whole) text
 runs_to true left text e h = e ∙ h
 runs_to false left text e h = e ∙ h

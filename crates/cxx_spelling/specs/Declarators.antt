@@ -14,7 +14,8 @@ declarator token.Reference = Some (Expand PtrOperator ∷ Expand Declarator ∷ 
 declarator token.RvalueReference = Some (Expand PtrOperator ∷ Expand Declarator ∷ [])
 declarator token.Name = Some (Do WriteSpace ∷ Expand MemberPointer ∷ Expand Declarator ∷ [])
 declarator token.Scope = Some (Do WriteSpace ∷ Expand MemberPointer ∷ Expand Declarator ∷ [])
-declarator token.OpenParenthesis = Some (Do WriteSpace ∷ Do Take ∷ Expand InnerDeclarator ∷ Expand ParenthesisEnd ∷ Expand DeclaratorSuffix ∷ [])
+declarator token.OpenParenthesis =
+    Some (Do WriteSpace ∷ Do Take ∷ Expand InnerDeclarator ∷ Expand ParenthesisEnd ∷ Expand DeclaratorSuffix ∷ [])
 declarator token.OpenBracket = Some (Do WriteSpace ∷ Expand Array ∷ Expand MoreArrays ∷ [])
 declarator _ = Some []
 

@@ -19,11 +19,15 @@ start_rest token.Name = Some (Do WriteSpace ∷ Expand StartName ∷ [])
 start_rest token.Scope = Some (Do WriteSpace ∷ Do Skip ∷ Expand StartName ∷ [])
 start_rest _ = Some (Expand Declarator ∷ [])
 
+-- a declarator in parentheses, of which the first is not written yet
+abbrev pub in_parentheses : List Symbol
+in_parentheses = Do WriteSpace ∷ Do WriteOpen ∷ Expand InnerDeclarator ∷ Expand ParenthesisEnd ∷ Expand DeclaratorSuffix ∷ []
+
 -- behind a `(`, which is not written yet: a declarator, or the parameters of a function
 abbrev pub start_parenthesis : Kind → Option (List Symbol)
-start_parenthesis token.Star = Some (Do WriteSpace ∷ Do WriteOpen ∷ Expand InnerDeclarator ∷ Expand ParenthesisEnd ∷ Expand DeclaratorSuffix ∷ [])
-start_parenthesis token.Reference = Some (Do WriteSpace ∷ Do WriteOpen ∷ Expand InnerDeclarator ∷ Expand ParenthesisEnd ∷ Expand DeclaratorSuffix ∷ [])
-start_parenthesis token.RvalueReference = Some (Do WriteSpace ∷ Do WriteOpen ∷ Expand InnerDeclarator ∷ Expand ParenthesisEnd ∷ Expand DeclaratorSuffix ∷ [])
+start_parenthesis token.Star = Some in_parentheses
+start_parenthesis token.Reference = Some in_parentheses
+start_parenthesis token.RvalueReference = Some in_parentheses
 start_parenthesis _ = Some (Do WriteOpen ∷ Expand ParameterList ∷ Expand Local ∷ [])
 
 -- a pointer to a member, or a function behind the type that it returns

@@ -8,7 +8,8 @@ use Rattle.cxx_spelling.specs.declared.qualifiers.Qualifier.TheVariants.{Const, 
 -- casts by a word, which no rule takes; each other word is a name
 abbrev pub cast_keyword : List ℕ → Kind
 cast_keyword word =
-    if bytes_eq word (codes "static_cast") || bytes_eq word (codes "dynamic_cast") || bytes_eq word (codes "reinterpret_cast") then token.Other
+    if bytes_eq word (codes "static_cast") || bytes_eq word (codes "dynamic_cast")
+    || bytes_eq word (codes "reinterpret_cast") then token.Other
     else token.Name
 
 -- further keywords that no rule takes

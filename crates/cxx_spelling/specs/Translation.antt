@@ -45,7 +45,9 @@ suffix_form units longs =
     else (if units == 0 then codes "ll" else codes "ull")
 
 abbrev pub suffix_text : List ℕ → List ℕ
-suffix_text text = let letters = drop (until is_suffix_byte text) text in suffix_form (count_by is_unsigned_byte letters) (count_by is_long_byte letters)
+suffix_text text =
+    let letters = drop (until is_suffix_byte text) text in
+    suffix_form (count_by is_unsigned_byte letters) (count_by is_long_byte letters)
 
 -- the literal in a cast: a character as it stands, a number without its suffix
 abbrev pub operand_by : Kind → List ℕ → List ℕ
@@ -76,7 +78,8 @@ ends_with b text = slice_index text (length text - 1) == b
 
 -- qualifiers stand behind their type in one order, each once
 abbrev pub wrote_qualifiers : Qualifiers → State → State
-wrote_qualifiers set s = wrote_if set.restrict (codes " restrict") (wrote_if set.volatile (codes " volatile") (wrote_if set.constant (codes " const") s))
+wrote_qualifiers set s =
+    wrote_if set.restrict (codes " restrict") (wrote_if set.volatile (codes " volatile") (wrote_if set.constant (codes " const") s))
 
 -- a literal of an integer type: with its suffix, or behind its type
 abbrev pub wrote_typed : IntegerType → Option (List ℕ) → List ℕ → State → State
@@ -181,7 +184,14 @@ run (suc n) s = after (λ t. run n t) (step s)
 
 -- a name that nothing was read of
 abbrev pub begun : List ℕ → State
-begun name = record { token = first_token name; out = []; qualifiers = no_qualifiers; outer = []; words = no_words; parts = (Expand Start ∷ []) ∷ [] }
+begun name = record {
+  token = first_token name;
+  out = [];
+  qualifiers = no_qualifiers;
+  outer = [];
+  words = no_words;
+  parts = (Expand Start ∷ []) ∷ [];
+}
 
 -- no name needs as many steps
 abbrev pub steps_for : List ℕ → ℕ

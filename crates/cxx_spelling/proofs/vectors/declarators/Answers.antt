@@ -5,4 +5,12 @@ use Rattle.cxx_spelling.proofs.vectors.declarators.Goals as goal
 
 pub returns : goal.returns
 unfolding gdb_spelling translation run
-returns c = record { pointers = refl; functions = refl; no_parameters = refl; nested = refl; members = refl; arrays = refl; conversion = refl }
+returns c = record {
+  pointers = refl;
+  functions = refl;
+  no_parameters = refl;
+  nested = refl;
+  members = refl;
+  arrays = refl;
+  conversion = refl;
+}
