@@ -35,6 +35,3 @@ pub mod vectors;
 mod writing;
 
 pub use spelled::{SpelledName, c_spelling, spelling};
-
-#[cfg(test)]
-mod tests;

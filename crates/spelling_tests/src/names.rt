@@ -1,6 +1,6 @@
 //! Names with the spelling that gdb 13 has for them in an index that it writes.
 
-use crate::spelled::{c_spelling, spelling};
+use cxx_spelling::{c_spelling, spelling};
 use std::alloc::Global;
 use std::process::Abort;
 use std::test::Fail;
@@ -129,10 +129,21 @@ const NAMES_OF_C: &[Row] = &[
 ];
 
 fn are_spelled(rt: &impl Abort, alloc: Global, rows: &[Row]) -> Result<(), Fail> {
-    for (name, wanted) in rows {
-        let spelled = spelling(alloc, name)?;
-        assert_eq!(rt; spelled.bytes(), *wanted);
+    for row in rows {
+        is_spelled(rt, alloc, row.0, row.1)?;
     }
+    Ok(())
+}
+
+fn is_spelled(rt: &impl Abort, alloc: Global, name: &[u8], wanted: &[u8]) -> Result<(), Fail> {
+    let spelled = spelling(alloc, name)?;
+    assert_eq!(rt; spelled.bytes(), wanted);
+    Ok(())
+}
+
+fn is_spelled_in_c(rt: &impl Abort, alloc: Global, name: &[u8], wanted: &[u8]) -> Result<(), Fail> {
+    let spelled = c_spelling(alloc, name)?;
+    assert_eq!(rt; spelled.bytes(), wanted);
     Ok(())
 }
 
@@ -163,9 +174,8 @@ fn refused(rt: HostRuntime) -> Result<(), Fail> {
 
 #[test]
 fn names_of_c(rt: HostRuntime) -> Result<(), Fail> {
-    for (name, wanted) in NAMES_OF_C {
-        let spelled = c_spelling(rt.alloc(), name)?;
-        assert_eq!(rt; spelled.bytes(), *wanted);
+    for row in NAMES_OF_C {
+        is_spelled_in_c(&rt, rt.alloc(), row.0, row.1)?;
     }
     Ok(())
 }
