@@ -14,6 +14,8 @@ import tempfile
 HERE = os.path.dirname(os.path.abspath(__file__))
 PROGRAM_FILE = os.path.join(os.path.dirname(HERE), "crates", "index_tool", "data", "A")
 MIB = 1 << 20
+# What stands behind the program and the index, which is read and means nothing: so that a run needs more memory than to begin at all.
+PADDING = bytes(2 * MIB)
 # Commands, with what stands in their input. FILE, INDEX and SCRIPT are names of files, OUT that of one that is stored. The script
 # has no query, since the stages that look-ups see during a build differ from run to run.
 COMMANDS = [
@@ -78,10 +80,12 @@ def main():
     passed, failed = 0, 0
     with tempfile.TemporaryDirectory() as folder:
         with open(PROGRAM_FILE, "rb") as file, open(os.path.join(folder, "FILE"), "wb") as copy:
-            copy.write(file.read())
+            copy.write(file.read() + PADDING)
         with open(os.path.join(folder, "SCRIPT"), "wb") as script:
             script.write(b"x\nname\n")
         subprocess.run([program, "index", "--as", "gdb8", "FILE", "INDEX"], cwd=folder, check=True)
+        with open(os.path.join(folder, "INDEX"), "ab") as index:
+            index.write(PADDING)
         least = least_limit(program, folder)
         for words, given in COMMANDS:
             plenty = run(program, words, given, folder, None)
