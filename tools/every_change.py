@@ -1,9 +1,10 @@
 #!/usr/bin/env python3
-"""python3 tools/every_change.py PROGRAM [--files N] [--jobs J] [--match PREFIX] [--seconds T]
+"""python3 tools/every_change.py PROGRAM [--part K/N] [--files N] [--jobs J] [--match PREFIX] [--seconds T]
 
 Takes the worked programs and indexes of rows/vectors, the small ones first, and makes of each every cut (each proper prefix) and
 every change of one bit. The status of PROGRAM on each of them, what it writes and what it stores have to be those of the reading in
-tools/reading. The last line is 'every change: N passed, M failed'."""
+tools/reading. With --part K/N only every N-th of these files is taken, from the K-th on, so that N runs do the whole. The last line is
+'every change: N passed, M failed'."""
 import argparse
 import itertools
 import multiprocessing
@@ -111,17 +112,27 @@ def shown(outcome):
     return "%s %r%s" % (status, text[:200], "".join(" %s of %d bytes" % (name, len(data)) for name, data in stored.items()))
 
 
+def part_of(word):
+    """(K, N) of the word K/N, where K is one of 1 to N."""
+    first, step = map(int, word.split("/"))
+    if not 1 <= first <= step:
+        raise ValueError(word)
+    return first, step
+
+
 def main():
     parser = argparse.ArgumentParser()
     parser.add_argument("program")
     parser.add_argument("--files", type=int, help="how many cases, the small ones first")
+    parser.add_argument("--part", type=part_of, default=(1, 1), help="K/N: every N-th case, from the K-th on")
     parser.add_argument("--jobs", type=int, default=1)
     parser.add_argument("--match", default="", help="only rows whose name begins so")
     parser.add_argument("--seconds", type=float, default=float("inf"), help="no file begins behind so many")
     words = parser.parse_args()
     end = time.monotonic() + words.seconds
     program = os.path.abspath(words.program)
-    cases = all_cases(words.match, offers_cached(program))[:words.files]
+    first, step = words.part
+    cases = all_cases(words.match, offers_cached(program))[:words.files][first - 1::step]
     cuts = sum(case.size() for case in cases)
     print("%d files, %d cuts, %d bits" % (len(cases), cuts, 8 * cuts), flush=True)
     passed = failed = left_out = 0
