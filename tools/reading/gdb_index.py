@@ -24,23 +24,24 @@ def _unit_lists(units):
     return b"".join(own), b"".join(types)
 
 
-def _vectors(entries, numbers):
-    """Of each name, in byte order, the ascending distinct elements of its entries."""
+def _vectors(listed, numbers):
+    """Of each name, in byte order, its ascending distinct elements."""
     found = {}
-    for entry in entries:
-        if not entry.linkage:
-            found.setdefault(entry.name, set()).add(element(numbers[entry.unit], entry.kind, entry.static))
+    for name, unit, kind, static in listed:
+        found.setdefault(name, set()).add(element(numbers[unit], kind, static))
     return {name: tuple(sorted(found[name])) for name in sorted(found)}
 
 
-def _pool(vectors):
-    """The bytes of the constant pool, the place of each vector in it and the place of each name."""
+def _pool(vectors, main):
+    """The bytes of the constant pool, the place of each vector in it and the place of each name. Main's stands there, listed or not."""
     pool, vector_places, name_places = bytearray(), {}, {}
     for vector in vectors.values():
         if vector not in vector_places:
             vector_places[vector] = len(pool)
             pool += struct.pack("<%dI" % (1 + len(vector)), len(vector), *vector)
-    for name in vectors:
+    for name in [*vectors, main]:
+        if name is None or name in name_places:
+            continue
         name_places[name] = len(pool)
         pool += name + b"\0"
     return bytes(pool), vector_places, name_places
@@ -66,9 +67,15 @@ def _slots(vectors, vector_places, name_places):
 
 
 def gdb_index_bytes(program, version):
+    own = [entry for entry in program.entries if not entry.linkage]
+    return gdb_index_of(program, version, [(entry.name, entry.unit, entry.kind, entry.static) for entry in own])
+
+
+def gdb_index_of(program, version, listed):
+    """The index in which these are listed: names with their unit, kind and whether they are static."""
     numbers = index_numbers(program.units)
-    vectors = _vectors(program.entries, numbers)
-    pool, vector_places, name_places = _pool(vectors)
+    vectors = _vectors(listed, numbers)
+    pool, vector_places, name_places = _pool(vectors, program.main[1] if program.main and version == 9 else None)
     areas = list(_unit_lists(program.units))
     areas.append(b"".join(struct.pack("<QQI", low, end, numbers[unit]) for low, end, unit in program.pieces))
     areas.append(_slots(vectors, vector_places, name_places))

@@ -1,0 +1,69 @@
+"""How gdb spells names of C and C++ anew, as its own index of a unit made of them tells."""
+import os
+import re
+import subprocess
+import tempfile
+
+from reading import gdb_rules
+from reading.gdb_entries import GdbNames, as_stands
+from . import compare
+
+# One word stands as it is, but for these.
+WORD = re.compile(rb"[A-Za-z_][A-Za-z0-9_]*")
+ALONE = (b"signed", b"unsigned")
+HEAD = """
+ .section .debug_abbrev,"",@progbits
+ .byte 1,0x11,1,0x13,0x0b,0,0, 2,0x39,1,3,8,0,0, 3,0x13,0,3,8,0x0b,0x0b,0,0, 0
+ .section .debug_info,"",@progbits
+ .4byte 9f-1f
+1: .2byte 4
+ .4byte 0
+ .byte 8, 1, 4
+"""
+TAIL = " .byte 0\n9:\n"
+
+
+def may_change(language_class, name):
+    if language_class == gdb_rules.C:
+        return b" " in name or name in ALONE
+    return language_class == gdb_rules.CXX and (name in ALONE or not WORD.fullmatch(name))
+
+
+def _bytes(text):
+    return ",".join(str(byte) for byte in text + b"\0")
+
+
+def _program(names, folder):
+    """An object file with a namespace for each name, and a structure with that name in it."""
+    source, path = os.path.join(folder, "names.s"), os.path.join(folder, "names.o")
+    with open(source, "w") as file:
+        file.write(HEAD)
+        for number, name in enumerate(names):
+            file.write(" .byte 2\n .asciz \"n%d\"\n .byte 3,%s,1,0\n" % (number, _bytes(name)))
+        file.write(TAIL)
+    subprocess.run(["as", "-o", path, source], check=True)
+    return path
+
+
+class Speller:
+    """What a gdb makes of the names that it was asked."""
+
+    def __init__(self, gdb):
+        self.gdb, self.known = gdb, {}
+
+    def learn(self, program):
+        items = GdbNames(program, as_stands)
+        names = {(items.class_of(member), said.name) for offset, said in items.items.said.items() if said.name
+                 for member in (program.links.by_offset[offset],)}
+        asked = sorted({name for language_class, name in names if may_change(language_class, name)} - set(self.known))
+        if not asked:
+            return
+        with tempfile.TemporaryDirectory() as folder:
+            index = compare.gdb_names(self.gdb, _program(asked, folder))
+        for spelled in index.of:
+            number, colons, name = spelled.partition(b"::")
+            if colons:
+                self.known[asked[int(number[1:])]] = name
+
+    def spelled(self, language_class, name):
+        return self.known[name] if may_change(language_class, name) else name
