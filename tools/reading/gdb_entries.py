@@ -50,17 +50,17 @@ class GdbNames:
         holders = (self._open_around(target) for target in self.items.said[item.offset].targets)
         return next((holder for holder in holders if holder is not None), None)
 
-    def scope(self, item):
-        """The items of its scope path that give a component, the innermost first; none where the path is too long."""
+    def path(self, item):
+        """Its scope path, the innermost first; none where it is too long."""
         path, member = [], self._parent(item)
         while member is not None:
             if len(path) == limits.SCOPE_STEPS:
                 return []
             path.append(member)
             member = self._parent(member)
-        return [member for member in path if self._gives_component(member)]
+        return path
 
-    def _gives_component(self, member):
+    def gives_component(self, member):
         said = self.items.said[member.offset]
         return said.name is not None and (member.tag != gdb_rules.ENUMERATION or said.scoped)
 
@@ -71,13 +71,17 @@ class GdbNames:
         own = self.spelled(language_class, name)
         if language_class not in gdb_rules.SEPARATORS:
             return own
-        outer = [self.spelled(self.class_of(member), self.items.said[member.offset].name) for member in self.scope(item)]
-        return gdb_rules.SEPARATORS[language_class].join(outer[::-1] + [own])
+        return gdb_rules.SEPARATORS[language_class].join(self.components(self.path(item)) + [own])
+
+    def components(self, path):
+        """What a path gives to names, from the outermost inwards."""
+        return [self.spelled(self.class_of(member), self.items.said[member.offset].name)
+                for member in reversed(path) if self.gives_component(member)]
 
     def _ada_name(self, item):
         """What is decoded has its scope in itself; what isn't stands in what is around it."""
         pieces = []
-        for member in [item] + self.scope(item):
+        for member in [item] + [member for member in self.path(item) if self.gives_component(member)]:
             name = self.items.said[member.offset].name
             decoded = gdb_ada.decoded(name)
             pieces.append(name if decoded is None else decoded)

@@ -26,7 +26,7 @@ class GdbItems:
     def _read(self, items, language_class):
         for item in items:
             if self._is_reached(item) and self._is_looked_at(item):
-                self.said[item.offset] = self._said(item, language_class)
+                self.said[item.offset] = self.says(item, language_class)
                 if self._is_open(item, language_class):
                     self.opened.add(item.offset)
 
@@ -49,7 +49,7 @@ class GdbItems:
         around = self.around[item.offset]
         local = around is not None and around.tag == gdb_rules.SUBPROGRAM
         allowed = local if item.tag == gdb_rules.ENTRY_POINT else not local or item.tag == gdb_rules.SUBPROGRAM
-        return allowed and gdb_rules.counts(item.abbreviation)
+        return allowed and gdb_rules.counts(item)
 
     def _is_open(self, item, language_class):
         if not item.children:
@@ -66,10 +66,10 @@ class GdbItems:
 
     def _target(self, item):
         """What the last of the item's origin attributes names."""
-        origins = [attribute for attribute, _, _ in item.abbreviation.attributes if attribute in gdb_rules.ORIGINS]
-        value = item.first(origins[-1]) if origins else None
-        if value is None or value[0] not in attributes.REFERENCES:
+        origins = [value for attribute, value in item.values.items() if attribute in gdb_rules.ORIGINS]
+        if not origins or origins[-1][0] not in attributes.REFERENCES:
             return None
+        value = origins[-1]
         return self.by_offset.get(target_of(item.unit, value, self.info_length))
 
     def _chain(self, item):
@@ -78,14 +78,14 @@ class GdbItems:
             chain.append(self._target(chain[-1]))
         return [member for member in chain if member is not None]
 
-    def _said(self, item, language_class):
-        declared = attributes.has_flag(item, attributes.DECLARATION) and not (
-            item.tag == gdb_rules.VARIABLE_TAG and attributes.has_flag(item, attributes.EXTERNAL))
-        chain, said = [item] if declared else self._chain(item), Said()
-        said.targets, said.hidden = chain[1:], declared and gdb_rules.is_declared_scope(item)
-        named = [] if declared and not said.hidden else chain
-        said.name = next((member.name for member in named if member.name), None)
-        said.linkage = next((member.linkage for member in named if member.linkage), None)
+    def says(self, item, language_class):
+        """What an item says, whether it is looked at or not."""
+        said = Said()
+        said.hidden = gdb_rules.gives_scope_alone(item)
+        chain = [item] if said.hidden else self._chain(item)
+        said.targets = chain[1:]
+        said.name = next((member.name for member in chain if member.name), None)
+        said.linkage = next((member.linkage for member in chain if member.linkage), None)
         said.external = any(attributes.has_flag(member, attributes.EXTERNAL) for member in chain)
         said.scoped = any(attributes.has_flag(member, attributes.ENUM_CLASS) for member in chain)
         if item.tag == gdb_rules.NAMESPACE and said.name is None:

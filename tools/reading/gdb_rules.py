@@ -2,7 +2,7 @@
 
 They are those of gdb 13 and 16 (gdb/dwarf2/read.c, abbrev.c, cooked-index.c, index-write.c); docs/GDB.md has them in words. Where the
 two differ 16's form stands here."""
-from . import attributes, forms
+from . import attributes
 from .rules import FUNCTION, OTHER, TYPE, VARIABLE
 
 C, CXX, ADA, RUST, D, GO, FORTRAN, ANY = "C", "C++", "Ada", "Rust", "D", "Go", "Fortran", "any"
@@ -36,23 +36,22 @@ def class_of(language, producer):
     return GO if producer and GO_COMPILER in producer else CLASSES.get(language, ANY)
 
 
-def is_declared_scope(item):
-    return item.tag in DECLARED_SCOPES and item.children
+def is_declared(item):
+    """A variable that is external is looked at all the same."""
+    external = item.tag == VARIABLE_TAG and attributes.has_flag(item, attributes.EXTERNAL)
+    return attributes.has_flag(item, attributes.DECLARATION) and not external
 
 
-def counts(abbreviation):
-    """Whether gdb looks at the items with an abbreviation at all (abbrev.c, `abbrev_table::read`)."""
-    form_of = {}
-    for attribute, form, _ in abbreviation.attributes:
-        form_of.setdefault(attribute, form)
-    if not any(attribute in form_of for attribute in NAMES + ORIGINS):
-        return abbreviation.tag in (NAMESPACE, ENUMERATION)
-    if is_declared_scope(abbreviation):
-        return True
-    declared = form_of.get(attributes.DECLARATION) == forms.FLAG_PRESENT
-    if declared and not (abbreviation.tag == VARIABLE_TAG and attributes.EXTERNAL in form_of):
+def gives_scope_alone(item):
+    """Whether it isn't listed itself, but gives its name to what stands in it."""
+    return is_declared(item) and item.tag in DECLARED_SCOPES and item.children
+
+
+def counts(item):
+    """Whether gdb looks at such an item wherever it comes to it (abbrev.c, `abbrev_table::read`, which asks the abbreviation)."""
+    if item.tag not in (NAMESPACE, ENUMERATION) and all(item.first(attribute) is None for attribute in NAMES + ORIGINS):
         return False
-    return abbreviation.tag in KINDS
+    return item.tag in KINDS and (not is_declared(item) or gives_scope_alone(item))
 
 
 def has_local_subprograms(language_class):

@@ -7,10 +7,9 @@ ROOT_TAGS = (0x11, 0x3C, 0x41, 0x4A)
 
 
 class Item:
-    """A debugging information entry: its joint offset, its depth, its parent, its abbreviation, and the values of its attributes."""
+    """A debugging information entry: its joint offset, its depth, its parent, and the values of its attributes."""
 
-    __slots__ = ("unit", "offset", "depth", "parent", "abbreviation", "tag", "children", "values", "name", "linkage", "visited",
-                 "followed")
+    __slots__ = ("unit", "offset", "depth", "parent", "tag", "children", "values", "name", "linkage", "visited", "followed")
 
     def first(self, attribute):
         """The value of the first attribute with this number, in whatever form, or None."""
@@ -38,8 +37,7 @@ def _item_at(unit, table, at, depth):
         raise Fault(faults.BAD_ROOT, offset)
     item = Item()
     item.unit, item.offset, item.depth = unit, offset, depth
-    item.abbreviation, item.values = abbreviation, {}
-    item.tag, item.children = abbreviation.tag, abbreviation.children
+    item.tag, item.children, item.values = abbreviation.tag, abbreviation.children, {}
     try:
         for attribute, form, constant in abbreviation.attributes:
             value, behind = forms.read_value(unit, form, constant, behind)
