@@ -3,8 +3,8 @@ wide characters, `ada_encode`)."""
 import re
 
 SUFFIX = re.compile(rb"(.+)\.([A-Za-z]*)", re.DOTALL)
-DIGITS = re.compile(rb"(.+?)(?:\.|\$|___|__)[0-9]+", re.DOTALL)
-LATE_DIGITS = re.compile(rb"(.+?)(?:__[0-9]+(?:_[0-9]+)*|\$[0-9]+(?:_[0-9]+)*)", re.DOTALL)
+DIGITS = re.compile(rb"(.*?)(?:\.|\$|___|__)[0-9]+", re.DOTALL)
+LATE_DIGITS = re.compile(rb"(.*?)(?:__[0-9]+(?:_[0-9]+)*|\$[0-9]+(?:_[0-9]+)*)", re.DOTALL)
 UNPROTECTED = re.compile(rb".*[0-9a-z]N", re.DOTALL)
 BLOCK = re.compile(rb"__B_[0-9]+(?=__.)", re.DOTALL)
 ENTRY = re.compile(rb"_E[0-9]+[bs](?=_|$)")
