@@ -65,12 +65,10 @@ class GdbItems:
         return may and self.said[item.offset].name is not None
 
     def _target(self, item):
-        """What the last of the item's origin attributes names."""
-        origins = [value for attribute, value in item.values.items() if attribute in gdb_rules.ORIGINS]
-        if not origins or origins[-1][0] not in attributes.REFERENCES:
-            return None
-        value = origins[-1]
-        return self.by_offset.get(target_of(item.unit, value, self.info_length))
+        """What the first of the item's origin attributes names."""
+        values = (item.first(attribute) for attribute in gdb_rules.ORIGINS)
+        value = next((value for value in values if value is not None and value[0] in attributes.REFERENCES), None)
+        return None if value is None else self.by_offset.get(target_of(item.unit, value, self.info_length))
 
     def _chain(self, item):
         chain = [item]

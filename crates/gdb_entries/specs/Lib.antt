@@ -1,0 +1,12 @@
+pub mod Classes
+pub mod Kinds
+pub mod Rules
+pub mod Owners
+pub mod Chains
+pub mod Reached
+pub mod Scopes
+pub mod AdaNames
+pub mod Names
+pub mod Entries
+pub mod MadeFile
+pub mod Vectors
