@@ -17,11 +17,13 @@ from generated import packed            # noqa: E402
 OUT = os.path.join(os.path.dirname(TOOLS), "crates", "gdb_entries", "specs", "MadeFile.antt")
 # Abbreviations: their tag, whether they have children, their attributes and forms.
 ABBREVIATIONS = {
-    "unit": (0x11, 1, "0x13 0x0b"), "partial": (0x3C, 1, ""), "import": (0x3D, 0, "0x18 0x10"),
+    "unit": (0x11, 1, "0x13 0x0b"), "made": (0x11, 1, "0x13 0x0b 0x25 8"),
+    "partial": (0x3C, 1, ""), "import": (0x3D, 0, "0x18 0x10"),
     "namespace": (0x39, 1, "3 8"), "nameless": (0x39, 1, ""), "declared namespace": (0x39, 1, "3 8 0x3c 0x19"),
     "structure": (0x13, 1, "3 8"), "declared structure": (0x13, 1, "3 8 0x3c 0x19"), "completed": (0x13, 1, "0x47 0x13"),
     "scoped": (0x04, 1, "3 8 0x6d 0x19"), "enumeration": (0x04, 1, ""), "enumerator": (0x28, 0, "3 8"),
-    "method": (0x2E, 0, "3 8 0x3f 0x19 0x3c 0x19"), "body": (0x2E, 0, "0x47 0x13"), "called": (0x2E, 0, "0x6e 8"),
+    "method": (0x2E, 0, "3 8 0x3f 0x19 0x3c 0x19"), "body": (0x2E, 0, "0x47 0x13"),
+    "instance": (0x2E, 0, "0x31 0x13"), "called": (0x2E, 0, "0x6e 8"),
     "function": (0x2E, 1, "3 8 0x6e 8"), "local": (0x2E, 1, "3 8"), "block": (0x0B, 1, ""),
     "variable": (0x34, 0, "3 8"), "outside": (0x34, 0, "3 8 0x3f 0x19 0x3c 0x19"), "declared": (0x34, 0, "3 8 0x3c 0x19"),
     "module": (0x1E, 1, "3 8"), "entry": (0x03, 0, "3 8"), "type": (0x24, 0, "3 8"),
@@ -33,13 +35,18 @@ CODES = {name: code for code, name in enumerate(ABBREVIATIONS, 1)}
 # Each unit as the lines of its tree: what the item is, its texts and what it refers to; `-` ends the children of an item.
 UNITS = [
     ("Cxx", """unit 4|import =Partial|namespace n|structure s|Method: method m|scoped e|enumerator a|-|enumeration|enumerator b|-|-
-        |nameless|variable v|-|-|body @Method|outside x|declared y|called _Z1gv|function f _Z1fv|variable inner|-
+        |nameless|variable v|-|-|Body: body @Method|instance @Body|outside x|declared y|called _Z1gv|function f _Z1fv|variable inner|-
         |declared namespace d|declared structure t|Inner: declared structure u|-|-|-|completed @Inner|enumerator z|-|-"""),
     ("Rust", "unit 0x1c|namespace core|namespace fmt|structure Formatter|local pad|-|-|-|-|-"),
-    ("Ada", "unit 0x0d|local _ada_demo|variable kept|block|function demo__add__2 demo__add__2|-|-|-|variable shapes__made|variable Odd__x|-"),
+    ("Ada", """unit 0x0d|local _ada_demo|variable kept|block|function demo__add__2 demo__add__2|function odd___Y odd|-|-|-|-
+        |variable shapes__made|variable Odd__x|-"""),
     ("Fortran", "unit 8|module shapes|function area __shapes_MOD_area|entry again|-|type real|-|-"),
     ("C", "unit 0x0c|structure point|enumerator hidden|-|function main main|-|-"),
-    ("Partial", "partial|structure shared|variable within|-|-"),
+    ("D", "unit 0x13|module demo|structure Point|local sum|variable n|-|-|-|-"),
+    ("Go", "made 1_GNU_Go_12|structure main.T|local F|-|-|-"),
+    ("Partial", "partial|import =Other|structure shared|variable within|-|-"),
+    ("Other", "partial|structure further|-|-"),
+    ("Alone", "partial|structure unread|-|-"),
 ]
 
 
@@ -51,8 +58,9 @@ def _item(line, unit):
     count = next(count for count in (2, 1) if " ".join(words[:count]) in CODES)
     lines = [" .uleb128 %d" % CODES[" ".join(words[:count])]]
     for word in words[count:]:
-        if words[0] == "unit":
-            lines.append(" .byte " + word)
+        if words[0] in ("unit", "made"):
+            language, _, producer = word.partition("_")
+            lines.append(" .byte " + language + ("\n .asciz \"%s\"" % producer.replace("_", " ") if producer else ""))
         elif word[0] in "=@":
             lines.append(" .4byte %s - %s" % (("I" + word[1:], "Cxx") if word[0] == "@" else (word[1:] + "R", "Cxx")))
         else:
@@ -89,13 +97,14 @@ def file_of(folder):
 
 
 def ada_names(gdb, folder):
-    """How gdb lists each of some names of Ada, one a unit, since gdb takes the scopes of a unit's names for each other's."""
+    """How gdb lists some names of Ada, each in a unit of its own: in one gdb takes the scopes of names for each other's."""
     source, made = os.path.join(folder, "ada.s"), os.path.join(folder, "ada")
     with open(source, "w") as file:
         file.write(" .section .debug_abbrev,\"\",@progbits\n .uleb128 1,0x11,1,0x13,0x0b,0,0,2,0x34,0,3,8,0x6e,8,0,0,0\n")
         file.write(" .section .debug_info,\"\",@progbits\n")
         for number, name in enumerate(ADA):
-            file.write(" .4byte 2f-1f\n1: .2byte 4\n .4byte 0\n .byte 8,1,0x0d,2\n .asciz \"%s\"\n .asciz \"n%d\"\n .byte 0\n2:\n" % (name, number))
+            file.write(" .4byte 2f-1f\n1: .2byte 4\n .4byte 0\n .byte 8,1,0x0d,2\n")
+            file.write(" .asciz \"%s\"\n .asciz \"n%d\"\n .byte 0\n2:\n" % (name, number))
     subprocess.run(["as", "-o", made, source], check=True)
     of_unit = {}
     for name, elements in compare.gdb_names(gdb, made).of.items():

@@ -4,7 +4,7 @@
 ghost use Rattle.gdb_entries.specs.Vectors.{Lists, ListsAda};
 ghost use Rattle.gdb_entries.specs.MadeFile.{made_file, made_names, ada_names};
 
-/// A program with units of C, C++, Rust, Ada and Fortran, and a partial unit.
+/// A program with units of C, C++, Rust, Ada, Fortran, D and Go, and partial units that are imported and one that isn't.
 pub fn made_program()
     ensures { Lists made_file made_names }
 {}
