@@ -19,6 +19,7 @@ class Difference:
         self.what, self.name, self.kind = what, name, kind
         self.numbers, self.static = {number for number, _ in elements}, all(static for _, static in elements)
         self.units, self.type_units = {index.units[number] for number in self.numbers}, index.type_units()
+        self.version = index.version
 
     def __str__(self):
         kind = rules.KIND_WORDS.get(self.kind, b"none").decode()
@@ -27,11 +28,11 @@ class Difference:
 
 
 class Names:
-    """gdb's own index: `units` says of each number whether it is that of a type unit, and where the unit begins; `of` has of each
-    name the elements (kind, number, static)."""
+    """gdb's own index and its version, which is 8 of gdb 13.1 and 9 of 16.3. `units` says of each number whether it is that of a
+    type unit, and where the unit begins; `of` has of each name the elements (kind, number, static)."""
 
     def __init__(self, index):
-        self.units, self.of = [], {}
+        self.units, self.of, self.version = [], {}, int.from_bytes(index.data[:4], "little")
         for area, size in (("units", 16), ("types", 24)):
             begin, end = index.areas[area]
             self.units += [(area, int.from_bytes(index.data[at:at + 8], "little")) for at in range(begin, end, size)]
