@@ -1,0 +1,1 @@
+"""Names of C++ with the spelling that gdb has for them, and that ours has."""
