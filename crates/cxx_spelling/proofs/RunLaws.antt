@@ -4,7 +4,8 @@ use Rattle.std.specs.Prelude.{Bool, true, false, if◌then◌else◌, Option, So
 use Rattle.cxx_spelling.specs.declared.translation.Progress.{Progress}
 use Rattle.cxx_spelling.specs.declared.translation.Progress.TheVariants as progress
 use Rattle.cxx_spelling.specs.Seen.{Reaches, Runs}
-use Rattle.cxx_spelling.specs.Translation.{State, Reached, Going, Finished, Refused, step, after, finished, run}
+use Rattle.std.specs.List.{filter}
+use Rattle.cxx_spelling.specs.Translation.{State, Reached, Going, Finished, Refused, is_written, step, after, finished, run}
 
 more : (n k : ℕ) (s : State) → k < n → run (n - k) s ≡ after (λ t. run (n - (k + 1)) t) (step s)
 unfolding run
@@ -32,9 +33,9 @@ pub reaches_finished :
     (p : Progress) (left : State) (reached : Reached) → p ≡ progress.Finished → Reaches left (Ok p) reached → reached ≡ Finished left
 reaches_finished p left reached e h = subst (λ q. Reaches left (Ok q) reached) e h
 
--- the text of a run is what was written, where the whole name was taken
+-- the text of a run is what was written, without the gaps that stayed, where the whole name was taken
 pub runs_to :
-    (whole : Bool) (left : State) (text : Option (List ℕ)) → text ≡ finished left → finished left ≡ (if whole then Some left.out else None)
+    (whole : Bool) (left : State) (text : Option (List ℕ)) → text ≡ finished left → finished left ≡ (if whole then Some (filter is_written left.out) else None)
     → Runs left (Ok whole) text
 runs_to true left text e h = e ∙ h
 runs_to false left text e h = e ∙ h

@@ -25,12 +25,23 @@ is_word_byte b = is_letter b || is_digit b
 abbrev pub ends_word : ℕ → Bool
 ends_word b = not (is_word_byte b)
 
--- what integer literals go on with ([lex.icon]): digits, and the letters of a prefix, of hexadecimal digits and of a suffix
+-- what literals go on with ([lex.icon], [lex.fcon]): digits, and the letters of a prefix, of hexadecimal digits and of a suffix
 abbrev pub is_literal_byte : ℕ → Bool
 is_literal_byte b = is_between 65 90 b || is_between 97 122 b || is_digit b
 
 abbrev pub ends_literal : ℕ → Bool
 ends_literal b = not (is_literal_byte b)
+
+-- exponent-part ([lex.fcon]): `e` and a sign
+abbrev pub is_exponent_byte : ℕ → Bool
+is_exponent_byte b = b == 101 || b == 69
+
+abbrev pub is_sign_byte : ℕ → Bool
+is_sign_byte b = b == 43 || b == 45
+
+-- floating-point-suffix ([lex.fcon]): `f` or `l`, small or large
+abbrev pub is_float_byte : ℕ → Bool
+is_float_byte b = b == 102 || b == 70
 
 -- integer-suffix ([lex.icon]): `l` and `u`, small or large
 abbrev pub is_long_byte : ℕ → Bool

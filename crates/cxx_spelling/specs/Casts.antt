@@ -4,17 +4,21 @@ use Rattle.cxx_spelling.specs.declared.kind.Kind.{Kind}
 use Rattle.cxx_spelling.specs.declared.kind.Kind.TheVariants as token
 use Rattle.cxx_spelling.specs.declared.symbol.Symbol.{Symbol}
 use Rattle.cxx_spelling.specs.declared.symbol.Symbol.TheVariants.{Do, Expand}
-use Rattle.cxx_spelling.specs.declared.symbol.Action.TheVariants.{BeginQualifiers, Skip, Take, TakeBoolCast, TakeDigits, TakeIntegerCast, TakeNumber, TakeWord, WriteBool, WriteOpen, WriteWords}
-use Rattle.cxx_spelling.specs.declared.symbol.Nonterminal.TheVariants.{Address, BoolOperand, CastBool, CastEnd, CastOperand, CastWords, CvQualifiers, Declarator, GroupEnd, IntegerOperand, Parenthesised, TypeId}
+use Rattle.cxx_spelling.specs.declared.symbol.Action.TheVariants.{BeginQualifiers, Skip, Take, TakeBoolCast, TakeCharacter, TakeFloating, TakeFloatingCast, TakeIntegerCast, TakeLongDouble, TakeNumber, TakeOperand, TakeWord, WriteBool, WriteOpen, WriteWords}
+use Rattle.cxx_spelling.specs.declared.symbol.Nonterminal.TheVariants.{Address, BoolOperand, CastBool, CastEnd, CastFloating, CastGroup, CastOperand, CastWords, CvQualifiers, Declarator, FloatingOperand, GroupEnd, IntegerOperand, Parenthesised, ParenthesisEnd, TypeId}
 
--- behind a `(`, which is not written yet: an address, a literal, or a cast ([expr.cast]); of floating-point types none
+-- behind a `(`, which is not written yet: an address, a literal, or a cast ([expr.cast])
 abbrev pub parenthesised : Kind → Option (List Symbol)
 parenthesised token.Reference = Some (Do Take ∷ Expand Address ∷ Expand GroupEnd ∷ [])
 parenthesised token.Number = Some (Do TakeNumber ∷ Expand GroupEnd ∷ [])
+parenthesised token.Character = Some (Do TakeCharacter ∷ Expand GroupEnd ∷ [])
+parenthesised token.Truth = Some (Do Take ∷ Expand GroupEnd ∷ [])
+parenthesised token.Floating = Some (Do TakeFloating ∷ Expand GroupEnd ∷ [])
 parenthesised token.OpenParenthesis = Some (Do Skip ∷ Expand Parenthesised ∷ Expand GroupEnd ∷ [])
 parenthesised (token.Integer word) = Some (Do TakeWord ∷ Expand CastWords ∷ [])
 parenthesised token.Bool = Some (Do Skip ∷ Expand CastBool ∷ [])
-parenthesised token.Double = None
+parenthesised token.Double = Some (Do WriteOpen ∷ Do Take ∷ Expand CastFloating ∷ [])
+parenthesised token.Float = Some (Do WriteOpen ∷ Do Take ∷ Expand CastFloating ∷ [])
 parenthesised _ = Some (Do WriteOpen ∷ Expand TypeId ∷ Expand CastEnd ∷ [])
 
 -- the end of a group whose parentheses fall
@@ -26,6 +30,7 @@ group_end _ = None
 abbrev pub cast_words : Kind → Option (List Symbol)
 cast_words (token.Integer word) = Some (Do TakeWord ∷ Expand CastWords ∷ [])
 cast_words token.CloseParenthesis = Some (Do Skip ∷ Expand IntegerOperand ∷ [])
+cast_words token.Double = Some (Do WriteOpen ∷ Do TakeLongDouble ∷ Expand CastFloating ∷ [])
 cast_words _ = Some (Do WriteOpen ∷ Do WriteWords ∷ Do BeginQualifiers ∷ Expand CvQualifiers ∷ Expand Declarator ∷ Expand CastEnd ∷ [])
 
 -- a cast to `bool`
@@ -33,25 +38,54 @@ abbrev pub cast_bool : Kind → Option (List Symbol)
 cast_bool token.CloseParenthesis = Some (Do Skip ∷ Expand BoolOperand ∷ [])
 cast_bool _ = Some (Do WriteOpen ∷ Do WriteBool ∷ Do BeginQualifiers ∷ Expand CvQualifiers ∷ Expand Declarator ∷ Expand CastEnd ∷ [])
 
+-- a cast to a floating-point type: a literal is written in brackets
+abbrev pub cast_floating : Kind → Option (List Symbol)
+cast_floating token.CloseParenthesis = Some (Do Take ∷ Expand FloatingOperand ∷ [])
+cast_floating _ = Some (Do BeginQualifiers ∷ Expand CvQualifiers ∷ Expand Declarator ∷ Expand CastEnd ∷ [])
+
 -- the end of any other cast
 abbrev pub cast_end : Kind → Option (List Symbol)
 cast_end token.CloseParenthesis = Some (Do Take ∷ Expand CastOperand ∷ [])
 cast_end _ = None
 
--- the literal that is cast, which stands without a suffix
+-- what is cast: a literal, which stands without a suffix, or something in parentheses
 abbrev pub cast_operand : Kind → Option (List Symbol)
-cast_operand token.Number = Some (Do TakeDigits ∷ [])
-cast_operand token.Character = Some (Do Take ∷ [])
+cast_operand token.Number = Some (Do TakeOperand ∷ [])
+cast_operand token.Character = Some (Do TakeOperand ∷ [])
+cast_operand token.Truth = Some (Do TakeOperand ∷ [])
+cast_operand token.Floating = Some (Do TakeOperand ∷ [])
+cast_operand token.OpenParenthesis = Some (Do Skip ∷ Expand CastGroup ∷ [])
 cast_operand _ = None
+
+-- behind a `(` that is not written yet: a literal, which stands without parentheses, or an address
+abbrev pub cast_group : Kind → Option (List Symbol)
+cast_group token.Number = Some (Do TakeOperand ∷ Expand GroupEnd ∷ [])
+cast_group token.Character = Some (Do TakeOperand ∷ Expand GroupEnd ∷ [])
+cast_group token.Truth = Some (Do TakeOperand ∷ Expand GroupEnd ∷ [])
+cast_group token.Floating = Some (Do TakeOperand ∷ Expand GroupEnd ∷ [])
+cast_group token.Reference = Some (Do WriteOpen ∷ Do Take ∷ Expand Address ∷ Expand ParenthesisEnd ∷ [])
+cast_group _ = None
 
 -- the literal of an integer type
 abbrev pub integer_operand : Kind → Option (List Symbol)
 integer_operand token.Number = Some (Do TakeIntegerCast ∷ [])
 integer_operand token.Character = Some (Do TakeIntegerCast ∷ [])
+integer_operand token.Truth = Some (Do TakeIntegerCast ∷ [])
+integer_operand token.Floating = Some (Do TakeIntegerCast ∷ [])
 integer_operand _ = None
 
 -- the literal of `bool`
 abbrev pub bool_operand : Kind → Option (List Symbol)
 bool_operand token.Number = Some (Do TakeBoolCast ∷ [])
 bool_operand token.Character = Some (Do TakeBoolCast ∷ [])
+bool_operand token.Truth = Some (Do TakeBoolCast ∷ [])
+bool_operand token.Floating = Some (Do TakeBoolCast ∷ [])
 bool_operand _ = None
+
+-- the literal of a floating-point type
+abbrev pub floating_operand : Kind → Option (List Symbol)
+floating_operand token.Number = Some (Do TakeFloatingCast ∷ [])
+floating_operand token.Character = Some (Do TakeFloatingCast ∷ [])
+floating_operand token.Truth = Some (Do TakeFloatingCast ∷ [])
+floating_operand token.Floating = Some (Do TakeFloatingCast ∷ [])
+floating_operand _ = None

@@ -4,8 +4,8 @@ use Rattle.cxx_spelling.specs.declared.kind.Kind.{Kind}
 use Rattle.cxx_spelling.specs.declared.kind.Kind.TheVariants as token
 use Rattle.cxx_spelling.specs.declared.symbol.Symbol.{Symbol}
 use Rattle.cxx_spelling.specs.declared.symbol.Symbol.TheVariants.{Do, Expand}
-use Rattle.cxx_spelling.specs.declared.symbol.Action.TheVariants.{BeginQualifiers, Skip, Take, WriteNestedOpen, WriteOpen, WriteSpace}
-use Rattle.cxx_spelling.specs.declared.symbol.Nonterminal.TheVariants.{Array, CvQualifiers, Declarator, DeclaratorSuffix, InnerDeclarator, InnerRest, MemberArguments, MemberName, MemberNext, MemberPointer, MemberScope, MoreArguments, MoreArrays, NestedDeclarator, Parameters, ParenthesisEnd, PtrOperator, TemplateArgument}
+use Rattle.cxx_spelling.specs.declared.symbol.Action.TheVariants.{BeginQualifiers, FillSpace, LeaveGap, Skip, Take, TakeReference, WriteNestedOpen, WriteOpen, WriteSpace}
+use Rattle.cxx_spelling.specs.declared.symbol.Nonterminal.TheVariants.{Array, CvQualifiers, Declarator, DeclaratorSuffix, InnerDeclarator, InnerRest, MemberArguments, MemberName, MemberNext, MemberPointer, MemberScope, MoreArguments, MoreArrays, NestedDeclarator, NestedSuffix, Parameters, ParenthesisEnd, PtrOperator, TemplateArgument}
 
 -- abstract-declarator ([dcl.name]): pointers, references, pointers to members, and functions or arrays behind them
 abbrev pub declarator : Kind → Option (List Symbol)
@@ -22,8 +22,8 @@ declarator _ = Some []
 -- ptr-operator ([dcl.decl]): a pointer with its qualifiers, or a reference
 abbrev pub ptr_operator : Kind → Option (List Symbol)
 ptr_operator token.Star = Some (Do Take ∷ Do BeginQualifiers ∷ Expand CvQualifiers ∷ [])
-ptr_operator token.Reference = Some (Do Take ∷ [])
-ptr_operator token.RvalueReference = Some (Do Take ∷ [])
+ptr_operator token.Reference = Some (Do TakeReference ∷ [])
+ptr_operator token.RvalueReference = Some (Do TakeReference ∷ [])
 ptr_operator _ = None
 
 -- a declarator in parentheses: it begins with a ptr-operator
@@ -42,18 +42,31 @@ inner_rest token.Reference = Some (Expand PtrOperator ∷ Expand InnerRest ∷ [
 inner_rest token.RvalueReference = Some (Expand PtrOperator ∷ Expand InnerRest ∷ [])
 inner_rest token.Name = Some (Do WriteSpace ∷ Expand MemberPointer ∷ Expand InnerRest ∷ [])
 inner_rest token.Scope = Some (Do WriteSpace ∷ Expand MemberPointer ∷ Expand InnerRest ∷ [])
-inner_rest token.OpenParenthesis = Some (Do Skip ∷ Expand NestedDeclarator ∷ Expand ParenthesisEnd ∷ Expand Parameters ∷ [])
+inner_rest token.OpenParenthesis = Some (Do Skip ∷ Expand NestedDeclarator ∷ [])
 inner_rest token.OpenBracket = Some (Do WriteSpace ∷ Expand Array ∷ Expand MoreArrays ∷ [])
 inner_rest _ = Some []
 
--- a declarator in parentheses inside of one, behind a `(` that is not written yet: only parameters may stand behind it
+-- what is in parentheses there, behind a `(` that is not written yet: what it is a pointer to tells whether a blank stands before it
+abbrev pub nested_pointer : List Symbol
+nested_pointer = Do WriteNestedOpen ∷ Expand InnerDeclarator ∷ Expand ParenthesisEnd ∷ Expand NestedSuffix ∷ []
+
+abbrev pub nested_member : List Symbol
+nested_member = Do WriteSpace ∷ Do WriteOpen ∷ Expand InnerDeclarator ∷ Expand ParenthesisEnd ∷ Expand DeclaratorSuffix ∷ []
+
+-- a declarator in parentheses inside of one
 abbrev pub nested_declarator : Kind → Option (List Symbol)
-nested_declarator token.Star = Some (Do WriteNestedOpen ∷ Expand InnerDeclarator ∷ [])
-nested_declarator token.Reference = Some (Do WriteNestedOpen ∷ Expand InnerDeclarator ∷ [])
-nested_declarator token.RvalueReference = Some (Do WriteNestedOpen ∷ Expand InnerDeclarator ∷ [])
-nested_declarator token.Name = Some (Do WriteSpace ∷ Do WriteOpen ∷ Expand InnerDeclarator ∷ [])
-nested_declarator token.Scope = Some (Do WriteSpace ∷ Do WriteOpen ∷ Expand InnerDeclarator ∷ [])
+nested_declarator token.Star = Some nested_pointer
+nested_declarator token.Reference = Some nested_pointer
+nested_declarator token.RvalueReference = Some nested_pointer
+nested_declarator token.Name = Some nested_member
+nested_declarator token.Scope = Some nested_member
 nested_declarator _ = None
+
+-- behind it: parameters, or bounds, before which a blank stands
+abbrev pub nested_suffix : Kind → Option (List Symbol)
+nested_suffix token.OpenParenthesis = Some (Do LeaveGap ∷ Expand Parameters ∷ [])
+nested_suffix token.OpenBracket = Some (Do FillSpace ∷ Do WriteSpace ∷ Expand Array ∷ Expand MoreArrays ∷ [])
+nested_suffix _ = None
 
 -- behind a declarator in parentheses: parameters or bounds
 abbrev pub declarator_suffix : Kind → Option (List Symbol)

@@ -31,12 +31,18 @@ value_keyword word =
     else if bytes_eq word (codes "operator") then token.Operator
     else class_keyword word
 
+abbrev pub floating_keyword : List ℕ → Kind
+floating_keyword word =
+    if bytes_eq word (codes "double") then token.Double
+    else if bytes_eq word (codes "float") then token.Float
+    else value_keyword word
+
 abbrev pub type_keyword : List ℕ → Kind
 type_keyword word =
     if bytes_eq word (codes "void") then token.Void
     else if bytes_eq word (codes "bool") then token.Bool
-    else if bytes_eq word (codes "double") then token.Double
-    else value_keyword word
+    else if bytes_eq word (codes "wchar_t") then token.WideCharacter
+    else floating_keyword word
 
 abbrev pub width_keyword : List ℕ → Kind
 width_keyword word =

@@ -4,8 +4,8 @@ use Rattle.cxx_spelling.specs.declared.kind.Kind.{Kind}
 use Rattle.cxx_spelling.specs.declared.kind.Kind.TheVariants as token
 use Rattle.cxx_spelling.specs.declared.symbol.Symbol.{Symbol}
 use Rattle.cxx_spelling.specs.declared.symbol.Symbol.TheVariants.{Do, Expand}
-use Rattle.cxx_spelling.specs.declared.symbol.Action.TheVariants.{Skip, Take, TakeCharacter, TakeGreater, TakeNumber, WriteSpace}
-use Rattle.cxx_spelling.specs.declared.symbol.Nonterminal.TheVariants.{Address, AddressName, AddressRest, AddressScope, MoreArguments, NameArguments, NameRest, Parenthesised, QualifiedName, TemplateArgument, TypeId}
+use Rattle.cxx_spelling.specs.declared.symbol.Action.TheVariants.{BeginGap, BeginQualifiers, FillOpen, LeaveGap, Skip, Take, TakeCharacter, TakeFloating, TakeGreater, TakeNumber, WriteClose, WriteSpace}
+use Rattle.cxx_spelling.specs.declared.symbol.Nonterminal.TheVariants.{Address, AddressArguments, AddressMember, AddressName, AddressNext, AddressRest, AddressScope, ConversionPointers, MemberPointer, MoreArguments, NameArguments, NameRest, Parenthesised, PtrOperator, QualifiedName, TemplateArgument, TypeId, TypeSpecifier}
 
 -- qualified-id without what names the global namespace ([expr.prim.id.qual])
 abbrev pub qualified_name : Kind → Option (List Symbol)
@@ -35,6 +35,7 @@ template_argument token.OpenParenthesis = Some (Do Skip ∷ Expand Parenthesised
 template_argument token.Number = Some (Do TakeNumber ∷ [])
 template_argument token.Character = Some (Do TakeCharacter ∷ [])
 template_argument token.Truth = Some (Do Take ∷ [])
+template_argument token.Floating = Some (Do TakeFloating ∷ [])
 template_argument _ = Some (Expand TypeId ∷ [])
 
 -- the address of a variable or a function
@@ -42,17 +43,43 @@ abbrev pub address : Kind → Option (List Symbol)
 address token.Scope = Some (Do Skip ∷ Expand AddressName ∷ [])
 address _ = Some (Expand AddressName ∷ [])
 
--- the name whose address is taken
+-- the name whose address is taken, before which a parenthesis may come
 abbrev pub address_name : Kind → Option (List Symbol)
-address_name token.Name = Some (Do Take ∷ Expand AddressRest ∷ [])
+address_name token.Name = Some (Do BeginGap ∷ Do Take ∷ Expand AddressRest ∷ [])
 address_name _ = None
 
 -- its arguments, where it is a template
 abbrev pub address_rest : Kind → Option (List Symbol)
 address_rest token.Less = Some (Do Take ∷ Expand TemplateArgument ∷ Expand MoreArguments ∷ Expand AddressScope ∷ [])
-address_rest _ = Some (Expand NameRest ∷ [])
+address_rest token.Scope = Some (Do LeaveGap ∷ Do Take ∷ Expand AddressMember ∷ [])
+address_rest _ = Some (Do LeaveGap ∷ [])
 
--- a template there has to be the scope of a name: the address of a template is written otherwise, and has no rule
+-- a template that isn't the scope of a name is written in parentheses
 abbrev pub address_scope : Kind → Option (List Symbol)
-address_scope token.Scope = Some (Do Take ∷ Expand QualifiedName ∷ [])
-address_scope _ = None
+address_scope token.Scope = Some (Do LeaveGap ∷ Do Take ∷ Expand AddressMember ∷ [])
+address_scope _ = Some (Do FillOpen ∷ Do WriteClose ∷ [])
+
+-- what stands in a scope: a name, or a conversion function ([class.conv.fct])
+abbrev pub address_member : Kind → Option (List Symbol)
+address_member token.Name = Some (Do Take ∷ Expand AddressArguments ∷ [])
+address_member token.Operator = Some (Do Take ∷ Do WriteSpace ∷ Do BeginQualifiers ∷ Expand TypeSpecifier ∷ Expand ConversionPointers ∷ [])
+address_member _ = None
+
+-- its arguments
+abbrev pub address_arguments : Kind → Option (List Symbol)
+address_arguments token.Less = Some (Do Take ∷ Expand TemplateArgument ∷ Expand MoreArguments ∷ Expand AddressNext ∷ [])
+address_arguments _ = Some (Expand AddressNext ∷ [])
+
+-- what stands in it
+abbrev pub address_next : Kind → Option (List Symbol)
+address_next token.Scope = Some (Do Take ∷ Expand AddressMember ∷ [])
+address_next _ = Some []
+
+-- conversion-declarator: the pointers behind the type to which such a function converts
+abbrev pub conversion_pointers : Kind → Option (List Symbol)
+conversion_pointers token.Star = Some (Expand PtrOperator ∷ Expand ConversionPointers ∷ [])
+conversion_pointers token.Reference = Some (Expand PtrOperator ∷ Expand ConversionPointers ∷ [])
+conversion_pointers token.RvalueReference = Some (Expand PtrOperator ∷ Expand ConversionPointers ∷ [])
+conversion_pointers token.Name = Some (Do WriteSpace ∷ Expand MemberPointer ∷ Expand ConversionPointers ∷ [])
+conversion_pointers token.Scope = Some (Do WriteSpace ∷ Expand MemberPointer ∷ Expand ConversionPointers ∷ [])
+conversion_pointers _ = Some []

@@ -4,10 +4,10 @@ use Rattle.cxx_spelling.specs.declared.kind.Kind.{Kind}
 use Rattle.cxx_spelling.specs.declared.symbol.Symbol.{Symbol}
 use Rattle.cxx_spelling.specs.declared.symbol.Nonterminal.{Nonterminal}
 use Rattle.cxx_spelling.specs.declared.symbol.Nonterminal.TheVariants as symbol
-use Rattle.cxx_spelling.specs.Names.{qualified_name, name_arguments, name_rest, more_arguments, template_argument, address, address_name, address_rest, address_scope}
+use Rattle.cxx_spelling.specs.Names.{qualified_name, name_arguments, name_rest, more_arguments, template_argument, address, address_name, address_rest, address_scope, address_member, address_arguments, address_next, conversion_pointers}
 use Rattle.cxx_spelling.specs.Types.{type_id, type_specifier, more_words, cv_qualifiers, array, array_bound, bracket_end, more_arrays, parameters, parameter_list, after_void, more_parameters, parameter}
-use Rattle.cxx_spelling.specs.Casts.{parenthesised, group_end, cast_words, cast_bool, cast_end, cast_operand, integer_operand, bool_operand}
-use Rattle.cxx_spelling.specs.Declarators.{declarator, ptr_operator, inner_declarator, inner_rest, nested_declarator, declarator_suffix, parenthesis_end, member_pointer, member_name, member_arguments, member_scope, member_next}
+use Rattle.cxx_spelling.specs.Casts.{parenthesised, group_end, cast_words, cast_bool, cast_floating, cast_end, cast_operand, cast_group, integer_operand, bool_operand, floating_operand}
+use Rattle.cxx_spelling.specs.Declarators.{declarator, ptr_operator, inner_declarator, inner_rest, nested_declarator, nested_suffix, declarator_suffix, parenthesis_end, member_pointer, member_name, member_arguments, member_scope, member_next}
 use Rattle.cxx_spelling.specs.Functions.{start, start_rest, start_parenthesis, start_name, start_arguments, start_end, start_next, local, conversion_rest}
 
 -- what a symbol stands for in sight of the next token; none where the name is refused
@@ -21,6 +21,10 @@ rule symbol.Address kind = address kind
 rule symbol.AddressName kind = address_name kind
 rule symbol.AddressRest kind = address_rest kind
 rule symbol.AddressScope kind = address_scope kind
+rule symbol.AddressMember kind = address_member kind
+rule symbol.AddressArguments kind = address_arguments kind
+rule symbol.AddressNext kind = address_next kind
+rule symbol.ConversionPointers kind = conversion_pointers kind
 rule symbol.TypeId kind = type_id kind
 rule symbol.TypeSpecifier kind = type_specifier kind
 rule symbol.MoreWords kind = more_words kind
@@ -38,15 +42,19 @@ rule symbol.Parenthesised kind = parenthesised kind
 rule symbol.GroupEnd kind = group_end kind
 rule symbol.CastWords kind = cast_words kind
 rule symbol.CastBool kind = cast_bool kind
+rule symbol.CastFloating kind = cast_floating kind
 rule symbol.CastEnd kind = cast_end kind
 rule symbol.CastOperand kind = cast_operand kind
+rule symbol.CastGroup kind = cast_group kind
 rule symbol.IntegerOperand kind = integer_operand kind
 rule symbol.BoolOperand kind = bool_operand kind
+rule symbol.FloatingOperand kind = floating_operand kind
 rule symbol.Declarator kind = declarator kind
 rule symbol.PtrOperator kind = ptr_operator kind
 rule symbol.InnerDeclarator kind = inner_declarator kind
 rule symbol.InnerRest kind = inner_rest kind
 rule symbol.NestedDeclarator kind = nested_declarator kind
+rule symbol.NestedSuffix kind = nested_suffix kind
 rule symbol.DeclaratorSuffix kind = declarator_suffix kind
 rule symbol.ParenthesisEnd kind = parenthesis_end kind
 rule symbol.MemberPointer kind = member_pointer kind

@@ -6,7 +6,8 @@ use Rattle.cxx_spelling.specs.declared.translation.Translation.{Translation}
 use Rattle.cxx_spelling.specs.declared.translation.Progress.{Progress}
 use Rattle.cxx_spelling.specs.declared.translation.Progress.TheVariants as progress
 use Rattle.cxx_spelling.specs.Tokens.{Lexeme}
-use Rattle.cxx_spelling.specs.Translation.{State, Reached, Going, Finished, Refused}
+use Rattle.std.specs.List.{filter}
+use Rattle.cxx_spelling.specs.Translation.{State, Reached, Going, Finished, Refused, is_written}
 
 -- the bytes of a token
 abbrev pub seen_token : Token → Lexeme
@@ -24,6 +25,7 @@ seen t = record {
   qualifiers = t.qualifiers;
   outer = stacked (λ set. set) t.outer.items;
   words = t.words;
+  gaps = stacked (λ place. place) t.gaps.items;
   parts = t.current.now ∷ stacked (λ symbols. symbols.now) t.pending.items;
 }
 
@@ -34,8 +36,8 @@ Reaches left (Ok progress.Finished) reached = reached ≡ Finished left
 Reaches left (Ok progress.Refused) reached = reached ≡ Refused
 Reaches left (Err _) reached = Unit {0}
 
--- where a run comes to a text, it is what was written
+-- where a run comes to a text, it is what was written, without the gaps that stayed
 abbrev pub Runs : State → Result Bool AllocError → Option (List ℕ) → Type 0
-Runs left (Ok true) text = text ≡ Some left.out
+Runs left (Ok true) text = text ≡ Some (filter is_written left.out)
 Runs left (Ok false) text = text ≡ None
 Runs left (Err _) text = Unit {0}

@@ -1,9 +1,9 @@
 -- The tokens of a name ([lex.token]), as gdb tells them apart.
-use Rattle.std.specs.Prelude.{ℕ, ◌+◌, min, Bool, not, ◌&&◌, ◌||◌, ◌==◌, nat_eq, if◌then◌else◌, List, [], ◌∷◌, length, take, drop, slice_index, codes}
+use Rattle.std.specs.Prelude.{ℕ, ◌+◌, ◌-◌, min, Bool, not, ◌&&◌, ◌||◌, ◌==◌, nat_eq, if◌then◌else◌, List, [], ◌∷◌, length, take, drop, slice_index, codes}
 use Rattle.std.specs.List.{list_any, starts_with}
 use Rattle.cxx_spelling.specs.declared.kind.Kind.{Kind}
 use Rattle.cxx_spelling.specs.declared.kind.Kind.TheVariants as token
-use Rattle.cxx_spelling.specs.Bytes.{until, is_digit, is_letter, is_between, is_no_blank, ends_word, ends_literal}
+use Rattle.cxx_spelling.specs.Bytes.{until, is_digit, is_letter, is_between, is_no_blank, ends_word, ends_literal, is_exponent_byte, is_sign_byte, is_float_byte, is_long_byte}
 use Rattle.cxx_spelling.specs.Keywords.{keyword}
 
 -- a token, and what stands behind it
@@ -54,21 +54,47 @@ punctuation bytes =
 
 -- ---- literals
 
--- an integer literal ([lex.icon]), in sight of the next byte: a point or an exponent makes a floating-point literal, which no rule takes
-abbrev pub number_kind : List ℕ → ℕ → Kind
-number_kind text behind =
-    let second = slice_index text 1 in
-    if behind == 46 then token.Other
-    else if slice_index text 0 == 48 && (second == 120 || second == 88) then token.Number
-    else if list_any (λ b. nat_eq b 101) text || list_any (λ b. nat_eq b 69) text then token.Other
-    else token.Number
+-- a hexadecimal literal, in which `e` is a digit
+abbrev pub is_hexadecimal : List ℕ → Bool
+is_hexadecimal text = slice_index text 0 == 48 && (slice_index text 1 == 120 || slice_index text 1 == 88)
+
+abbrev pub has_exponent : List ℕ → Bool
+has_exponent text = not (is_hexadecimal text) && (list_any (λ b. nat_eq b 101) text || list_any (λ b. nat_eq b 69) text)
+
+abbrev pub last_byte : List ℕ → ℕ
+last_byte text = slice_index text (length text - 1)
+
+-- how many bytes behind a text belong to it as a point and digits
+abbrev pub fraction : List ℕ → List ℕ → ℕ
+fraction text [] = 0
+fraction text (first ∷ behind) = if first == 46 && not (has_exponent text) then until ends_literal behind + 1 else 0
+
+-- how many bytes behind a text that ends with `e` belong to it as a sign and digits
+abbrev pub exponent : List ℕ → List ℕ → ℕ
+exponent text [] = 0
+exponent text (first ∷ behind) =
+    if is_sign_byte first && has_exponent text && is_exponent_byte (last_byte text) then until ends_literal behind + 1 else 0
+
+-- a floating-point literal ([lex.fcon]) has a point or an exponent, and ends with a digit, a point or a suffix; else it is an integer literal ([lex.icon])
+abbrev pub number_kind : List ℕ → Kind
+number_kind text =
+    let last = last_byte text in
+    if not (list_any (λ b. nat_eq b 46) text || has_exponent text) then token.Number
+    else if is_digit last || last == 46 || is_float_byte last || is_long_byte last then token.Floating
+    else token.Other
+
+-- where a literal ends that begins with so many bytes
+abbrev pub literal_end : ℕ → List ℕ → ℕ
+literal_end n bytes =
+    let m = n + fraction (take n bytes) (drop n bytes) in
+    m + exponent (take m bytes) (drop m bytes)
 
 -- it begins with a digit, or with `-` before one
 abbrev pub number : List ℕ → Kind × ℕ
 number [] = (token.End, 0)
 number (first ∷ behind) =
-    let n = until ends_literal behind + 1 in
-    (number_kind (take n (first ∷ behind)) (slice_index (first ∷ behind) n), n)
+    let n = literal_end (until ends_literal behind + 1) (first ∷ behind) in
+    (number_kind (take n (first ∷ behind)), n)
 
 abbrev pub is_octal : ℕ → Bool
 is_octal b = is_between 48 55 b

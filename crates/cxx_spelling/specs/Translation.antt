@@ -1,5 +1,6 @@
 -- How a name is read and written anew.
-use Rattle.std.specs.Prelude.{ℕ, zero, suc, ◌+◌, ◌-◌, ◌*◌, Bool, ◌==◌, nat_lt, if◌then◌else◌, List, [], ◌∷◌, ◌++◌, length, take, drop, slice_index, count_by, codes, bytes_eq, Option, Some, None}
+use Rattle.std.specs.Prelude.{ℕ, zero, suc, ◌+◌, ◌-◌, ◌*◌, Bool, not, ◌||◌, ◌==◌, nat_lt, if◌then◌else◌, List, [], ◌∷◌, ◌++◌, length, take, drop, slice_index, slice_set, count_by, codes, bytes_eq, Option, Some, None}
+use Rattle.std.specs.List.{filter}
 use Rattle.cxx_spelling.specs.declared.kind.Kind.{Kind}
 use Rattle.cxx_spelling.specs.declared.kind.Kind.TheVariants as token
 use Rattle.cxx_spelling.specs.declared.symbol.Symbol.{Symbol}
@@ -10,11 +11,11 @@ use Rattle.cxx_spelling.specs.declared.symbol.Nonterminal.TheVariants.{Start}
 use Rattle.cxx_spelling.specs.declared.integers.IntegerWords.{IntegerWords}
 use Rattle.cxx_spelling.specs.declared.integers.IntegerType.{IntegerType}
 use Rattle.cxx_spelling.specs.declared.qualifiers.Qualifiers.{Qualifiers}
-use Rattle.cxx_spelling.specs.Bytes.{until, is_suffix_byte, is_long_byte, is_unsigned_byte}
+use Rattle.cxx_spelling.specs.Bytes.{until, is_suffix_byte, is_long_byte, is_unsigned_byte, is_float_byte}
 use Rattle.cxx_spelling.specs.Integers.{no_words, with_word, is_long, integer_type, type_name, suffix_of}
 use Rattle.cxx_spelling.specs.Qualifiers.{no_qualifiers, with_qualifier}
 use Rattle.cxx_spelling.specs.Rules.{rule}
-use Rattle.cxx_spelling.specs.Tokens.{Lexeme, first_token}
+use Rattle.cxx_spelling.specs.Tokens.{Lexeme, first_token, last_byte}
 
 -- a name that is being read and written anew
 pub record State : Type 0 where
@@ -23,6 +24,7 @@ pub record State : Type 0 where
   pub qualifiers : Qualifiers  -- the set of qualifiers that is open
   pub outer : List Qualifiers  -- those around it, the innermost first
   pub words : IntegerWords  -- the words of an integer type
+  pub gaps : List ℕ  -- the places of what has been written where a byte may still come, the last one first
   pub parts : List (List Symbol)  -- what is still to come of the rules that were begun, the last one first
 
 -- how far a step comes
@@ -49,9 +51,25 @@ suffix_text text =
     let letters = drop (until is_suffix_byte text) text in
     suffix_form (count_by is_unsigned_byte letters) (count_by is_long_byte letters)
 
+-- a floating-point literal without its suffix ([lex.fcon])
+abbrev pub floating_digits : List ℕ → List ℕ
+floating_digits text = let last = last_byte text in if is_float_byte last || is_long_byte last then take (length text - 1) text else text
+
+-- its type
+abbrev pub floating_type : List ℕ → List ℕ
+floating_type text =
+    let last = last_byte text in
+    if is_float_byte last then codes "(float)" else if is_long_byte last then codes "(long double)" else codes "(double)"
+
+-- a literal of `bool` as a number: `true` begins with `t`
+abbrev pub truth_digits : List ℕ → List ℕ
+truth_digits text = if slice_index text 0 == 116 then codes "1" else codes "0"
+
 -- the literal in a cast: a character as it stands, a number without its suffix
 abbrev pub operand_by : Kind → List ℕ → List ℕ
 operand_by token.Character text = text
+operand_by token.Truth text = truth_digits text
+operand_by token.Floating text = floating_digits text
 operand_by _ text = digits_of text
 
 abbrev pub operand : Lexeme → List ℕ
@@ -93,7 +111,37 @@ wrote_bool digits s =
     else if bytes_eq digits (codes "1") then wrote (codes "true") s
     else wrote digits (wrote (codes "(bool)") s)
 
+-- a literal of a floating-point type stands in brackets, behind its sign
+abbrev pub wrote_bracketed : List ℕ → State → State
+wrote_bracketed [] s = wrote (codes "[]") s
+wrote_bracketed (first ∷ digits) s =
+    if first == 45 then wrote (codes "]") (wrote digits (wrote (codes "-[") s))
+    else wrote (codes "]") (wrote (first ∷ digits) (wrote (codes "[") s))
+
+-- a place where a byte may still come: until then a zero byte stands there, or a blank
+abbrev pub began_gap : ℕ → State → State
+began_gap b s = record s { out = s.out ++ b ∷ []; gaps = length s.out ∷ s.gaps }
+
+abbrev pub with_byte : ℕ → ℕ → List ℕ → List ℕ
+with_byte place b text = if nat_lt place (length text) then slice_set text place b else text
+
+-- whether a byte was written; else it is a gap that stayed
+abbrev pub is_written : ℕ → Bool
+is_written b = not (b == 0)
+
 -- ---- what rules do
+
+abbrev pub leaves_gap : List ℕ → State → Reached
+leaves_gap [] s = Refused
+leaves_gap (place ∷ outer) s = Going (record s { gaps = outer })
+
+abbrev pub fills_gap : ℕ → List ℕ → State → Reached
+fills_gap b [] s = Refused
+fills_gap b (place ∷ outer) s = Going (record s { out = with_byte place b s.out; gaps = outer })
+
+-- gdb makes one reference of two, which no rule does
+abbrev pub takes_reference : State → Reached
+takes_reference s = if ends_with 38 s.out then Refused else Going (taken_as s.token.text s)
 
 abbrev pub takes_qualifier : Kind → State → Reached
 takes_qualifier (token.Qualifier one) s = Going (advanced (record s { qualifiers = with_qualifier s.qualifiers one }))
@@ -123,6 +171,7 @@ act action.Take s = Going (taken_as s.token.text s)
 act action.Skip s = Going (advanced s)
 act action.WriteSpace s = Going (wrote (codes " ") s)
 act action.WriteOpen s = Going (wrote (codes "(") s)
+act action.WriteClose s = Going (wrote (codes ")") s)
 act action.WriteVoid s = Going (wrote (codes "void") s)
 act action.WriteBool s = Going (wrote (codes "bool") s)
 act action.BeginQualifiers s = Going (record s { qualifiers = no_qualifiers; outer = s.qualifiers ∷ s.outer })
@@ -132,9 +181,16 @@ act action.TakeWord s = takes_word s.token.kind s
 act action.WriteWords s = writes_words (integer_type s.words) s
 act action.TakeLongDouble s = takes_long_double s
 act action.TakeGreater s = Going (taken_as (if ends_with 62 s.out then codes " >" else codes ">") s)
-act action.WriteNestedOpen s = Going (wrote (if ends_with 42 s.out then codes "(" else codes " (") s)
+act action.TakeReference s = takes_reference s
+act action.BeginGap s = Going (began_gap 0 s)
+act action.LeaveGap s = leaves_gap s.gaps s
+act action.FillOpen s = fills_gap 40 s.gaps s
+act action.FillSpace s = fills_gap 32 s.gaps s
+act action.WriteNestedOpen s = Going (wrote (codes "(") (began_gap (if ends_with 42 s.out then 0 else 32) s))
 act action.TakeNumber s = Going (advanced (wrote (suffix_text s.token.text) (wrote (digits_of s.token.text) s)))
-act action.TakeDigits s = Going (taken_as (digits_of s.token.text) s)
+act action.TakeOperand s = Going (taken_as (operand s.token) s)
+act action.TakeFloating s = Going (advanced (wrote_bracketed (floating_digits s.token.text) (wrote (floating_type s.token.text) s)))
+act action.TakeFloatingCast s = Going (advanced (wrote_bracketed (operand s.token) s))
 act action.TakeCharacter s = Going (taken_as s.token.text (wrote (codes "(char)") s))
 act action.TakeIntegerCast s = takes_integer_cast (integer_type s.words) s
 act action.TakeBoolCast s = Going (advanced (wrote_bool (operand s.token) s))
@@ -163,9 +219,9 @@ step_by ((symbol ∷ symbols) ∷ outer) s = performed symbol (record s { parts 
 abbrev pub step : State → Reached
 step s = step_by s.parts s
 
--- what has been written where the whole name was taken
+-- what has been written where the whole name was taken, without the gaps that stayed
 abbrev pub finished_by : Kind → List ℕ → Option (List ℕ)
-finished_by token.End text = Some text
+finished_by token.End text = Some (filter is_written text)
 finished_by _ text = None
 
 abbrev pub finished : State → Option (List ℕ)
@@ -190,6 +246,7 @@ begun name = record {
   qualifiers = no_qualifiers;
   outer = [];
   words = no_words;
+  gaps = [];
   parts = (Expand Start ∷ []) ∷ [];
 }
 

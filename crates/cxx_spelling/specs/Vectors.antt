@@ -17,6 +17,7 @@ pub record Declarators : Type 0 where
   pub nested : gdb_spelling (codes "A<int (*(*)(char))(long int)>") ≡ codes "A<int (*(*)(char))(long)>"
   pub members : gdb_spelling (codes "A<void(C::*)(long int) const>") ≡ codes "A<void (C::*)(long) const>"
   pub arrays : gdb_spelling (codes "A<long int (&)[3], char*[2][5]>") ≡ codes "A<long (&) [3], char* [2][5]>"
+  pub pointers_to_arrays : gdb_spelling (codes "A<int (*(*)[2])(long int)>") ≡ codes "A<int (* (*) [2])(long)>"
   pub conversion : gdb_spelling (codes "operator const A<long int>*") ≡ codes "operator A<long> const*"
 
 pub record Constants : Type 0 where
@@ -25,6 +26,10 @@ pub record Constants : Type 0 where
   pub types_that_stay : gdb_spelling (codes "A<(short)1, (N::E)2u>") ≡ codes "A<(short)1, (N::E)2>"
   pub characters : gdb_spelling (codes "A<'a', (unsigned)'b'>") ≡ codes "A<(char)'a', 'b'u>"
   pub addresses : gdb_spelling (codes "A<(& N::f<int>)>") ≡ codes "A<&N::f<int> >"
+  pub floating : gdb_spelling (codes "A<1.5e+0, -2.0f, (float)1>") ≡ codes "A<(double)[1.5e+0], (float)-[2.0], (float)[1]>"
+  pub numbers_for_truths : gdb_spelling (codes "A<(E)true, (int)false>") ≡ codes "A<(E)1, 0>"
+  pub templates : gdb_spelling (codes "A<&f<long int>, ((int*)(& g))>") ≡ codes "A<&(f<long>), (int*)(&g)>"
+  pub conversions : gdb_spelling (codes "A<&B::operator const char*>") ≡ codes "A<&B::operator char const*>"
 
 pub record Kept : Type 0 where
   pub shift : gdb_spelling (codes "A<B<long int>>") ≡ codes "A<B<long int>>"

@@ -1,7 +1,7 @@
 //! The bytes of names by their classes.
 
 ghost use Rattle.std.specs.Prelude.{◌≡◌, ◌<◌, ◌≤◌, length, slice_index, position, unwrap_or, not, IfSome};
-ghost use Rattle.cxx_spelling.specs.Bytes.{until, is_blank, is_letter, is_word_byte, is_literal_byte, is_suffix_byte, is_no_blank, ends_word, ends_literal};
+ghost use Rattle.cxx_spelling.specs.Bytes.{until, is_blank, is_letter, is_word_byte, is_literal_byte, is_suffix_byte, is_exponent_byte, is_sign_byte, is_float_byte, is_long_byte, is_no_blank, ends_word, ends_literal};
 
 /// Whether a byte is white space.
 pub(crate) fn is_blank(b: u8) -> bool
@@ -24,7 +24,7 @@ pub(crate) fn is_word_byte(b: u8) -> bool
     is_letter(b) || b.is_ascii_digit()
 }
 
-/// Whether an integer literal may go on with a byte.
+/// Whether a literal may go on with a byte.
 pub(crate) fn is_literal_byte(b: u8) -> bool
     ensures { result ≡ is_literal_byte b }
 {
@@ -36,6 +36,34 @@ pub(crate) fn is_suffix_byte(b: u8) -> bool
     ensures { result ≡ is_suffix_byte b }
 {
     b == b'l' || b == b'L' || b == b'u' || b == b'U'
+}
+
+/// Whether a byte begins an exponent.
+pub(crate) fn is_exponent_byte(b: u8) -> bool
+    ensures { result ≡ is_exponent_byte b }
+{
+    b == b'e' || b == b'E'
+}
+
+/// Whether a byte is a sign.
+pub(crate) fn is_sign_byte(b: u8) -> bool
+    ensures { result ≡ is_sign_byte b }
+{
+    b == b'+' || b == b'-'
+}
+
+/// Whether a byte is the suffix of `float`.
+pub(crate) fn is_float_byte(b: u8) -> bool
+    ensures { result ≡ is_float_byte b }
+{
+    b == b'f' || b == b'F'
+}
+
+/// Whether a byte is the suffix of `long` or of `long double`.
+pub(crate) fn is_long_byte(b: u8) -> bool
+    ensures { result ≡ is_long_byte b }
+{
+    b == b'l' || b == b'L'
 }
 
 /// The byte at a place, 0 behind the last one.
@@ -104,7 +132,7 @@ pub(crate) fn word_length(bytes: &[u8]) -> usize
     or_length(word_end(bytes), bytes)
 }
 
-/// How many bytes in front an integer literal may have.
+/// How many bytes in front a literal may have, up to a point or a sign.
 pub(crate) fn literal_length(bytes: &[u8]) -> usize
     ensures value { result ≡ until ends_literal bytes.now }
     ensures within { result ≤ length bytes.now }

@@ -1,31 +1,36 @@
 //! Literals in parentheses, and casts: the rules.
 
 ghost use Rattle.std.specs.Prelude.{◌≡◌, option_map};
-ghost use Rattle.cxx_spelling.specs.Casts.{parenthesised, group_end, cast_words, cast_bool, cast_end, cast_operand, integer_operand, bool_operand};
+ghost use Rattle.cxx_spelling.specs.Casts.{parenthesised, group_end, cast_words, cast_bool, cast_floating, cast_end, cast_operand, cast_group, integer_operand, bool_operand, floating_operand};
 
 use crate::kind::Kind;
 use crate::symbol::Action::{
-    BeginQualifiers, Skip, Take, TakeBoolCast, TakeDigits, TakeIntegerCast, TakeNumber, TakeWord,
-    WriteBool, WriteOpen, WriteWords,
+    BeginQualifiers, Skip, Take, TakeBoolCast, TakeCharacter, TakeFloating, TakeFloatingCast,
+    TakeIntegerCast, TakeLongDouble, TakeNumber, TakeOperand, TakeWord, WriteBool, WriteOpen,
+    WriteWords,
 };
 use crate::symbol::Nonterminal::{
-    Address, BoolOperand, CastBool, CastEnd, CastOperand, CastWords, CvQualifiers, Declarator,
-    GroupEnd, IntegerOperand, Parenthesised, TypeId,
+    Address, BoolOperand, CastBool, CastEnd, CastFloating, CastGroup, CastOperand, CastWords,
+    CvQualifiers, Declarator, FloatingOperand, GroupEnd, IntegerOperand, ParenthesisEnd,
+    Parenthesised, TypeId,
 };
 use crate::symbol::Symbol;
 use crate::symbol::Symbol::{Do, Expand};
 
-/// Behind a `(`, which is not written yet: an address, a literal, or a cast ([expr.cast]); of floating-point types none.
+/// Behind a `(`, which is not written yet: an address, a literal, or a cast ([expr.cast]).
 pub(crate) fn parenthesised(kind: Kind) -> Option<&'static [Symbol]>
     ensures { option_map (λ symbols. symbols.now) result ≡ parenthesised kind }
 {
     match kind {
         Kind::Reference => Some(&[Do(Take), Expand(Address), Expand(GroupEnd)]),
         Kind::Number => Some(&[Do(TakeNumber), Expand(GroupEnd)]),
+        Kind::Character => Some(&[Do(TakeCharacter), Expand(GroupEnd)]),
+        Kind::Truth => Some(&[Do(Take), Expand(GroupEnd)]),
+        Kind::Floating => Some(&[Do(TakeFloating), Expand(GroupEnd)]),
         Kind::OpenParenthesis => Some(&[Do(Skip), Expand(Parenthesised), Expand(GroupEnd)]),
         Kind::Integer(_) => Some(&[Do(TakeWord), Expand(CastWords)]),
         Kind::Bool => Some(&[Do(Skip), Expand(CastBool)]),
-        Kind::Double => None,
+        Kind::Double | Kind::Float => Some(&[Do(WriteOpen), Do(Take), Expand(CastFloating)]),
         _ => Some(&[Do(WriteOpen), Expand(TypeId), Expand(CastEnd)]),
     }
 }
@@ -47,6 +52,7 @@ pub(crate) fn cast_words(kind: Kind) -> Option<&'static [Symbol]>
     match kind {
         Kind::Integer(_) => Some(&[Do(TakeWord), Expand(CastWords)]),
         Kind::CloseParenthesis => Some(&[Do(Skip), Expand(IntegerOperand)]),
+        Kind::Double => Some(&[Do(WriteOpen), Do(TakeLongDouble), Expand(CastFloating)]),
         _ => Some(&[
             Do(WriteOpen),
             Do(WriteWords),
@@ -75,6 +81,21 @@ pub(crate) fn cast_bool(kind: Kind) -> Option<&'static [Symbol]>
     }
 }
 
+/// A cast to a floating-point type: a literal is written in brackets.
+pub(crate) fn cast_floating(kind: Kind) -> Option<&'static [Symbol]>
+    ensures { option_map (λ symbols. symbols.now) result ≡ cast_floating kind }
+{
+    match kind {
+        Kind::CloseParenthesis => Some(&[Do(Take), Expand(FloatingOperand)]),
+        _ => Some(&[
+            Do(BeginQualifiers),
+            Expand(CvQualifiers),
+            Expand(Declarator),
+            Expand(CastEnd),
+        ]),
+    }
+}
+
 /// The end of any other cast.
 pub(crate) fn cast_end(kind: Kind) -> Option<&'static [Symbol]>
     ensures { option_map (λ symbols. symbols.now) result ≡ cast_end kind }
@@ -85,13 +106,31 @@ pub(crate) fn cast_end(kind: Kind) -> Option<&'static [Symbol]>
     }
 }
 
-/// The literal that is cast, which stands without a suffix.
+/// What is cast: a literal, which stands without a suffix, or something in parentheses.
 pub(crate) fn cast_operand(kind: Kind) -> Option<&'static [Symbol]>
     ensures { option_map (λ symbols. symbols.now) result ≡ cast_operand kind }
 {
     match kind {
-        Kind::Number => Some(&[Do(TakeDigits)]),
-        Kind::Character => Some(&[Do(Take)]),
+        Kind::Number | Kind::Character | Kind::Truth | Kind::Floating => Some(&[Do(TakeOperand)]),
+        Kind::OpenParenthesis => Some(&[Do(Skip), Expand(CastGroup)]),
+        _ => None,
+    }
+}
+
+/// Behind a `(` that is not written yet: a literal, which stands without parentheses, or an address.
+pub(crate) fn cast_group(kind: Kind) -> Option<&'static [Symbol]>
+    ensures { option_map (λ symbols. symbols.now) result ≡ cast_group kind }
+{
+    match kind {
+        Kind::Number | Kind::Character | Kind::Truth | Kind::Floating => {
+            Some(&[Do(TakeOperand), Expand(GroupEnd)])
+        }
+        Kind::Reference => Some(&[
+            Do(WriteOpen),
+            Do(Take),
+            Expand(Address),
+            Expand(ParenthesisEnd),
+        ]),
         _ => None,
     }
 }
@@ -101,7 +140,9 @@ pub(crate) fn integer_operand(kind: Kind) -> Option<&'static [Symbol]>
     ensures { option_map (λ symbols. symbols.now) result ≡ integer_operand kind }
 {
     match kind {
-        Kind::Number | Kind::Character => Some(&[Do(TakeIntegerCast)]),
+        Kind::Number | Kind::Character | Kind::Truth | Kind::Floating => {
+            Some(&[Do(TakeIntegerCast)])
+        }
         _ => None,
     }
 }
@@ -111,7 +152,19 @@ pub(crate) fn bool_operand(kind: Kind) -> Option<&'static [Symbol]>
     ensures { option_map (λ symbols. symbols.now) result ≡ bool_operand kind }
 {
     match kind {
-        Kind::Number | Kind::Character => Some(&[Do(TakeBoolCast)]),
+        Kind::Number | Kind::Character | Kind::Truth | Kind::Floating => Some(&[Do(TakeBoolCast)]),
+        _ => None,
+    }
+}
+
+/// The literal of a floating-point type.
+pub(crate) fn floating_operand(kind: Kind) -> Option<&'static [Symbol]>
+    ensures { option_map (λ symbols. symbols.now) result ≡ floating_operand kind }
+{
+    match kind {
+        Kind::Number | Kind::Character | Kind::Truth | Kind::Floating => {
+            Some(&[Do(TakeFloatingCast)])
+        }
         _ => None,
     }
 }

@@ -1,14 +1,17 @@
 //! Declarators without a name: the rules.
 
 ghost use Rattle.std.specs.Prelude.{◌≡◌, option_map};
-ghost use Rattle.cxx_spelling.specs.Declarators.{declarator, ptr_operator, inner_declarator, inner_rest, nested_declarator, declarator_suffix, parenthesis_end, member_pointer, member_name, member_arguments, member_scope, member_next};
+ghost use Rattle.cxx_spelling.specs.Declarators.{declarator, ptr_operator, inner_declarator, inner_rest, nested_declarator, nested_suffix, declarator_suffix, parenthesis_end, member_pointer, member_name, member_arguments, member_scope, member_next};
 
 use crate::kind::Kind;
-use crate::symbol::Action::{BeginQualifiers, Skip, Take, WriteNestedOpen, WriteOpen, WriteSpace};
+use crate::symbol::Action::{
+    BeginQualifiers, FillSpace, LeaveGap, Skip, Take, TakeReference, WriteNestedOpen, WriteOpen,
+    WriteSpace,
+};
 use crate::symbol::Nonterminal::{
     Array, CvQualifiers, Declarator, DeclaratorSuffix, InnerDeclarator, InnerRest, MemberArguments,
     MemberName, MemberNext, MemberPointer, MemberScope, MoreArguments, MoreArrays,
-    NestedDeclarator, Parameters, ParenthesisEnd, PtrOperator, TemplateArgument,
+    NestedDeclarator, NestedSuffix, Parameters, ParenthesisEnd, PtrOperator, TemplateArgument,
 };
 use crate::symbol::Symbol;
 use crate::symbol::Symbol::{Do, Expand};
@@ -45,7 +48,7 @@ pub(crate) fn ptr_operator(kind: Kind) -> Option<&'static [Symbol]>
 {
     match kind {
         Kind::Star => Some(&[Do(Take), Do(BeginQualifiers), Expand(CvQualifiers)]),
-        Kind::Reference | Kind::RvalueReference => Some(&[Do(Take)]),
+        Kind::Reference | Kind::RvalueReference => Some(&[Do(TakeReference)]),
         _ => None,
     }
 }
@@ -78,18 +81,13 @@ pub(crate) fn inner_rest(kind: Kind) -> Option<&'static [Symbol]>
             Expand(MemberPointer),
             Expand(InnerRest),
         ]),
-        Kind::OpenParenthesis => Some(&[
-            Do(Skip),
-            Expand(NestedDeclarator),
-            Expand(ParenthesisEnd),
-            Expand(Parameters),
-        ]),
+        Kind::OpenParenthesis => Some(&[Do(Skip), Expand(NestedDeclarator)]),
         Kind::OpenBracket => Some(&[Do(WriteSpace), Expand(Array), Expand(MoreArrays)]),
         _ => Some(&[]),
     }
 }
 
-/// A declarator in parentheses inside of one, behind a `(` that is not written yet: only parameters may stand behind it.
+/// A declarator in parentheses inside of one, behind a `(` that is not written yet.
 pub(crate) fn nested_declarator(kind: Kind) -> Option<&'static [Symbol]>
     ensures { option_map (λ symbols. symbols.now) result ≡ nested_declarator kind }
 {
@@ -97,8 +95,32 @@ pub(crate) fn nested_declarator(kind: Kind) -> Option<&'static [Symbol]>
         Kind::Star | Kind::Reference | Kind::RvalueReference => Some(&[
             Do(WriteNestedOpen),
             Expand(InnerDeclarator),
+            Expand(ParenthesisEnd),
+            Expand(NestedSuffix),
         ]),
-        Kind::Name | Kind::Scope => Some(&[Do(WriteSpace), Do(WriteOpen), Expand(InnerDeclarator)]),
+        Kind::Name | Kind::Scope => Some(&[
+            Do(WriteSpace),
+            Do(WriteOpen),
+            Expand(InnerDeclarator),
+            Expand(ParenthesisEnd),
+            Expand(DeclaratorSuffix),
+        ]),
+        _ => None,
+    }
+}
+
+/// Behind it: parameters, or bounds, before which it stands behind a blank.
+pub(crate) fn nested_suffix(kind: Kind) -> Option<&'static [Symbol]>
+    ensures { option_map (λ symbols. symbols.now) result ≡ nested_suffix kind }
+{
+    match kind {
+        Kind::OpenParenthesis => Some(&[Do(LeaveGap), Expand(Parameters)]),
+        Kind::OpenBracket => Some(&[
+            Do(FillSpace),
+            Do(WriteSpace),
+            Expand(Array),
+            Expand(MoreArrays),
+        ]),
         _ => None,
     }
 }

@@ -1,7 +1,7 @@
 //! The words that aren't names (C++, [lex.key]).
 
 ghost use Rattle.std.specs.Prelude.{◌≡◌};
-ghost use Rattle.cxx_spelling.specs.Keywords.{keyword, sign_keyword, width_keyword, type_keyword, value_keyword, class_keyword, other_keyword, cast_keyword};
+ghost use Rattle.cxx_spelling.specs.Keywords.{keyword, sign_keyword, width_keyword, type_keyword, floating_keyword, value_keyword, class_keyword, other_keyword, cast_keyword};
 
 use crate::integers::IntegerWord;
 use crate::kind::Kind;
@@ -57,8 +57,20 @@ fn type_keyword(word: &[u8]) -> Kind
         Kind::Void
     } else if word == b"bool".as_slice() {
         Kind::Bool
-    } else if word == b"double".as_slice() {
+    } else if word == b"wchar_t".as_slice() {
+        Kind::WideCharacter
+    } else {
+        floating_keyword(word)
+    }
+}
+
+fn floating_keyword(word: &[u8]) -> Kind
+    ensures { result ≡ floating_keyword word.now }
+{
+    if word == b"double".as_slice() {
         Kind::Double
+    } else if word == b"float".as_slice() {
+        Kind::Float
     } else {
         value_keyword(word)
     }

@@ -11,6 +11,9 @@ pub(crate) enum Kind {
     /// An identifier, `(anonymous namespace)`, or a type's keyword that needs no rule of its own.
     Name,
     Double,
+    Float,
+    /// `wchar_t`
+    WideCharacter,
     Bool,
     Void,
     Integer(IntegerWord),
@@ -20,6 +23,8 @@ pub(crate) enum Kind {
     Operator,
     /// An integer literal, which may begin with `-`.
     Number,
+    /// A floating-point literal, which may too.
+    Floating,
     Character,
     /// `::`
     Scope,

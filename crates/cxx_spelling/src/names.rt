@@ -1,13 +1,17 @@
 //! Names and their template arguments: the rules.
 
 ghost use Rattle.std.specs.Prelude.{◌≡◌, option_map};
-ghost use Rattle.cxx_spelling.specs.Names.{qualified_name, name_arguments, name_rest, more_arguments, template_argument, address, address_name, address_rest, address_scope};
+ghost use Rattle.cxx_spelling.specs.Names.{qualified_name, name_arguments, name_rest, more_arguments, template_argument, address, address_name, address_rest, address_scope, address_member, address_arguments, address_next, conversion_pointers};
 
 use crate::kind::Kind;
-use crate::symbol::Action::{Skip, Take, TakeCharacter, TakeGreater, TakeNumber, WriteSpace};
+use crate::symbol::Action::{
+    BeginGap, BeginQualifiers, FillOpen, LeaveGap, Skip, Take, TakeCharacter, TakeFloating,
+    TakeGreater, TakeNumber, WriteClose, WriteSpace,
+};
 use crate::symbol::Nonterminal::{
-    Address, AddressName, AddressRest, AddressScope, MoreArguments, NameArguments, NameRest,
-    Parenthesised, QualifiedName, TemplateArgument, TypeId,
+    Address, AddressArguments, AddressMember, AddressName, AddressNext, AddressRest, AddressScope,
+    ConversionPointers, MemberPointer, MoreArguments, NameArguments, NameRest, Parenthesised,
+    PtrOperator, QualifiedName, TemplateArgument, TypeId, TypeSpecifier,
 };
 use crate::symbol::Symbol;
 use crate::symbol::Symbol::{Do, Expand};
@@ -73,6 +77,7 @@ pub(crate) fn template_argument(kind: Kind) -> Option<&'static [Symbol]>
         Kind::Number => Some(&[Do(TakeNumber)]),
         Kind::Character => Some(&[Do(TakeCharacter)]),
         Kind::Truth => Some(&[Do(Take)]),
+        Kind::Floating => Some(&[Do(TakeFloating)]),
         _ => Some(&[Expand(TypeId)]),
     }
 }
@@ -87,12 +92,12 @@ pub(crate) fn address(kind: Kind) -> Option<&'static [Symbol]>
     }
 }
 
-/// The name whose address is taken.
+/// The name whose address is taken, before which a parenthesis may come.
 pub(crate) fn address_name(kind: Kind) -> Option<&'static [Symbol]>
     ensures { option_map (λ symbols. symbols.now) result ≡ address_name kind }
 {
     match kind {
-        Kind::Name => Some(&[Do(Take), Expand(AddressRest)]),
+        Kind::Name => Some(&[Do(BeginGap), Do(Take), Expand(AddressRest)]),
         _ => None,
     }
 }
@@ -108,16 +113,77 @@ pub(crate) fn address_rest(kind: Kind) -> Option<&'static [Symbol]>
             Expand(MoreArguments),
             Expand(AddressScope),
         ]),
-        _ => Some(&[Expand(NameRest)]),
+        Kind::Scope => Some(&[Do(LeaveGap), Do(Take), Expand(AddressMember)]),
+        _ => Some(&[Do(LeaveGap)]),
     }
 }
 
-/// A template there has to be the scope of a name: the address of a template is written otherwise, and has no rule.
+/// A template that isn't the scope of a name is written in parentheses.
 pub(crate) fn address_scope(kind: Kind) -> Option<&'static [Symbol]>
     ensures { option_map (λ symbols. symbols.now) result ≡ address_scope kind }
 {
     match kind {
-        Kind::Scope => Some(&[Do(Take), Expand(QualifiedName)]),
+        Kind::Scope => Some(&[Do(LeaveGap), Do(Take), Expand(AddressMember)]),
+        _ => Some(&[Do(FillOpen), Do(WriteClose)]),
+    }
+}
+
+/// What stands in a scope: a name, or a conversion function ([class.conv.fct]).
+pub(crate) fn address_member(kind: Kind) -> Option<&'static [Symbol]>
+    ensures { option_map (λ symbols. symbols.now) result ≡ address_member kind }
+{
+    match kind {
+        Kind::Name => Some(&[Do(Take), Expand(AddressArguments)]),
+        Kind::Operator => Some(&[
+            Do(Take),
+            Do(WriteSpace),
+            Do(BeginQualifiers),
+            Expand(TypeSpecifier),
+            Expand(ConversionPointers),
+        ]),
         _ => None,
+    }
+}
+
+/// Its arguments.
+pub(crate) fn address_arguments(kind: Kind) -> Option<&'static [Symbol]>
+    ensures { option_map (λ symbols. symbols.now) result ≡ address_arguments kind }
+{
+    match kind {
+        Kind::Less => Some(&[
+            Do(Take),
+            Expand(TemplateArgument),
+            Expand(MoreArguments),
+            Expand(AddressNext),
+        ]),
+        _ => Some(&[Expand(AddressNext)]),
+    }
+}
+
+/// What stands in it.
+pub(crate) fn address_next(kind: Kind) -> Option<&'static [Symbol]>
+    ensures { option_map (λ symbols. symbols.now) result ≡ address_next kind }
+{
+    match kind {
+        Kind::Scope => Some(&[Do(Take), Expand(AddressMember)]),
+        _ => Some(&[]),
+    }
+}
+
+/// Conversion-declarator: the pointers behind the type to which such a function converts.
+pub(crate) fn conversion_pointers(kind: Kind) -> Option<&'static [Symbol]>
+    ensures { option_map (λ symbols. symbols.now) result ≡ conversion_pointers kind }
+{
+    match kind {
+        Kind::Star | Kind::Reference | Kind::RvalueReference => Some(&[
+            Expand(PtrOperator),
+            Expand(ConversionPointers),
+        ]),
+        Kind::Name | Kind::Scope => Some(&[
+            Do(WriteSpace),
+            Expand(MemberPointer),
+            Expand(ConversionPointers),
+        ]),
+        _ => Some(&[]),
     }
 }

@@ -4,12 +4,13 @@ ghost use Rattle.std.specs.Prelude.{◌≡◌, option_map};
 ghost use Rattle.cxx_spelling.specs.Rules.{rule};
 
 use crate::casts::{
-    bool_operand, cast_bool, cast_end, cast_operand, cast_words, group_end, integer_operand,
-    parenthesised,
+    bool_operand, cast_bool, cast_end, cast_floating, cast_group, cast_operand, cast_words,
+    floating_operand, group_end, integer_operand, parenthesised,
 };
 use crate::declarators::{
     declarator, declarator_suffix, inner_declarator, inner_rest, member_arguments, member_name,
-    member_next, member_pointer, member_scope, nested_declarator, parenthesis_end, ptr_operator,
+    member_next, member_pointer, member_scope, nested_declarator, nested_suffix, parenthesis_end,
+    ptr_operator,
 };
 use crate::functions::{
     conversion_rest, local, start, start_arguments, start_end, start_name, start_next,
@@ -17,8 +18,9 @@ use crate::functions::{
 };
 use crate::kind::Kind;
 use crate::names::{
-    address, address_name, address_rest, address_scope, more_arguments, name_arguments, name_rest,
-    qualified_name, template_argument,
+    address, address_arguments, address_member, address_name, address_next, address_rest,
+    address_scope, conversion_pointers, more_arguments, name_arguments, name_rest, qualified_name,
+    template_argument,
 };
 use crate::symbol::{Nonterminal, Symbol};
 use crate::types::{
@@ -40,6 +42,10 @@ pub(crate) fn rule(symbol: Nonterminal, kind: Kind) -> Option<&'static [Symbol]>
         Nonterminal::AddressName => address_name(kind),
         Nonterminal::AddressRest => address_rest(kind),
         Nonterminal::AddressScope => address_scope(kind),
+        Nonterminal::AddressMember => address_member(kind),
+        Nonterminal::AddressArguments => address_arguments(kind),
+        Nonterminal::AddressNext => address_next(kind),
+        Nonterminal::ConversionPointers => conversion_pointers(kind),
         Nonterminal::TypeId => type_id(kind),
         Nonterminal::TypeSpecifier => type_specifier(kind),
         Nonterminal::MoreWords => more_words(kind),
@@ -57,15 +63,19 @@ pub(crate) fn rule(symbol: Nonterminal, kind: Kind) -> Option<&'static [Symbol]>
         Nonterminal::GroupEnd => group_end(kind),
         Nonterminal::CastWords => cast_words(kind),
         Nonterminal::CastBool => cast_bool(kind),
+        Nonterminal::CastFloating => cast_floating(kind),
         Nonterminal::CastEnd => cast_end(kind),
         Nonterminal::CastOperand => cast_operand(kind),
+        Nonterminal::CastGroup => cast_group(kind),
         Nonterminal::IntegerOperand => integer_operand(kind),
         Nonterminal::BoolOperand => bool_operand(kind),
+        Nonterminal::FloatingOperand => floating_operand(kind),
         Nonterminal::Declarator => declarator(kind),
         Nonterminal::PtrOperator => ptr_operator(kind),
         Nonterminal::InnerDeclarator => inner_declarator(kind),
         Nonterminal::InnerRest => inner_rest(kind),
         Nonterminal::NestedDeclarator => nested_declarator(kind),
+        Nonterminal::NestedSuffix => nested_suffix(kind),
         Nonterminal::DeclaratorSuffix => declarator_suffix(kind),
         Nonterminal::ParenthesisEnd => parenthesis_end(kind),
         Nonterminal::MemberPointer => member_pointer(kind),

@@ -19,6 +19,10 @@ pub(crate) enum Nonterminal {
     AddressName,
     AddressRest,
     AddressScope,
+    AddressMember,
+    AddressArguments,
+    AddressNext,
+    ConversionPointers,
     TypeId,
     TypeSpecifier,
     MoreWords,
@@ -36,15 +40,19 @@ pub(crate) enum Nonterminal {
     GroupEnd,
     CastWords,
     CastBool,
+    CastFloating,
     CastEnd,
     CastOperand,
+    CastGroup,
     IntegerOperand,
     BoolOperand,
+    FloatingOperand,
     Declarator,
     PtrOperator,
     InnerDeclarator,
     InnerRest,
     NestedDeclarator,
+    NestedSuffix,
     DeclaratorSuffix,
     ParenthesisEnd,
     MemberPointer,
@@ -73,6 +81,8 @@ pub(crate) enum Action {
     WriteSpace,
     /// `(`
     WriteOpen,
+    /// `)`
+    WriteClose,
     WriteVoid,
     WriteBool,
     /// A set of qualifiers begins, inside of the one that is open.
@@ -86,12 +96,26 @@ pub(crate) enum Action {
     TakeLongDouble,
     /// The end of template arguments, never as `>>`.
     TakeGreater,
-    /// The `(` of a declarator inside of another one, behind a blank unless it stands behind a `*`.
+    /// A reference, which stands behind no other one.
+    TakeReference,
+    /// A gap begins: a byte may still come here.
+    BeginGap,
+    /// The last gap stays.
+    LeaveGap,
+    /// It becomes `(`.
+    FillOpen,
+    /// It becomes a blank.
+    FillSpace,
+    /// The `(` of a declarator inside of another one, behind a gap, which is a blank unless it stands behind a `*`.
     WriteNestedOpen,
     /// A literal, its suffix in its one form.
     TakeNumber,
-    /// A literal without its suffix.
-    TakeDigits,
+    /// A literal without its suffix: that of a cast.
+    TakeOperand,
+    /// A floating-point literal, in brackets behind its type.
+    TakeFloating,
+    /// A literal of a floating-point type, in brackets.
+    TakeFloatingCast,
     /// A character behind its type.
     TakeCharacter,
     /// A literal of the integer type of the words.

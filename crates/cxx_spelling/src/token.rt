@@ -1,12 +1,13 @@
 //! The tokens of a name (C++, [lex.token]).
 
 ghost use Rattle.std.specs.Prelude.{◌≡◌, ◌≤◌, length};
-ghost use Rattle.cxx_spelling.specs.Tokens.{is_octal, number_kind, number, octal, escape, character, literal_or_sign, shape, first_token};
+ghost use Rattle.cxx_spelling.specs.Tokens.{is_octal, octal, escape, character, literal_or_sign, shape, first_token};
 ghost use Rattle.cxx_spelling.specs.Seen.{seen_token};
 
-use crate::bytes::{blanks, byte_at, is_letter, literal_length, word_length};
+use crate::bytes::{blanks, byte_at, is_letter, word_length};
 use crate::keywords::keyword;
 use crate::kind::Kind;
+use crate::numbers::number;
 use crate::punctuation::punctuation;
 
 /// A token, and what stands behind it.
@@ -15,36 +16,6 @@ pub(crate) struct Token<'n> {
     pub(crate) kind: Kind,
     pub(crate) text: &'n [u8],
     pub(crate) rest: &'n [u8],
-}
-
-// What a number is, in sight of the byte behind it: a point or an exponent makes it a floating-point literal.
-fn number_kind(text: &[u8], behind: u8) -> Kind
-    ensures { result ≡ number_kind text.now behind }
-{
-    let second = byte_at(text, 1);
-    if behind == b'.' {
-        Kind::Other
-    } else if byte_at(text, 0) == b'0' && (second == b'x' || second == b'X') {
-        Kind::Number
-    } else if text.contains(&b'e') || text.contains(&b'E') {
-        Kind::Other
-    } else {
-        Kind::Number
-    }
-}
-
-// A number, which begins with a digit, or with `-` before one.
-fn number(bytes: &[u8]) -> (Kind, usize)
-    ensures { result ≡ number bytes.now }
-{
-    match bytes.split_first() {
-        None => (Kind::End, 0),
-        Some((_, behind)) => {
-            let length = literal_length(behind) + 1;
-            let (text, _) = bytes.split_at(length);
-            (number_kind(text, byte_at(bytes, length)), length)
-        }
-    }
 }
 
 fn is_octal(b: u8) -> bool

@@ -3,7 +3,8 @@
 ghost use Rattle.std.specs.Prelude.{◌≡◌, [], IfOk, option_map, Some, None, Ok, if◌then◌else◌};
 ghost use Rattle.cxx_spelling.specs.Seen.{seen, Reaches, Runs, stacked};
 ghost use Rattle.cxx_spelling.specs.Rules.{rule};
-ghost use Rattle.cxx_spelling.specs.Translation.{begun, expanded, closed, performed, step, finished, run, translation};
+ghost use Rattle.std.specs.List.{filter};
+ghost use Rattle.cxx_spelling.specs.Translation.{is_written, begun, expanded, closed, performed, step, finished, run, translation};
 
 use crate::integers::{IntegerWords, NO_WORDS};
 use crate::kind::Kind;
@@ -36,6 +37,8 @@ pub(crate) struct Translation<'n> {
     pub(crate) outer: Vec<Qualifiers>,
     /// The words of an integer type.
     pub(crate) words: IntegerWords,
+    /// The places of what has been written where a byte may still come, the last one behind.
+    pub(crate) gaps: Vec<usize>,
     /// What is still to come of the rule that was begun last, and of the rules before it, the first one first.
     pub(crate) current: &'static [Symbol],
     pub(crate) pending: Vec<&'static [Symbol]>,
@@ -57,6 +60,7 @@ impl<'n> Translation<'n> {
             qualifiers: NO_QUALIFIERS,
             outer: Vec::new(alloc),
             words: NO_WORDS,
+            gaps: Vec::new(alloc),
             current: WHOLE,
             pending: Vec::new(alloc),
         })
@@ -117,7 +121,7 @@ impl<'n> Translation<'n> {
 
     // Whether the whole name was taken.
     fn is_whole(&self) -> bool
-        ensures { finished (seen self.now) ≡ (if result then Some self.now.out.items else None) }
+        ensures { finished (seen self.now) ≡ (if result then Some (filter is_written self.now.out.items) else None) }
     {
         match self.token.kind {
             Kind::End => true,
@@ -141,6 +145,15 @@ impl<'n> Translation<'n> {
     }
 }
 
+// What was written, without the gaps that stayed.
+fn without_gaps(text: Vec<u8>) -> Vec<u8>
+    ensures { result.items ≡ filter is_written text.items }
+{
+    let mut text = text;
+    text.retain(|b| *b != 0);
+    text
+}
+
 /// A name written anew. None where it stands as it is.
 #[tactic(auto, unfolding(crate::specs::Translation::translation))]
 pub(crate) fn translated(alloc: Global, name: &[u8]) -> Result<Option<Vec<u8>>, AllocError>
@@ -151,7 +164,7 @@ pub(crate) fn translated(alloc: Global, name: &[u8]) -> Result<Option<Vec<u8>>, 
     }
     let mut name_anew = Translation::begin(alloc, name)?;
     if name_anew.run(32 * name.len() + 64)? {
-        Ok(Some(name_anew.out))
+        Ok(Some(without_gaps(name_anew.out)))
     } else {
         Ok(None)
     }

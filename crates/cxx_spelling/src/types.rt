@@ -35,7 +35,9 @@ pub(crate) fn type_specifier(kind: Kind) -> Option<&'static [Symbol]>
         Kind::Integer(_) => Some(&[Do(TakeWord), Expand(MoreWords), Expand(CvQualifiers)]),
         Kind::Scope => Some(&[Do(Skip), Expand(QualifiedName), Expand(CvQualifiers)]),
         Kind::Name => Some(&[Expand(QualifiedName), Expand(CvQualifiers)]),
-        Kind::Double | Kind::Bool | Kind::Void => Some(&[Do(Take), Expand(CvQualifiers)]),
+        Kind::Double | Kind::Float | Kind::WideCharacter | Kind::Bool | Kind::Void => {
+            Some(&[Do(Take), Expand(CvQualifiers)])
+        }
         _ => None,
     }
 }

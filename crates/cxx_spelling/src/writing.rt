@@ -2,15 +2,14 @@
 
 ghost use Rattle.std.specs.Prelude.{◌≡◌, OnOk, codes, Ok};
 ghost use Rattle.cxx_spelling.specs.Seen.{seen, Reaches};
-ghost use Rattle.cxx_spelling.specs.Integers.{integer_type, suffix_of};
-ghost use Rattle.cxx_spelling.specs.Translation.{wrote, wrote_if, advanced, taken_as, ends_with, wrote_qualifiers, wrote_typed, wrote_bool, takes_qualifier, ends_qualifiers, takes_word, writes_words, takes_long_double, takes_integer_cast, act, operand, digits_of, suffix_text};
+ghost use Rattle.cxx_spelling.specs.Integers.{integer_type};
+ghost use Rattle.cxx_spelling.specs.Translation.{wrote, wrote_if, advanced, taken_as, ends_with, wrote_qualifiers, takes_reference, takes_qualifier, ends_qualifiers, takes_word, writes_words, takes_long_double, act};
 ghost use Rattle.cxx_spelling.specs.Translation.{Going};
 ghost use Rattle.cxx_spelling.specs.declared.symbol.Action.TheVariants as action;
 
 use crate::bytes::byte_at;
-use crate::integers::{IntegerType, NO_WORDS};
+use crate::integers::NO_WORDS;
 use crate::kind::Kind;
-use crate::literals::{digits_of, operand, suffix_text};
 use crate::qualifiers::NO_QUALIFIERS;
 use crate::symbol::Action;
 use crate::token::first_token;
@@ -19,7 +18,7 @@ use std::alloc::AllocError;
 
 impl Translation<'_> {
     // A text is written.
-    fn write(&mut self, text: &[u8]) -> Result<(), AllocError>
+    pub(crate) fn write(&mut self, text: &[u8]) -> Result<(), AllocError>
         ensures { OnOk result (seen self.new ≡ wrote text.now (seen self.old)) }
     {
         self.out.extend_from_slice(text)?;
@@ -37,14 +36,14 @@ impl Translation<'_> {
     }
 
     // The next token is read.
-    fn advance(&mut self)
+    pub(crate) fn advance(&mut self)
         ensures { seen self.new ≡ advanced (seen self.old) }
     {
         self.token = first_token(self.token.rest);
     }
 
     // A text is written, and nothing is read.
-    fn put(&mut self, text: &[u8]) -> Result<Progress, AllocError>
+    pub(crate) fn put(&mut self, text: &[u8]) -> Result<Progress, AllocError>
         ensures { Reaches (seen self.new) result (Going (wrote text.now (seen self.old))) }
     {
         self.write(text)?;
@@ -52,7 +51,7 @@ impl Translation<'_> {
     }
 
     // A text is written for the token.
-    fn take_as(&mut self, text: &[u8]) -> Result<Progress, AllocError>
+    pub(crate) fn take_as(&mut self, text: &[u8]) -> Result<Progress, AllocError>
         ensures { Reaches (seen self.new) result (Going (taken_as text.now (seen self.old))) }
     {
         self.write(text)?;
@@ -68,6 +67,17 @@ impl Translation<'_> {
         self.take_as(text)
     }
 
+    // A reference, which stands behind no other one.
+    fn take_reference(&mut self) -> Result<Progress, AllocError>
+        ensures { Reaches (seen self.new) result (takes_reference (seen self.old)) }
+    {
+        if self.ends_with(b'&') {
+            Ok(Progress::Refused)
+        } else {
+            self.take()
+        }
+    }
+
     // The token falls.
     fn skip(&mut self) -> Progress
         ensures { Reaches (seen self.new) (Ok result) (act action.Skip (seen self.old)) }
@@ -77,7 +87,7 @@ impl Translation<'_> {
     }
 
     // Whether the text ends with a byte.
-    fn ends_with(&self, b: u8) -> bool
+    pub(crate) fn ends_with(&self, b: u8) -> bool
         ensures { result ≡ ends_with b self.now.out.items }
     {
         byte_at(self.out.as_slice(), self.out.len().saturating_sub(1)) == b
@@ -178,93 +188,6 @@ impl Translation<'_> {
         }
     }
 
-    fn write_nested_open(&mut self) -> Result<Progress, AllocError>
-        ensures { Reaches (seen self.new) result (act action.WriteNestedOpen (seen self.old)) }
-    {
-        if self.ends_with(b'*') {
-            self.put(b"(")
-        } else {
-            self.put(b" (")
-        }
-    }
-
-    fn take_number(&mut self) -> Result<Progress, AllocError>
-        ensures { Reaches (seen self.new) result (act action.TakeNumber (seen self.old)) }
-    {
-        let text = self.token.text;
-        self.write(digits_of(text))?;
-        self.take_as(suffix_text(text))
-    }
-
-    fn take_digits(&mut self) -> Result<Progress, AllocError>
-        ensures { Reaches (seen self.new) result (act action.TakeDigits (seen self.old)) }
-    {
-        let digits = digits_of(self.token.text);
-        self.take_as(digits)
-    }
-
-    fn take_character(&mut self) -> Result<Progress, AllocError>
-        ensures { Reaches (seen self.new) result (act action.TakeCharacter (seen self.old)) }
-    {
-        self.write(b"(char)")?;
-        let text = self.token.text;
-        self.take_as(text)
-    }
-
-    // A literal of an integer type: with its suffix, or behind its type.
-    fn write_typed(&mut self, integer: IntegerType, digits: &[u8]) -> Result<(), AllocError>
-        ensures { OnOk result (seen self.new ≡ wrote_typed integer (suffix_of integer) digits.now (seen self.old)) }
-    {
-        match integer.suffix() {
-            Some(suffix) => {
-                self.write(digits)?;
-                self.write(suffix)
-            }
-            None => {
-                self.write(b"(")?;
-                self.write(integer.name())?;
-                self.write(b")")?;
-                self.write(digits)
-            }
-        }
-    }
-
-    fn take_integer_cast(&mut self) -> Result<Progress, AllocError>
-        ensures { Reaches (seen self.new) result (takes_integer_cast (integer_type self.old.words) (seen self.old)) }
-    {
-        match self.words.integer_type() {
-            None => Ok(Progress::Refused),
-            Some(integer) => {
-                self.words = NO_WORDS;
-                self.write_typed(integer, operand(self.token))?;
-                self.advance();
-                Ok(Progress::Going)
-            }
-        }
-    }
-
-    // A literal of `bool`.
-    fn write_bool(&mut self, digits: &[u8]) -> Result<(), AllocError>
-        ensures { OnOk result (seen self.new ≡ wrote_bool digits.now (seen self.old)) }
-    {
-        if digits == b"0".as_slice() {
-            self.write(b"false")
-        } else if digits == b"1".as_slice() {
-            self.write(b"true")
-        } else {
-            self.write(b"(bool)")?;
-            self.write(digits)
-        }
-    }
-
-    fn take_bool_cast(&mut self) -> Result<Progress, AllocError>
-        ensures { Reaches (seen self.new) result (act action.TakeBoolCast (seen self.old)) }
-    {
-        self.write_bool(operand(self.token))?;
-        self.advance();
-        Ok(Progress::Going)
-    }
-
     /// What a rule does is done.
     pub(crate) fn act(&mut self, action: Action) -> Result<Progress, AllocError>
         ensures { Reaches (seen self.new) result (act action (seen self.old)) }
@@ -274,6 +197,7 @@ impl Translation<'_> {
             Action::Skip => Ok(self.skip()),
             Action::WriteSpace => self.put(b" "),
             Action::WriteOpen => self.put(b"("),
+            Action::WriteClose => self.put(b")"),
             Action::WriteVoid => self.put(b"void"),
             Action::WriteBool => self.put(b"bool"),
             Action::BeginQualifiers => self.begin_qualifiers(),
@@ -283,9 +207,16 @@ impl Translation<'_> {
             Action::WriteWords => self.write_words(),
             Action::TakeLongDouble => self.take_long_double(),
             Action::TakeGreater => self.take_greater(),
+            Action::TakeReference => self.take_reference(),
+            Action::BeginGap => self.begin_gap(0),
+            Action::LeaveGap => Ok(self.leave_gap()),
+            Action::FillOpen => Ok(self.fill_gap(b'(')),
+            Action::FillSpace => Ok(self.fill_gap(b' ')),
             Action::WriteNestedOpen => self.write_nested_open(),
             Action::TakeNumber => self.take_number(),
-            Action::TakeDigits => self.take_digits(),
+            Action::TakeOperand => self.take_operand(),
+            Action::TakeFloating => self.take_floating(),
+            Action::TakeFloatingCast => self.take_floating_cast(),
             Action::TakeCharacter => self.take_character(),
             Action::TakeIntegerCast => self.take_integer_cast(),
             Action::TakeBoolCast => self.take_bool_cast(),

@@ -51,6 +51,12 @@ const DECLARATORS: &[Row] = &[
     (b"A<int (* const)(void)>", b"A<int (* const)()>"),
     (b"A<int (*)(void*, ...)>", b"A<int (*)(void*, ...)>"),
     (b"A<int (*[3])(long int)>", b"A<int (* [3])(long)>"),
+    (b"A<int (*(*)[2])(long int)>", b"A<int (* (*) [2])(long)>"),
+    (
+        b"A<int (*(*(*)[2])(char))(long int)>",
+        b"A<int (*(* (*) [2])(char))(long)>",
+    ),
+    (b"A<int (*(C::*)[2])[3]>", b"A<int (* (C::*) [2]) [3]>"),
 ];
 
 const CONSTANTS: &[Row] = &[
@@ -75,8 +81,48 @@ const CONSTANTS: &[Row] = &[
         b"A<'\\n', '\\177', '\\''>",
         b"A<(char)'\\n', (char)'\\177', (char)'\\''>",
     ),
-    (b"A<(& N::f<int>), (& f)>", b"A<&N::f<int>, &f>"),
     (b"A<((E)1), (-1), (void*)0>", b"A<(E)1, -1, (void*)0>"),
+    (
+        b"A<1.5, -1.5f, 1.25e+0l, 1e5>",
+        b"A<(double)[1.5], (float)-[1.5], (long double)[1.25e+0], (double)[1e5]>",
+    ),
+    (
+        b"A<(double)1ul, (float)-1.5f, (int)1.5>",
+        b"A<(double)[1], (float)-[1.5], 1.5>",
+    ),
+    (
+        b"A<(E)true, (unsigned long)false, (bool)true>",
+        b"A<(E)1, 0ul, true>",
+    ),
+    (
+        b"A<(1.5), (true), ('a'), (E)(2)>",
+        b"A<(double)[1.5], true, (char)'a', (E)2>",
+    ),
+    (
+        b"A<(float*)0, (const double)1.5>",
+        b"A<(float*)0, (double const)1.5>",
+    ),
+];
+
+const ADDRESSES: &[Row] = &[
+    (b"A<(& N::f<int>), (& f)>", b"A<&N::f<int>, &f>"),
+    (
+        b"A<&f<long int>, (& f<B<int> >)>",
+        b"A<&(f<long>), &(f<B<int> >)>",
+    ),
+    (b"A<&f<&g<long int> > >", b"A<&(f<&(g<long>)>)>"),
+    (
+        b"A<&f<long int>::g, &N::g<long int> >",
+        b"A<&f<long>::g, &N::g<long> >",
+    ),
+    (
+        b"A<((const int*)(& f<int>))>",
+        b"A<(int const*)(&(f<int>))>",
+    ),
+    (
+        b"A<&B::operator const char *>",
+        b"A<&B::operator char const*>",
+    ),
 ];
 
 const FUNCTIONS: &[Row] = &[
@@ -118,6 +164,7 @@ const REFUSED: &[Row] = &[
         b"A<decltype(nullptr), long int>",
     ),
     (b"unsigned signed", b"unsigned signed"),
+    (b"const complex float", b"const complex float"),
     (b"", b""),
 ];
 
@@ -160,6 +207,11 @@ fn declarators(rt: HostRuntime) -> Result<(), Fail> {
 #[test]
 fn constants(rt: HostRuntime) -> Result<(), Fail> {
     are_spelled(&rt, rt.alloc(), CONSTANTS)
+}
+
+#[test]
+fn addresses(rt: HostRuntime) -> Result<(), Fail> {
+    are_spelled(&rt, rt.alloc(), ADDRESSES)
 }
 
 #[test]

@@ -12,5 +12,6 @@ returns c = record {
   nested = refl;
   members = refl;
   arrays = refl;
+  pointers_to_arrays = refl;
   conversion = refl;
 }
