@@ -20,7 +20,7 @@ import tempfile
 from spelling.file_names import names_of
 from spelling.gdb_answers import gdb_spellings
 from spelling.made_names import made_names
-from spelling.our_answers import our_spellings
+from spelling.our_answers import other_spellings
 
 TOOLS = os.path.dirname(os.path.abspath(__file__))
 TABLE = os.path.join(os.path.dirname(TOOLS), "crates", "spelling_tests", "tables", "names.txt")
@@ -58,7 +58,7 @@ def compiled_names():
                 if done.returncode:
                     sys.exit("spelling: %s %s %s: %s" % (compiler, standard, source, done.stderr.decode()[:500]))
                 names.update(names_of(out))
-    return sorted(name for name in names if len(name) <= LONGEST and b"\t" not in name)
+    return sorted(name for name in names if len(name) <= LONGEST)
 
 
 def real_names():
@@ -81,31 +81,34 @@ def groups():
         yield title, once
 
 
+def answered(names):
+    """gdb's spelling of each name for which it has one."""
+    return {name: answer for name, answer in zip(names, gdb_spellings(names)) if answer is not None}
+
+
 def write_table():
     found = list(groups())
-    names = [name for _, once in found for name in once]
-    ours, answers = (dict(zip(names, spellings(names))) for spellings in (our_spellings, gdb_spellings))
+    answers = answered([name for _, names in found for name in names])
+    others = other_spellings(answers)
     lines, count = [], 0
-    for title, once in found:
+    for title, names in found:
         lines.append(title)
-        for name in once:
-            if answers[name] is not None and ours[name] in (answers[name], name):
-                lines.append(name + b"\t" + answers[name] + (b"" if ours[name] == answers[name] else b"\tkept"))
+        for name in names:
+            if name in answers and others.get(name, name) == name:
+                lines.append(name + b"\t" + answers[name] + (b"\tkept" if name in others else b""))
                 count += 1
             else:
-                print("left out: %r, of gdb %r, ours %r" % (name, answers[name], ours[name]))
+                print("left out: %r, of gdb %r, ours %r" % (name, answers.get(name), others.get(name)))
     os.makedirs(os.path.dirname(TABLE), exist_ok=True)
     with open(TABLE, "wb") as file:
         file.write(b"\n".join(lines) + b"\n")
     print("%d names" % count)
 
 
-def table_rows():
-    """(name, gdb's spelling, ours)"""
-    for line in lines_of(TABLE):
-        if not line.startswith(b"# "):
-            name, spelling, *kept = line.split(b"\t")
-            yield name, spelling, name if kept else spelling
+def table():
+    """gdb's spelling of each name, and ours."""
+    rows = [line.split(b"\t") for line in lines_of(TABLE) if not line.startswith(b"# ")]
+    return {row[0]: row[1] for row in rows}, {row[0]: row[0] if len(row) == 3 else row[1] for row in rows}
 
 
 def is_gdb_13():
@@ -115,21 +118,20 @@ def is_gdb_13():
     return re.match(r"GNU gdb .* 13\.", said) is not None
 
 
-def wrong(what, rows):
-    """Says which answers differ from what is wanted: (name, wanted, answer)."""
-    found = [row for row in rows if row[1] != row[2]]
-    for name, wanted, answer in found[:SHOWN]:
-        print("%s: %r is %r, not %r" % (what, name, answer, wanted))
-    return len(found)
+def told(what, wanted, others):
+    """Says which names are spelled otherwise than is wanted, and how many these are."""
+    for name in list(others)[:SHOWN]:
+        print("%s: %r is %r, not %r" % (what, name, others[name], wanted[name]))
+    return len(others)
 
 
 def check_table():
-    rows = list(table_rows())
-    names = [name for name, _, _ in rows]
-    count, failed = len(rows), wrong("ours", [(name, wanted, answer) for (name, _, wanted), answer in zip(rows, our_spellings(names))])
+    of_gdb, ours = table()
+    count, failed = len(ours), told("ours", ours, other_spellings(ours))
     if is_gdb_13():
-        count += len(rows)
-        failed += wrong("gdb", [(name, wanted, answer) for (name, wanted, _), answer in zip(rows, gdb_spellings(names))])
+        names = list(of_gdb)
+        count += len(names)
+        failed += told("gdb", of_gdb, {name: answer for name, answer in zip(names, gdb_spellings(names)) if answer != of_gdb[name]})
     else:
         print("no gdb 13: passed over")
     return count, failed
@@ -137,12 +139,13 @@ def check_table():
 
 def compare(names):
     """Ours beside gdb's. A name that ours keeps and gdb changes is told, and isn't wrong."""
-    rows = [(name, answer, ours) for name, answer, ours in zip(names, gdb_spellings(names), our_spellings(names)) if answer is not None]
-    kept = [(name, answer, ours) for name, answer, ours in rows if ours == name != answer]
-    changed = sum(answer != name for name, answer, _ in rows)
-    print("%d names, of which gdb changes %d; ours keeps %d of these" % (len(rows), changed, len(kept)))
-    wrong("kept", kept)
-    return len(rows), wrong("wrong", [row for row in rows if row[2] != row[0]])
+    answers = answered(names)
+    others = other_spellings(answers)
+    kept = {name: ours for name, ours in others.items() if ours == name}
+    changed = sum(answer != name for name, answer in answers.items())
+    print("%d names, of which gdb changes %d; ours keeps %d of these" % (len(answers), changed, len(kept)))
+    told("kept", answers, kept)
+    return len(answers), told("wrong", answers, {name: ours for name, ours in others.items() if name not in kept})
 
 
 def main(words):

@@ -18,4 +18,4 @@ def names_of(file):
             sys.exit("spelling: objcopy: " + done.stderr[:300])
         with open(section, "rb") as strings:
             texts = set(strings.read().split(b"\0"))
-    return sorted(text for text in texts if text and b"\n" not in text and not IDENTIFIER.fullmatch(text))
+    return sorted(text for text in texts if text and not set(b"\t\n") & set(text) and not IDENTIFIER.fullmatch(text))

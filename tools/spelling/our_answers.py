@@ -7,24 +7,39 @@ import tempfile
 
 TOP = os.path.dirname(os.path.dirname(os.path.dirname(os.path.abspath(__file__))))
 CRATE = os.path.join(TOP, "crates", "cxx_spelling")
+BATCH = 48 << 20
 CRATES = "cxx_spelling:\nspelled_lines: cxx_spelling\n"
-PROGRAM = """//! Writes the spelling of each line.
+PROGRAM = """//! Writes the last line, and of each line, a name and a spelling, the name and its spelling where that is another one.
 #![tactic(auto)]
 
 use cxx_spelling::spelling;
 use std::io;
 use std::io::{BufReader, BufWriter, Read, Write};
 
+// What stands behind the last line's end.
+fn last_of(lines: &[u8]) -> &[u8] {
+    lines.split(|b| *b == b'\\n').last().unwrap_or(lines)
+}
+
 fn main(rt: HostRuntime) -> io::Result<()> {
     let alloc = rt.alloc();
     let mut input = BufReader::new(alloc, rt.reader())?;
-    let mut names = Vec::new(alloc);
-    input.read_to_end(&mut names)?;
+    let mut lines = Vec::new(alloc);
+    input.read_to_end(&mut lines)?;
     let mut out = BufWriter::new(alloc, io::writer(&rt))?;
-    for name in names.as_slice().split(|b| *b == b'\\n') {
+    out.write_all(last_of(lines.as_slice()))?;
+    out.write_all(b"\\n")?;
+    for line in lines.as_slice().split(|b| *b == b'\\n') {
+        let mut halves = line.split(|b| *b == b'\\t');
+        let name = halves.next().unwrap_or(b"");
+        let wanted = halves.next().unwrap_or(b"");
         let spelled = spelling(alloc, name)?;
-        out.write_all(spelled.bytes())?;
-        out.write_all(b"\\n")?;
+        if spelled.bytes() != wanted {
+            out.write_all(name)?;
+            out.write_all(b"\\t")?;
+            out.write_all(spelled.bytes())?;
+            out.write_all(b"\\n")?;
+        }
     }
     out.flush()
 }
@@ -37,8 +52,32 @@ def write(path, text):
         file.write(text)
 
 
-def our_spellings(names):
-    """The spelling of each name; no name has the end of a line in it."""
+def answers_to(folder, lines):
+    """What the program in the folder writes for these lines, of which it has read the last one too."""
+    words = ["rt", "try", "--seconds", "600", "--steps", "2000000000"]
+    done = subprocess.run(words, cwd=folder, input=b"\n".join(lines), capture_output=True, check=False)
+    last, *answers = done.stdout.split(b"\n")
+    if done.returncode or last != lines[-1]:
+        sys.exit("spelling: rt try: status %d, %s" % (done.returncode, done.stderr.decode(errors="replace")[-500:]))
+    return dict(line.split(b"\t") for line in answers if line)
+
+
+def batches(lines):
+    """The lines, so many at once as `rt try` takes for an input."""
+    batch, length = [], 0
+    for line in lines:
+        if length + len(line) > BATCH:
+            yield batch
+            batch, length = [], 0
+        batch.append(line)
+        length += len(line) + 1
+    if batch:
+        yield batch
+
+
+def other_spellings(wanted):
+    """Of names with a spelling, those that are spelled otherwise, with that. No name has a tab or the end of a line in it."""
+    others = {}
     with tempfile.TemporaryDirectory() as folder:
         for part in ("src", "specs", "proofs"):
             shutil.copytree(os.path.join(CRATE, part), os.path.join(folder, "crates", "cxx_spelling", part))
@@ -46,8 +85,6 @@ def our_spellings(names):
         write(os.path.join(folder, "HANDLES"), "Handles allowed: none.\n")
         program = os.path.join(folder, "crates", "spelled_lines")
         write(os.path.join(program, "src", "main.rt"), PROGRAM)
-        done = subprocess.run(["rt", "try", "--seconds", "600", "--steps", "2000000000"], cwd=program, input=b"\n".join(names), capture_output=True, check=False)
-    answers = done.stdout.split(b"\n")[:-1]
-    if done.returncode or len(answers) != max(1, len(names)):
-        sys.exit("spelling: rt try: status %d, %s" % (done.returncode, done.stderr.decode(errors="replace")[-500:]))
-    return answers[:len(names)]
+        for batch in batches([name + b"\t" + spelling for name, spelling in wanted.items()]):
+            others.update(answers_to(program, batch))
+    return others
