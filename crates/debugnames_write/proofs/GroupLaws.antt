@@ -1,6 +1,7 @@
 -- The groups of sorted entries, one after the other.
 use Rattle.std.proofs.Common.{◌≡◌, ◌≢◌, ℕ, zero, suc, ◌+◌, ◌-◌, ◌<◌, ◌≤◌, Bool, true, false, List, [], ◌∷◌, ◌++◌, length, get_or, take, drop, map, refl, sym, ap, ◌∙◌, subst, inl, inr, arith, length-append}
 use Rattle.std.specs.Prelude.{All, Contains, bytes_eq}
+use Rattle.std.specs.Bool.{MatchBool}
 use Rattle.std.proofs.lemmas.Bool.{cases_lt}
 use Rattle.std.proofs.lemmas.List.{get_or_append_left, get_or_push, get_or_default, length-map, map-append, take-map, drop-map}
 use Rattle.std.proofs.lemmas.List.Elements.{All-push}
@@ -10,7 +11,7 @@ use Rattle.query_engine.specs.Pairs.{ComesBefore}
 use Rattle.query_engine.proofs.TextOrder.{eq_from_same, eq_from_other, before_itself, before_trans, before_or_same, filter_piece}
 use Rattle.debugnames_write.specs.declared.groups.NameEntries.{NameEntries}
 use Rattle.debugnames_write.specs.declared.item.IndexEntry.{IndexEntry}
-use Rattle.debugnames_write.specs.Groups.{item_names, name_at, AreSorted, GoesOnAt, IsGroupOf, AreGroupsOf, group_names, entries_named}
+use Rattle.debugnames_write.specs.Groups.{item_names, name_at, AreSorted, GoesOnAt, IsGroupOf, AreGroupsOf, SayGoingOn, group_names, entries_named}
 use Rattle.index_model.specs.Order.{Rises}
 use Rattle.debugnames_write.specs.Seen.{item_seen, items_seen}
 use Rattle.debugnames_write.proofs.Lists.{map-map}
@@ -31,6 +32,13 @@ pub record AreGroupsTo (items : List IndexEntry) (gs : List NameEntries) (start 
   pub rising : (i j : ℕ) → i < j → j < length gs → ComesBefore (group_at gs i) (group_at gs j)
   pub below : (k y : ℕ) → k < length gs → start ≤ y → y < length items → ComesBefore (group_at gs k) (name_at items y)
   pub all : (y : ℕ) → y < start → (k : ℕ) × (k < length gs) × (group_at gs k ≡ name_at items y)
+
+-- what is said of a name
+pub say_ends : (items : List IndexEntry) (goes_on : List Bool) → SayGoingOn items goes_on → (k : ℕ) (d : Bool) → k < length items → get_or goes_on k d ≡ false → GoesOnAt items (k + 1) → ⊥
+say_ends items goes_on say k d lt is = subst (λ (b : Bool). MatchBool b (GoesOnAt items (k + 1)) (GoesOnAt items (k + 1) → ⊥)) is (say.each k d lt)
+
+pub say_on : (items : List IndexEntry) (goes_on : List Bool) → SayGoingOn items goes_on → (k : ℕ) (d : Bool) → k < length items → get_or goes_on k d ≡ true → GoesOnAt items (k + 1)
+say_on items goes_on say k d lt is = subst (λ (b : Bool). MatchBool b (GoesOnAt items (k + 1)) (GoesOnAt items (k + 1) → ⊥)) is (say.each k d lt)
 
 pub groups_none : (items : List IndexEntry) → AreGroupsTo items [] 0 0
 groups_none items = record {

@@ -120,6 +120,14 @@ flat_same : {X Y : Type 0} (f g : X → List Y) → ((x : X) → f x ≡ g x) �
 flat_same f g same [] = refl
 flat_same f g same (x ∷ xs) = let rest = flat_same f g same xs in λ i. same x i ++ rest i
 
+-- the entries at places that stand in two lists
+pub indexed_halves : (units : List UnitHeader) (es : List Entry) (low high : List ℕ) (front back : List IndexEntry) → items_seen front ≡ all_indexed units (entries_at es low) → items_seen back ≡ all_indexed units (entries_at es high)
+    → items_seen (front ++ back) ≡ all_indexed units (entries_at es (low ++ high))
+unfolding all_indexed
+indexed_halves units es low high front back one two =
+    map-append item_seen front back ∙ (λ i. one i ++ two i)
+    ∙ sym (ap (all_indexed units) (filter_map-append (slice_get es) low high) ∙ filter_map-append (indexed_entry units) (entries_at es low) (entries_at es high))
+
 -- the places are those of entries
 flat_within : (n : ℕ) (f : List ℕ → List ℕ) → ((t : List ℕ) → All (λ p. p < n) (f t)) → (ts : List (List ℕ)) → All (λ p. p < n) (flat_map f ts)
 flat_within n f within [] = λ k d lt. absurd (omega arith)

@@ -56,6 +56,12 @@ name_bytes rows n = entries_bytes rows n.items.now
 pub pool_is : (rows : List IndexRow) (names : List Name) → pool_bytes rows names ≡ flat_map (name_bytes rows) names
 pool_is rows names = flat_map-map (λ (g : List ℕ). g) (name_bytes rows) names
 
+pub pool_of_both : (rows : List IndexRow) (low high : List Name) → pool_bytes rows (low ++ high) ≡ pool_bytes rows low ++ pool_bytes rows high
+pool_of_both rows low high =
+    let one = pool_is rows low in
+    let two = pool_is rows high in
+    pool_is rows (low ++ high) ∙ flat_map-append (name_bytes rows) low high ∙ sym (λ i. one i ++ two i)
+
 pub pool_start : (rows : List IndexRow) (names : List Name) (k : ℕ) → start_of (groups_bytes rows names) k ≡ length (flat_map (name_bytes rows) (take k names))
 pool_start rows names k = start_is (name_bytes rows) names k
 

@@ -1,5 +1,5 @@
 -- Entries by their names.
-use Rattle.std.specs.Prelude.{◌≡◌, ℕ, ◌-◌, ◌≤◌, ◌<◌, List, [], length, map, filter, bytes_eq, All, slice_index_or}
+use Rattle.std.specs.Prelude.{◌≡◌, ℕ, ◌+◌, ◌-◌, ◌≤◌, ◌<◌, Bool, List, [], length, map, filter, bytes_eq, All, slice_index_or, MatchBool}
 use Rattle.index_model.specs.NameIndex.{Indexed, names_in}
 use Rattle.query_engine.specs.Pairs.{ComesBefore}
 use Rattle.debugnames_write.specs.declared.groups.NameEntries.{NameEntries}
@@ -26,6 +26,11 @@ AreSorted items = (i j : ℕ) → i ≤ j → j < length items → ComesBefore (
 pub record GoesOnAt (items : List IndexEntry) (k : ℕ) : Type 0 where
   pub within : k < length items
   pub same : name_at items k ≡ name_at items (k - 1)
+
+-- of each entry it says whether the next one has its name
+pub record SayGoingOn (items : List IndexEntry) (goes_on : List Bool) : Type 0 where
+  pub size : length goes_on ≡ length items
+  pub each : (k : ℕ) (d : Bool) → k < length items → MatchBool (slice_index_or goes_on k d) (GoesOnAt items (k + 1)) (GoesOnAt items (k + 1) → ⊥)
 
 -- of each name both lists have the same entries in the same order
 abbrev pub SameByName : List Indexed → List Indexed → Type 0

@@ -13,11 +13,13 @@ use crate::buckets::buckets_of;
 use crate::limits::{MAX_INDEX, grown};
 use crate::name::Name;
 use crate::numbers::{push_u16, push_u32, push_u32s};
-use crate::pool::{pool_places, push_pool};
+use crate::pool::pool_places;
+use crate::pool_halves::push_pool_by_halves;
 use crate::units::{UnitPlaces, push_unit_offsets};
 use crate::writer::WriteStop;
 use index_model::Unit;
 use std::alloc::{AllocError, Global};
+use std::thread::Threads;
 
 const VERSION: u16 = 5;
 
@@ -33,9 +35,11 @@ const UNIT_SIZE: u64 = 4;
 // A bucket, a hash, and the offsets of a name's string and of its entries.
 const NAME_SIZE: u64 = 16;
 
-/// The bytes of the index over these names in their order.
-pub(crate) fn index_bytes(
+/// The bytes of the index over these names in their order. The names are halved so often for threads.
+pub(crate) fn index_bytes<R: Threads + Sync>(
+    rt: &R,
     alloc: Global,
+    halvings: u32,
     units: &[Unit],
     places: &UnitPlaces,
     abbreviations: &Abbreviations,
@@ -56,7 +60,15 @@ pub(crate) fn index_bytes(
     let mut out = Vec::with_capacity(alloc, size as usize)?;
     let length = (size - LENGTH_SIZE) as u32;
     push_front(&mut out, length, units, places, count, table_size as u32)?;
-    push_tables(alloc, &mut out, abbreviations, names, &pool.starts)?;
+    push_tables(
+        rt,
+        alloc,
+        halvings,
+        &mut out,
+        abbreviations,
+        names,
+        &pool.starts,
+    )?;
     Ok(out)
 }
 
@@ -95,8 +107,10 @@ fn push_front(
 }
 
 // Appends the tables of the names, the abbreviations and the entries.
-fn push_tables(
+fn push_tables<R: Threads + Sync>(
+    rt: &R,
     alloc: Global,
+    halvings: u32,
     out: &mut Vec<u8>,
     abbreviations: &Abbreviations,
     names: &[Name<'_>],
@@ -109,7 +123,7 @@ fn push_tables(
 {
     push_names(alloc, out, names, starts)?;
     abbreviations.push(out)?;
-    push_pool(out, abbreviations, names)?;
+    push_pool_by_halves(rt, alloc, halvings, out, abbreviations, names)?;
     Ok(())
 }
 

@@ -9,11 +9,13 @@ ghost use Rattle.debugnames_write.specs.Seen.{item_seen, items_seen};
 ghost use Rattle.debugnames_write.specs.Units.{ArePlacesOf};
 ghost use Rattle.query_engine.specs.Asked.{TailsFit};
 
+use crate::halves::items_by_halves;
 use crate::units::{UnitPlaces, is_type_unit};
 use index_model::{Entry, Part, Unit};
 use ix_base::NoMemory;
 use query_engine::Table;
 use std::alloc::{AllocError, Global};
+use std::thread::Threads;
 
 /// What entries of one abbreviation have in common: their tag, and whether their units are type units.
 #[derive(Clone, Copy, PartialEq, Eq)]
@@ -33,8 +35,10 @@ pub(crate) struct IndexEntry<'r> {
     pub offset: u32,
 }
 
-/// The entries of units of `.debug_info` by their names, those of one name in section order.
-pub(crate) fn sorted_items<'r>(
+/// The entries of units of `.debug_info` by their names, those of one name in section order. Threads share the work as they
+/// did where the table was made.
+pub(crate) fn sorted_items<'r, R: Threads + Sync>(
+    rt: &R,
     alloc: Global,
     units: &[Unit],
     places: &UnitPlaces,
@@ -46,12 +50,14 @@ pub(crate) fn sorted_items<'r>(
     ensures sorted { IfOk result (λ v. AreSorted v.items) }
     ensures same { IfOk result (λ v. SameByName (all_indexed units.now table.now) (items_seen v.items)) }
 {
-    let order = table.places_as_listed(alloc)?;
-    Ok(items_at(alloc, units, places, table.entries(), &order)?)
+    let order = table.places_as_listed(rt, alloc)?;
+    let halvings = table.halvings();
+    let entries = table.entries();
+    Ok(items_by_halves(rt, alloc, halvings, units, places, entries, &order)?)
 }
 
-// The entries at these places in their order, without those of units of `.debug_types`.
-fn items_at<'r>(
+/// The entries at these places in their order, without those of units of `.debug_types`.
+pub(crate) fn items_at<'r>(
     alloc: Global,
     units: &[Unit],
     places: &UnitPlaces,

@@ -9,6 +9,7 @@
 mod abbreviations;
 mod buckets;
 mod groups;
+mod halves;
 mod hash;
 mod index;
 mod item;
@@ -16,6 +17,7 @@ mod limits;
 mod name;
 mod numbers;
 mod pool;
+mod pool_halves;
 mod strings;
 mod units;
 mod writer;

@@ -20,6 +20,10 @@ use index_model::{List, Unit};
 use ix_base::NoMemory;
 use query_engine::Table;
 use std::alloc::{AllocError, AllocFailed, Global};
+use std::thread::Threads;
+
+// Tables aren't halved more often.
+const MOST_HALVINGS: u32 = 8;
 
 /// The bytes of a `.debug_names`, and the strings that are appended to `.debug_str`.
 #[derive(Drop)]
@@ -65,13 +69,15 @@ impl<T: Drop> From<AllocFailed<T>> for WriteStop {
 /// the index's strings.
 ///
 /// The units follow one another from joint offset 0, those of `.debug_info` first. There are at most 16,777,215 of them, and
-/// they end below 4,294,967,296. Each entry lies inside one of them. n entries cost n log n comparisons of names.
+/// they end below 4,294,967,296. Each entry lies inside one of them. n entries cost n log n comparisons of names. As many threads
+/// share the work as shared that of the table, and the bytes are the same for any number of them.
 ///
 /// # Errors
 ///
 /// `TooLarge` only where the index or `.debug_str` with its strings would be too large, and never bytes there. `Memory` where
 /// memory was refused.
-pub fn write(
+pub fn write<R: Threads + Sync>(
+    rt: &R,
     alloc: Global,
     units: &[Unit],
     old_strings: u64,
@@ -84,14 +90,26 @@ pub fn write(
     ensures too_large { IfErr result (λ stop. stop ≡ stops.TooLarge → ¬ Fits units.now old_strings table.now) }
 {
     let places = UnitPlaces::of(alloc, units)?;
-    let items = sorted_items(alloc, units, &places, table)?;
+    let items = sorted_items(rt, alloc, units, &places, table)?;
     let abbreviations = Abbreviations::of(alloc, &items)?;
-    name_bytes(alloc, units, &places, &abbreviations, &items, old_strings)
+    let halvings = table.halvings();
+    name_bytes(
+        rt,
+        alloc,
+        halvings,
+        units,
+        &places,
+        &abbreviations,
+        &items,
+        old_strings,
+    )
 }
 
-// The bytes for entries that are sorted by their names.
-fn name_bytes(
+// The bytes for entries that are sorted by their names. Work over them is halved so often for threads.
+fn name_bytes<R: Threads + Sync>(
+    rt: &R,
     alloc: Global,
+    halvings: u32,
     units: &[Unit],
     places: &UnitPlaces,
     abbreviations: &Abbreviations,
@@ -108,12 +126,27 @@ fn name_bytes(
     ensures fits { (entries : List Entry) → AreMadeOf units.now abbreviations.now items.now entries → OnOk result (Fits units.now old_strings entries) }
     ensures too_large { (entries : List Entry) → AreMadeOf units.now abbreviations.now items.now entries → IfErr result (λ stop. stop ≡ stops.TooLarge → ¬ Fits units.now old_strings entries) }
 {
-    let groups = groups_of(alloc, items)?;
+    let groups = groups_of(rt, alloc, threads_for(halvings), items)?;
     let named = sorted_names(alloc, &groups, old_strings)?;
-    let names = index_bytes(alloc, units, places, abbreviations, &named.names)?;
+    let names = index_bytes(
+        rt,
+        alloc,
+        halvings,
+        units,
+        places,
+        abbreviations,
+        &named.names,
+    )?;
     let strings = strings_of(alloc, &groups, (named.strings_end - old_strings) as usize)?;
     Ok(NameBytes {
         names: List::of(names),
         strings: List::of(strings),
     })
+}
+
+// How many threads share work that is halved so often.
+fn threads_for(halvings: u32) -> usize
+    ensures { 0 < result }
+{
+    1 << halvings.min(MOST_HALVINGS)
 }

@@ -10,9 +10,9 @@ ghost use Rattle.query_engine.specs.Sorted.{AreNamesOf};
 ghost use Rattle.query_engine.specs.declared.way.Way.TheVariants.{ByListed};
 ghost use Rattle.query_engine.specs.Texts.{table_names};
 
-use crate::marks::marks_of;
+use crate::halves::marks_by_halves;
 use crate::names::SortedNames;
-use crate::order::order_alone;
+use crate::order::order_of;
 use crate::orders::Orders;
 use crate::search::find;
 use crate::simple::SimpleNames;
@@ -37,6 +37,7 @@ pub struct Table<'f> {
     by_name: SortedNames,
     by_simple: SimpleNames,
     distinct: u64,
+    halvings: u32,
 }
 
 impl<'f> Model for Table<'f> {
@@ -78,6 +79,7 @@ impl<'f> Table<'f> {
             by_name,
             by_simple,
             distinct,
+            halvings,
         })
     }
 
@@ -134,21 +136,32 @@ impl<'f> Table<'f> {
     }
 
     /// The places of all entries by the names under which a `.debug_names` lists them, and then ascending: linkage entries
-    /// stand there under their names, all others under their simple names. n entries cost at most n log n comparisons.
+    /// stand there under their names, all others under their simple names. n entries cost at most n log n comparisons. As many
+    /// threads share the work as in `merge`.
     ///
     /// # Errors
     ///
     /// `NoMemory` where memory was refused.
-    pub fn places_as_listed(&self, alloc: Global) -> Result<Vec<u32>, NoMemory>
+    pub fn places_as_listed<R: Threads + Sync>(
+        &self,
+        rt: &R,
+        alloc: Global,
+    ) -> Result<Vec<u32>, NoMemory>
         ensures { IfOk result (λ v. AreByText ByListed self.now v.items) }
     {
         match &self.by_simple {
             SimpleNames::Shared => Ok(self.by_name.all_places(alloc, &self.entries)?),
             SimpleNames::Own(_) => {
-                let labelled = marks_of(alloc, &self.entries, 0)?;
-                Ok(order_alone(alloc, Way::ByListed, &labelled)?.places)
+                let halvings = self.halvings;
+                let labelled = marks_by_halves(rt, alloc, halvings, &self.entries, 0)?;
+                Ok(order_of(rt, alloc, Way::ByListed, halvings, &labelled)?.places)
             }
         }
+    }
+
+    /// How often work over these entries is worth halving for threads: as often as `merge` did, and never for one worker.
+    pub fn halvings(&self) -> u32 {
+        self.halvings
     }
 
     /// How many distinct names the entries have that aren't linkage entries. Takes no memory.

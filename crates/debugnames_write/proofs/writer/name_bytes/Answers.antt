@@ -7,55 +7,55 @@ use Rattle.debugnames_write.proofs.Written.{strings_rise, strings_stop, strings_
 use Rattle.debugnames_write.proofs.writer.name_bytes.Goals as goal
 
 pub sorted_names-requires : goal.sorted_names-requires
-sorted_names-requires c =
+sorted_names-requires g c =
     let entries = c.requires.made.0 in
     let made = c.requires.made.1 in
     rw c.deref.ensures.value (strings_rise c.args.units.now c.args.old_strings entries made.in_order c.args.items.now c.in_ok-groups.groups.items made.all made.same c.in_ok-groups.ensures)
 
 pub returns-in_err-named-clause-too_large : goal.returns-in_err-named-clause-too_large
-returns-in_err-named-clause-too_large c = λ entries made.
+returns-in_err-named-clause-too_large g c = λ entries made.
     let stop = rw c.deref.ensures.value at c.in_err-named.ensures in
     stopped_large c.from_residual-in_err-named.result c.in_err-named.field-0.0 c.from_residual-in_err-named.ensures.1 stop (λ pass. strings_stop c.args.units.now c.args.old_strings entries made.in_order c.args.items.now c.in_ok-groups.groups.items made.all made.same c.in_ok-groups.ensures pass)
 
 pub index_bytes-requires-clause-few : goal.index_bytes-requires-clause-few
-index_bytes-requires-clause-few c =
+index_bytes-requires-clause-few g c κs within =
     let entries = c.requires.made.0 in
     let made = c.requires.made.1 in
     let n = rw c.deref.ensures.value at c.in_ok-named.ensures in
     rw c.deref-2.ensures.value (names_few c.args.units.now c.args.old_strings entries made.in_order c.args.items.now c.in_ok-groups.groups.items made.all made.same c.in_ok-groups.ensures n.made n.made_are c.in_ok-named.named.names.items n.moved n.in_order)
 
 pub index_bytes-requires-clause-buckets : goal.index_bytes-requires-clause-buckets
-index_bytes-requires-clause-buckets c =
+index_bytes-requires-clause-buckets g c κs within =
     let entries = c.requires.made.0 in
     let made = c.requires.made.1 in
     let n = rw c.deref.ensures.value at c.in_ok-named.ensures in
     rw c.deref-2.ensures.value (names_buckets c.args.units.now c.args.old_strings entries made.in_order c.args.items.now c.in_ok-groups.groups.items made.all made.same c.in_ok-groups.ensures n.made n.made_are c.in_ok-named.named.names.items n.moved n.in_order)
 
 pub index_bytes-requires-clause-rows : goal.index_bytes-requires-clause-rows
-index_bytes-requires-clause-rows c =
+index_bytes-requires-clause-rows g c κs within =
     let entries = c.requires.made.0 in
     let made = c.requires.made.1 in
     let n = rw c.deref.ensures.value at c.in_ok-named.ensures in
     rw c.deref-2.ensures.value (names_rows c.args.units.now c.args.old_strings entries made.in_order c.args.items.now c.in_ok-groups.groups.items made.all made.same c.in_ok-groups.ensures n.made n.made_are c.in_ok-named.named.names.items n.moved n.in_order c.args.abbreviations.now made.rows_are)
 
 pub returns-in_err-names-clause-too_large : goal.returns-in_err-names-clause-too_large
-returns-in_err-names-clause-too_large c = λ entries made.
+returns-in_err-names-clause-too_large g c = λ entries made.
     let n = rw c.deref.ensures.value at c.in_ok-named.ensures in
     let stop = rw c.deref-2.ensures.value at c.in_err-names.ensures in
     stopped_large c.from_residual-in_err-names.result c.in_err-names.field-0.0 c.from_residual-in_err-names.ensures.1 stop (λ pass. index_stop c.args.units.now c.args.old_strings entries made.in_order c.args.items.now c.in_ok-groups.groups.items made.all made.same c.in_ok-groups.ensures n.made n.made_are c.in_ok-named.named.names.items n.moved n.in_order c.args.abbreviations.now made.rows_are pass)
 
 pub returns-clause-names : goal.returns-clause-names
-returns-clause-names c = λ entries made.
+returns-clause-names g c = λ entries made.
     let n = rw c.deref.ensures.value at c.in_ok-named.ensures in
     let written = rw c.deref-2.ensures.value at c.in_ok-names.ensures.0 in
     c.of.ensures ∙ written ∙ index_is c.args.units.now c.args.old_strings entries made.in_order c.args.items.now c.in_ok-groups.groups.items made.all made.same c.in_ok-groups.ensures n.made n.made_are c.in_ok-named.named.names.items n.moved n.in_order c.args.abbreviations.now made.rows_are
 
 pub returns-clause-strings : goal.returns-clause-strings
-returns-clause-strings c = λ entries made.
+returns-clause-strings g c = λ entries made.
     c.of-2.ensures ∙ c.in_ok-strings.ensures ∙ ap (λ w. flat_map ended (group_names w)) c.deref-3.ensures.value ∙ strings_added c.args.units.now c.args.old_strings entries made.in_order c.args.items.now c.in_ok-groups.groups.items made.all made.same c.in_ok-groups.ensures
 
 pub returns-clause-fits : goal.returns-clause-fits
-returns-clause-fits c = λ entries made.
+returns-clause-fits g c = λ entries made.
     let n = rw c.deref.ensures.value at c.in_ok-named.ensures in
     let written = rw c.deref-2.ensures.value at c.in_ok-names.ensures.0 in
     let long = ap (λ w. length w) written in

@@ -11,12 +11,12 @@ use Rattle.debugnames_write.proofs.UnitLaws.{starts_low}
 use Rattle.debugnames_write.proofs.writer.write.Goals as goal
 
 pub name_bytes-requires-clause-starts : goal.name_bytes-requires-clause-starts
-name_bytes-requires-clause-starts c k d lt =
+name_bytes-requires-clause-starts g c κs within k d lt =
     let low = starts_low 0 c.args.units.now c.requires.units_are.follow k d lt in
     omega (arith, low, c.requires.units_are.short)
 
 pub name_bytes-requires-clause-sorted : goal.name_bytes-requires-clause-sorted
-name_bytes-requires-clause-sorted c = subst AreSorted (sym c.deref-2.ensures.value) c.in_ok-items.ensures.sorted
+name_bytes-requires-clause-sorted g c κs within = subst AreSorted (sym c.deref-2.ensures.value) c.in_ok-items.ensures.sorted
 
 made_of : (units : List UnitHeader) (rows : List IndexRow) (shown sorted passed : List IndexEntry) (entries : List Entry) → rows ≡ rows_of (items_seen shown) → shown ≡ sorted
     → SameByName (all_indexed units entries) (items_seen sorted) → passed ≡ sorted → AreMadeOf units rows passed entries
@@ -32,14 +32,14 @@ made_of units rows shown sorted passed entries are is_shown same is_passed =
     }
 
 pub name_bytes-requires-clause-made : goal.name_bytes-requires-clause-made
-name_bytes-requires-clause-made c = (
+name_bytes-requires-clause-made g c κs within = (
   c.args.table.now,
   made_of c.args.units.now c.in_ok-abbreviations.abbreviations c.deref.result.now c.in_ok-items.items.items c.deref-2.result.now c.args.table.now
       c.in_ok-abbreviations.ensures c.deref.ensures.value c.in_ok-items.ensures.same c.deref-2.ensures.value,
 )
 
 pub returns : goal.returns
-returns c =
+returns g c =
     let made = made_of c.args.units.now c.in_ok-abbreviations.abbreviations c.deref.result.now c.in_ok-items.items.items c.deref-2.result.now c.args.table.now
     c.in_ok-abbreviations.ensures c.deref.ensures.value c.in_ok-items.ensures.same c.deref-2.ensures.value in
     let written = c.name_bytes.ensures in
