@@ -1,8 +1,9 @@
 -- What the sessions of a race say together.
-use Rattle.std.proofs.Common.{◌≡◌, ◌⊎◌, inl, inr, ℕ, ◌+◌, ◌<◌, ◌≤◌, List, [], ◌∷◌, ◌++◌, length, get_or, map, flat_map, replicate, All, Bool, true, false, ◌||◌, Option, Result, Ok, Err, refl, sym, ap, subst, ◌∙◌, append_assoc, append-nil, suc, arith}
-use Rattle.std.specs.Prelude.{codes, ⊤}
+use Rattle.std.proofs.Common.{◌≡◌, ◌⊎◌, inl, inr, ℕ, ◌+◌, ◌<◌, ◌≤◌, List, [], ◌∷◌, ◌++◌, length, get_or, map, flat_map, replicate, take, min, All, Bool, true, false, ◌||◌, Option, Result, Ok, Err, refl, sym, ap, subst, ◌∙◌, append_assoc, append-nil, suc, arith}
+use Rattle.std.specs.Prelude.{codes, nat_lt, ⊤}
 use Rattle.std.specs.List.{list_any}
-use Rattle.std.proofs.lemmas.List.{length-replicate}
+use Rattle.std.proofs.lemmas.Bool.{ltb-false}
+use Rattle.std.proofs.lemmas.List.{length-replicate, length-take}
 use Rattle.std.proofs.lemmas.List.Elements.{All-nil, All-cons, All-replicate, All-weaker}
 use Rattle.std.proofs.lemmas.List.Folds.{Any-from_list_any, list_any_at}
 use Rattle.outside.specs.Written.{Appends}
@@ -26,13 +27,15 @@ use Rattle.query_text.specs.Sessions.{transcript, IsShort}
 use Rattle.query_text.proofs.LongLines.{no_long_line}
 use Rattle.session_commands.specs.Floors.{HasMost, any, until, IsOver}
 use Rattle.session_commands.specs.Listens.{status_at}
-use Rattle.session_commands.specs.RaceEnds.{fate_of, has_long, has_lost, is_long, is_lost, race_status, CausesOfRace, HasEnded, IsFinished, lost, written, cut}
+use Rattle.session_commands.specs.RaceEnds.{fate_of, has_long, has_lost, is_long, is_lost, race_status, texts_of, wants_memory, CausesOfRace, HasEnded, IsFinished, lost, written, cut}
 use Rattle.session_commands.specs.Races.{race_text, round_text, AreAll, AreBeforeLong, AreFirst, Races, SaysRace, SaysTwice, Texts}
 use Rattle.command_base.specs.Replies.{Wrote}
 use Rattle.session_commands.specs.Runners.{head_of, round_bytes, EachAt, Tells, TellsBy, WasHeldTwice}
 use Rattle.session_commands.specs.Sessions.{AreDigits}
+use Rattle.session_commands.specs.Transcripts.{AppendsAtMost}
 use Rattle.session_commands.specs.declared.runner.Round.TheVariants.{During, After}
 use Rattle.session_commands.specs.declared.runner.Runner.{Runner}
+use Rattle.session_commands.specs.declared.transcript.TheConstants.{MAX_RACE_BYTES}
 use Rattle.command_base.specs.declared.status.Status.{Status}
 use Rattle.command_base.specs.declared.status.Status.TheVariants.{Answered, Refused, InputTooLong, Stopped}
 use Rattle.session_commands.proofs.SessionTexts.{in_range, transcript_is}
@@ -92,8 +95,24 @@ none_at p rs none i d lt = by (p (get_or rs i d)) refl
     by true e = let both : true ≡ false = sym (list_any_at p rs i d lt e) ∙ none in absurd (cc both)
     by false e = e
 
+pub none_appended : (a : Option (List ℕ)) → AppendsAtMost MAX_RACE_BYTES a a
+none_appended a = ([], omega arith, appends_none a)
+
 all_first : (script : List ℕ) (ls : List (List ℕ)) → AreAll script ls → AreFirst script ls
 all_first script ls are = record { rest = []; front = append-nil ls ∙ are.all; short = are.short }
+
+-- no session was refused memory, and the texts aren't too long
+kept_each : (rs : List Runner) → wants_memory rs ≡ false → list_any has_lost rs ≡ false
+kept_each rs kept = or_left (list_any has_lost rs) (nat_lt MAX_RACE_BYTES (length (texts_of rs))) kept
+
+fits_limit : (rs : List Runner) → wants_memory rs ≡ false → length (texts_of rs) ≤ MAX_RACE_BYTES
+fits_limit rs kept = ltb-false MAX_RACE_BYTES (length (texts_of rs)) (or_right (list_any has_lost rs) (nat_lt MAX_RACE_BYTES (length (texts_of rs))) kept)
+
+-- whatever the end, no more than the most was written
+pub within_limit : (runners : List Runner) (ended : Ended) (status : Status) (a c : Option (List ℕ)) (failed : Type 0) → IsFinished runners ended a c failed status → AppendsAtMost MAX_RACE_BYTES a c
+within_limit runners ended status a c failed (lost some is) = subst (AppendsAtMost MAX_RACE_BYTES a) is (none_appended a)
+within_limit runners ended status a c failed (written kept all) = (texts_of runners, fits_limit runners kept, all)
+within_limit runners ended status a c failed (cut kept f part) = (take part.0 (texts_of runners), omega (arith, fits_limit runners kept, length-take part.0 (texts_of runners)), part.1)
 
 pub causes_of_race : (runners : List Runner) (ended : Ended) (status : Status) (a c : Option (List ℕ)) (failed : Type 0) → IsFinished runners ended a c failed status → CausesOfRace failed status
 causes_of_race runners ended status a c failed (lost some is) = tt
@@ -329,5 +348,5 @@ module _ (spelling : Spelling) where
     -- what was written at the end
     pub wrote_race : (status : Status) (a c : Option (List ℕ)) (failed : Type 0) → IsFinished runners ended a c failed status → Wrote (SaysRace spelling file (length runners) script) status a c
     wrote_race status a c failed (lost some is) = subst (λ (o : Option (List ℕ)). Wrote (SaysRace spelling file (length runners) script) Stopped a o) is (nothing_raced file (length runners) script a)
-    wrote_race status a c failed (written kept all) = wrote_as (race_status (list_any has_long runners) ended) (status_told (list_any has_long runners) ended) (says_ended kept (list_any has_long runners) refl) a c all
-    wrote_race status a c failed (cut kept f part) = (race_status (list_any has_long runners) ended, bytes, says_ended kept (list_any has_long runners) refl, part)
+    wrote_race status a c failed (written kept all) = wrote_as (race_status (list_any has_long runners) ended) (status_told (list_any has_long runners) ended) (says_ended (kept_each runners kept) (list_any has_long runners) refl) a c all
+    wrote_race status a c failed (cut kept f part) = (race_status (list_any has_long runners) ended, bytes, says_ended (kept_each runners kept) (list_any has_long runners) refl, part)

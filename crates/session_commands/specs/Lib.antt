@@ -1,4 +1,5 @@
 pub mod Heard
+pub mod Transcripts
 pub mod Floors
 pub mod Sessions
 pub mod Races

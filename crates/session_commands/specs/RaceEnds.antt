@@ -1,5 +1,5 @@
 -- How a race ends.
-use Rattle.std.specs.Prelude.{◌≡◌, ℕ, ◌++◌, Bool, true, false, ◌||◌, List, flat_map, Option, Result, Ok, Err, ⊤}
+use Rattle.std.specs.Prelude.{◌≡◌, ℕ, nat_lt, ◌++◌, Bool, true, false, ◌||◌, List, length, flat_map, Option, Result, Ok, Err, ⊤}
 use Rattle.std.specs.List.{list_any}
 use Rattle.outside.specs.Written.{Appends, AppendsPrefix}
 use Rattle.index_model.specs.declared.job.CacheKind.TheVariants.{Gdb8}
@@ -15,6 +15,7 @@ use Rattle.session_commands.specs.Runners.{round_bytes, EachAt, WasHeldTwice}
 use Rattle.session_commands.specs.declared.runner.Round.TheVariants.{During, After}
 use Rattle.session_commands.specs.declared.race_end.Fate.{Fate}
 use Rattle.session_commands.specs.declared.race_end.Fate.TheVariants.{Whole, Long, Lost}
+use Rattle.session_commands.specs.declared.transcript.TheConstants.{MAX_RACE_BYTES}
 use Rattle.session_commands.specs.declared.runner.Runner.{Runner}
 use Rattle.command_base.specs.declared.status.Status.{Status}
 use Rattle.command_base.specs.declared.status.Status.TheVariants.{Answered, Refused, WriteFault, InputTooLong, Stopped}
@@ -62,11 +63,15 @@ race_status false ended = status_at ended
 abbrev pub texts_of : List Runner → List ℕ
 texts_of rs = flat_map (round_bytes During) rs ++ flat_map (round_bytes After) rs
 
--- Where memory was refused to a session nothing was written. Else the texts were, whole or in part.
+-- memory was refused to a session, or the texts are longer together than those of a race may be
+abbrev pub wants_memory : List Runner → Bool
+wants_memory rs = list_any has_lost rs || nat_lt MAX_RACE_BYTES (length (texts_of rs))
+
+-- Where memory is wanted nothing was written. Else the texts were, whole or in part.
 pub data IsFinished (rs : List Runner) (ended : Ended) (old new : Option (List ℕ)) (failed : Type 0) : Status → Type 0 where
-  lost : list_any has_lost rs ≡ true → old ≡ new → IsFinished rs ended old new failed Stopped
-  written : list_any has_lost rs ≡ false → Appends old new (texts_of rs) → IsFinished rs ended old new failed (race_status (list_any has_long rs) ended)
-  cut : list_any has_lost rs ≡ false → failed → AppendsPrefix old new (texts_of rs) → IsFinished rs ended old new failed WriteFault
+  lost : wants_memory rs ≡ true → old ≡ new → IsFinished rs ended old new failed Stopped
+  written : wants_memory rs ≡ false → Appends old new (texts_of rs) → IsFinished rs ended old new failed (race_status (list_any has_long rs) ended)
+  cut : wants_memory rs ≡ false → failed → AppendsPrefix old new (texts_of rs) → IsFinished rs ended old new failed WriteFault
 
 module _ (spelling : Spelling) where
   -- the readers of a board were in both sessions, the second after the build's end

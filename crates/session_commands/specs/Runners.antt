@@ -1,5 +1,5 @@
 -- What a reader of a race came to in its sessions.
-use Rattle.std.specs.Prelude.{◌≡◌, ◌<◌, ℕ, List, [], ◌∷◌, ◌++◌, length, get_or, All, codes, decimal, Result, Ok, Err, ⊤}
+use Rattle.std.specs.Prelude.{◌≡◌, ◌<◌, ℕ, List, [], ◌∷◌, ◌++◌, length, get_or, codes, decimal, Result, Ok, Err, ⊤}
 use Rattle.index_model.specs.Outputs.{Subject}
 use Rattle.index_model.specs.Stages.{initial, IsReachable}
 use Rattle.index_model.specs.Texts.{line}

@@ -8,7 +8,9 @@ mod rounds;
 mod runner;
 mod script;
 mod serve;
+mod transcript;
 
 pub use race::race_file;
 pub use script::MAX_SCRIPT_BYTES;
 pub use serve::serve_file;
+pub use transcript::MAX_RACE_BYTES;

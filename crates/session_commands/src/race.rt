@@ -10,7 +10,9 @@ ghost use Rattle.command_base.specs.Replies.{Wrote};
 ghost use Rattle.session_commands.specs.RaceEnds.{CausesOfRace};
 ghost use Rattle.session_commands.specs.Races.{SaysRace};
 ghost use Rattle.session_commands.specs.Runners.{IsFresh};
+ghost use Rattle.session_commands.specs.Transcripts.{AppendsAtMost};
 ghost use Rattle.session_commands.specs.declared.script.TheConstants.{MAX_SCRIPT_BYTES};
+ghost use Rattle.session_commands.specs.declared.transcript.TheConstants.{MAX_RACE_BYTES};
 
 use crate::race_end::finish;
 use crate::rounds::{answer_all, gather, race_beside, tell};
@@ -40,6 +42,7 @@ pub fn race_file<R: Threads + Wait + Sync, K: Sink, G: Gate + Sync>(
     requires one_reader { 0 < readers }
     requires few_readers { readers ≤ 16 }
     ensures wrote { Wrote (SaysRace spelling file.now readers script.now) result (K.written out.old) (K.written out.new) }
+    ensures limit { AppendsAtMost MAX_RACE_BYTES (K.written out.old) (K.written out.new) }
     ensures causes { CausesOfRace (Rose (K.write_faults out.old) (K.write_faults out.new)) result }
     ensures counts { K.write_faults out.old ≤ K.write_faults out.new }
 {
@@ -75,6 +78,7 @@ fn race_board<'f, R: Threads + Wait + Sync, K: Sink, G: Gate + Sync>(
     ensures own { IsPassOf board.now pass.new }
     ensures idle { pass.new.holding ≡ false }
     ensures wrote { Wrote (SaysRace spelling board.now.subject.file readers script.now) result (K.written out.old) (K.written out.new) }
+    ensures limit { AppendsAtMost MAX_RACE_BYTES (K.written out.old) (K.written out.new) }
     ensures causes { CausesOfRace (Rose (K.write_faults out.old) (K.write_faults out.new)) result }
     ensures counts { K.write_faults out.old ≤ K.write_faults out.new }
 {
@@ -107,6 +111,7 @@ fn race_readers<'f, R: Threads + Wait + Sync, K: Sink, G: Gate + Sync>(
     ensures own { IsPassOf board.now pass.new }
     ensures idle { pass.new.holding ≡ false }
     ensures wrote { Wrote (SaysRace spelling board.now.subject.file (length runners.old) script.now) result (K.written out.old) (K.written out.new) }
+    ensures limit { AppendsAtMost MAX_RACE_BYTES (K.written out.old) (K.written out.new) }
     ensures causes { CausesOfRace (Rose (K.write_faults out.old) (K.write_faults out.new)) result }
     ensures counts { K.write_faults out.old ≤ K.write_faults out.new }
 {

@@ -1,14 +1,16 @@
 //! What a race comes to, once both rounds are over.
 
-ghost use Rattle.std.specs.Prelude.{◌≡◌, ◌≤◌, flat_map, OnOk, OnErr};
+ghost use Rattle.std.specs.Prelude.{◌≡◌, ◌≤◌, nat_lt, length, flat_map, OnOk, OnErr};
 ghost use Rattle.std.specs.List.{list_any};
 ghost use Rattle.outside.specs.Counts.{Rose};
 ghost use Rattle.outside.specs.Written.{Appends, AppendsPrefix};
-ghost use Rattle.session_commands.specs.RaceEnds.{fate_of, has_long, has_lost, is_long, is_lost, race_status, texts_of, IsFinished};
+ghost use Rattle.session_commands.specs.RaceEnds.{fate_of, has_long, has_lost, is_long, is_lost, race_status, texts_of, wants_memory, IsFinished};
 ghost use Rattle.session_commands.specs.Runners.{round_bytes};
+ghost use Rattle.session_commands.specs.declared.transcript.TheConstants.{MAX_RACE_BYTES};
 
 use crate::listen::status_at;
 use crate::runner::{Round, Runner, Session};
+use crate::transcript::MAX_RACE_BYTES;
 use command_base::Status;
 use index_pool::Ended;
 use outside::{Failed, Sink, write_all};
@@ -26,12 +28,13 @@ pub(crate) enum Fate {
 }
 
 /// Writes the texts of both rounds, and gives the status. Where memory was refused to a session nothing is written; a line that
-/// is too long comes before the end of the build.
+/// is too long comes before the end of the build. No session passes its share, but that a sink is still the one that was handed in
+/// no clause of a session says: so the texts are measured once more.
 pub(crate) fn finish<K: Sink>(out: &mut K, runners: &[Runner<'_, '_>], ended: Ended) -> Status
     ensures finished { IsFinished runners.now ended (K.written out.old) (K.written out.new) (Rose (K.write_faults out.old) (K.write_faults out.new)) result }
     ensures counts { K.write_faults out.old ≤ K.write_faults out.new }
 {
-    if any_lost(runners) {
+    if wants_memory(runners) {
         return Status::Stopped;
     }
     let status = race_status(any_long(runners), ended);
@@ -52,6 +55,13 @@ fn race_status(long: bool, ended: Ended) -> Status
     }
 }
 
+// Whether memory was refused to a session, or the texts are longer together than those of a race may be.
+fn wants_memory(runners: &[Runner<'_, '_>]) -> bool
+    ensures { result ≡ wants_memory runners.now }
+{
+    any_lost(runners) || are_too_long(runners)
+}
+
 // Whether memory was refused to a session.
 fn any_lost(runners: &[Runner<'_, '_>]) -> bool
     ensures { result ≡ list_any has_lost runners.now }
@@ -62,6 +72,17 @@ fn any_lost(runners: &[Runner<'_, '_>]) -> bool
         }
     }
     false
+}
+
+// Whether the texts of both rounds have more bytes than a race may write.
+fn are_too_long(runners: &[Runner<'_, '_>]) -> bool
+    ensures { result ≡ nat_lt MAX_RACE_BYTES (length (texts_of runners.now)) }
+{
+    let mut total: u64 = 0;
+    for runner in runners {
+        total = total.saturating_add(runner.held());
+    }
+    total > MAX_RACE_BYTES
 }
 
 // Whether a session stopped at a line that is too long.

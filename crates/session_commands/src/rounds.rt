@@ -1,14 +1,16 @@
 //! The rounds of a race: all readers at once.
 
-ghost use Rattle.std.specs.Prelude.{◌≡◌, ◌≤◌, ◌<◌, length, vec_len, false, IfOk, All};
+ghost use Rattle.std.specs.Prelude.{◌≡◌, ◌≤◌, ◌<◌, ◌*◌, length, vec_len, false, IfOk, All};
 ghost use Rattle.stage_core.specs.Machines.{FitsFile};
 ghost use Rattle.stage_lock.specs.Seen.{IsPassOf};
 ghost use Rattle.index_pool.specs.Ends.{stage_at_end, IsLast};
 ghost use Rattle.session_commands.specs.Runners.{AllAnswered, AllTold, IsFresh};
 ghost use Rattle.session_commands.specs.declared.script.TheConstants.{MAX_SCRIPT_BYTES};
 ghost use Rattle.session_commands.specs.declared.runner.Round.TheVariants.{During};
+ghost use Rattle.session_commands.specs.declared.transcript.TheConstants.{MAX_RACE_BYTES};
 
 use crate::runner::{Round, Runner};
+use crate::transcript::MAX_RACE_BYTES;
 use index_board::{Board, Pass};
 use index_pool::{Crew, Ended, build};
 use ix_base::NoMemory;
@@ -27,18 +29,29 @@ pub(crate) fn gather<'b, 'f>(
 ) -> Result<Vec<Runner<'b, 'f>>, NoMemory>
     requires own { IsPassOf board.now pass.old }
     requires idle { pass.old.holding ≡ false }
+    requires some { 0 < readers }
     ensures own { IsPassOf board.now pass.new }
     ensures idle { pass.new.holding ≡ false }
     ensures floor { pass.new.floor ≡ pass.old.floor }
     ensures count { IfOk result (λ runners. vec_len runners ≡ readers) }
     ensures fresh { IfOk result (λ runners. All (IsFresh board.now pass.old.floor) runners.items) }
+    ensures shares { IfOk result (λ runners. All (λ r. 2 * readers * r.share ≤ MAX_RACE_BYTES) runners.items) }
 {
+    let share = share_of(readers);
     let mut runners = Vec::with_capacity(alloc, readers as usize)?;
     for _reader in 0..readers {
         let reader = board.reader(pass);
-        runners.push(Runner::new(alloc, reader)?)?;
+        runners.push(Runner::new(alloc, share, reader)?)?;
     }
     Ok(runners)
+}
+
+// How many bytes each of two sessions of so many readers may hold.
+fn share_of(readers: u32) -> usize
+    requires { 0 < readers }
+    ensures { 2 * readers * result ≤ MAX_RACE_BYTES }
+{
+    (MAX_RACE_BYTES / (2 * u64::from(readers))) as usize
 }
 
 /// The first round: each reader answers the script, and the index is built meanwhile. May wait.

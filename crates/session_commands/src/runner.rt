@@ -1,14 +1,15 @@
 //! A reader of a race, and its sessions.
 
-ghost use Rattle.std.specs.Prelude.{◌≡◌, ◌<◌, ◌≤◌, ◌++◌, [], length, codes, IfOk, OnOk};
+ghost use Rattle.std.specs.Prelude.{◌≡◌, ◌<◌, ◌≤◌, ◌+◌, ◌-◌, ◌^◌, ◌++◌, [], length, min, codes, IfOk, OnOk};
 ghost use Rattle.session_commands.specs.Runners.{head_of, round_word, session_in, Answered, IsHeld};
 ghost use Rattle.session_commands.specs.declared.script.TheConstants.{MAX_SCRIPT_BYTES};
 
 use crate::script::Script;
+use crate::transcript::Transcript;
 use index_board::Reader;
 use ix_base::NoMemory;
 use name_quotes::Spelling;
-use outside::{Failed, Gate, MemSink, write_all};
+use outside::{Failed, Gate, write_all};
 use query_text::{LineBuf, SessionFault, session};
 use std::alloc::Global;
 use std::sync::Wait;
@@ -25,14 +26,15 @@ pub(crate) enum Round {
 /// What a session wrote, behind the line of its reader's number, and how it ended.
 #[derive(Drop)]
 pub(crate) struct Session {
-    pub text: MemSink,
+    pub text: Transcript,
     pub ended: Result<(), SessionFault>,
 }
 
-/// A reader, the room for its lines, and both of its sessions.
+/// A reader, the most bytes of each of its sessions, the room for its lines, and both sessions.
 #[derive(Drop)]
 pub(crate) struct Runner<'b, 'f> {
     pub alloc: Global,
+    pub share: usize,
     pub reader: Reader<'b, 'f>,
     pub line: LineBuf,
     pub during: Session,
@@ -41,11 +43,13 @@ pub(crate) struct Runner<'b, 'f> {
 
 impl<'b, 'f> Runner<'b, 'f> {
     /// A reader whose sessions are still to come.
-    pub(crate) fn new(alloc: Global, reader: Reader<'b, 'f>) -> Result<Self, NoMemory>
-        ensures { IfOk result (λ runner. runner.reader ≡ reader.entry) }
+    pub(crate) fn new(alloc: Global, share: usize, reader: Reader<'b, 'f>) -> Result<Self, NoMemory>
+        ensures reader { IfOk result (λ runner. runner.reader ≡ reader.entry) }
+        ensures share { IfOk result (λ runner. runner.share ≡ share) }
     {
         Ok(Runner {
             alloc,
+            share,
             reader,
             line: LineBuf::new(alloc)?,
             during: nothing(alloc),
@@ -90,7 +94,7 @@ impl<'b, 'f> Runner<'b, 'f> {
         ensures during { self.new.during ≡ self.old.during }
         ensures held { IsHeld spelling self.old.reader.board.subject script.now (head_of round number) self.old.reader.pass.floor self.new.reader.pass.floor result }
     {
-        let mut text = MemSink::new(self.alloc);
+        let mut text = Transcript::new(self.alloc, self.share);
         if begin(self.alloc, &mut text, round, number).is_err() {
             return Session {
                 text,
@@ -111,6 +115,14 @@ impl<'b, 'f> Runner<'b, 'f> {
         Session { text, ended }
     }
 
+    /// How many bytes both sessions hold.
+    pub(crate) fn held(&self) -> u64
+        ensures { result ≡ min (length self.now.during.text.bytes + length self.now.after.text.bytes) (2 ^ 64 - 1) }
+    {
+        let during = self.during.text.bytes().len() as u64;
+        during.saturating_add(self.after.text.bytes().len() as u64)
+    }
+
     /// The session of a round.
     pub(crate) fn session(&self, round: Round) -> &Session
         ensures { result.now ≡ session_in round self.now }
@@ -125,7 +137,7 @@ impl<'b, 'f> Runner<'b, 'f> {
 // A session that was not held.
 fn nothing(alloc: Global) -> Session {
     Session {
-        text: MemSink::new(alloc),
+        text: Transcript::new(alloc, 0),
         ended: Ok(()),
     }
 }
@@ -134,8 +146,8 @@ fn nothing(alloc: Global) -> Session {
 //
 // # Errors
 //
-// `NoMemory` where memory was refused.
-fn begin(alloc: Global, text: &mut MemSink, round: Round, number: usize) -> Result<(), NoMemory>
+// `NoMemory` where memory was refused, or the transcript may not hold it.
+fn begin(alloc: Global, text: &mut Transcript, round: Round, number: usize) -> Result<(), NoMemory>
     requires { text.old.bytes ≡ [] }
     ensures { OnOk result (text.new.bytes ≡ head_of round number) }
 {
@@ -145,8 +157,8 @@ fn begin(alloc: Global, text: &mut MemSink, round: Round, number: usize) -> Resu
     put(text, b"\n")
 }
 
-// Appends the bytes, which fails for want of memory alone.
-fn put(text: &mut MemSink, bytes: &[u8]) -> Result<(), NoMemory>
+// Appends the bytes. To a session a limit that is reached is want of memory.
+fn put(text: &mut Transcript, bytes: &[u8]) -> Result<(), NoMemory>
     ensures { OnOk result (text.new.bytes ≡ text.old.bytes ++ bytes.now) }
 {
     match write_all(text, bytes) {

@@ -4,7 +4,7 @@ use Rattle.index_model.specs.Stages.{initial, IsReachable}
 use Rattle.command_base.specs.Replies.{Wrote}
 use Rattle.session_commands.specs.Races.{SaysRace}
 use Rattle.session_commands.specs.Runners.{IsFresh}
-use Rattle.session_commands.proofs.RaceLaws.{nothing_raced}
+use Rattle.session_commands.proofs.RaceLaws.{none_appended, nothing_raced}
 use Rattle.session_commands.proofs.race.race_board.Goals as goal
 
 pub race_readers-requires-clause-reached : goal.race_readers-requires-clause-reached
@@ -25,3 +25,6 @@ returns-in-Ok-clause-wrote g c =
 -- where the readers were refused memory
 pub returns-in-Err-clause-wrote : goal.returns-in-Err-clause-wrote
 returns-in-Err-clause-wrote g c = nothing_raced c.args.spelling c.args.board.now.subject.file c.args.readers c.args.script.now (g.K.Sink.written c.args.out.now)
+
+pub returns-in-Err-clause-limit : goal.returns-in-Err-clause-limit
+returns-in-Err-clause-limit g c = none_appended (g.K.Sink.written c.args.out.now)

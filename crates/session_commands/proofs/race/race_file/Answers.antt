@@ -1,7 +1,7 @@
 use Rattle.std.proofs.Common.{ap, sym, subst}
 use Rattle.index_model.specs.Stages.{initial, IsReachable}
 use Rattle.session_commands.proofs.ListenLaws.{first_reached}
-use Rattle.session_commands.proofs.RaceLaws.{nothing_raced}
+use Rattle.session_commands.proofs.RaceLaws.{none_appended, nothing_raced}
 use Rattle.session_commands.proofs.race.race_file.Goals as goal
 
 pub race_board-status-requires-clause-reached : goal.race_board-status-requires-clause-reached
@@ -9,3 +9,6 @@ race_board-status-requires-clause-reached g c κs within = subst (IsReachable in
 
 pub returns-in-Err-clause-wrote : goal.returns-in-Err-clause-wrote
 returns-in-Err-clause-wrote g c = nothing_raced c.args.spelling c.args.file.now c.args.readers c.args.script.now (g.K.Sink.written c.args.out.now)
+
+pub returns-in-Err-clause-limit : goal.returns-in-Err-clause-limit
+returns-in-Err-clause-limit g c = none_appended (g.K.Sink.written c.args.out.now)

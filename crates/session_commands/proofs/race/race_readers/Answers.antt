@@ -6,7 +6,7 @@ use Rattle.session_commands.specs.RaceEnds.{HasEnded}
 use Rattle.session_commands.specs.Races.{SaysRace}
 use Rattle.command_base.specs.Replies.{Wrote}
 use Rattle.session_commands.specs.Runners.{EachAt, WasHeldTwice}
-use Rattle.session_commands.proofs.RaceLaws.{causes_of_race, wrote_race}
+use Rattle.session_commands.proofs.RaceLaws.{causes_of_race, within_limit, wrote_race}
 use Rattle.session_commands.proofs.RunnerLaws.{boards, first_held, second_held}
 use Rattle.session_commands.proofs.race.race_readers.Goals as goal
 
@@ -31,6 +31,9 @@ returns-clause-wrote g c =
     let count : length c.answer_all.new.runners ≡ length c.args.runners.now = c.answer_all.ensures.count ∙ c.tell.ensures.told.count ∙ built.ensures.answered.count in
     subst (λ (n : ℕ). Wrote (SaysRace c.args.spelling board.subject.file n script) c.finish.result (g.K.Sink.written c.args.out.now) (g.K.Sink.written c.finish.new.out)) count
     (wrote_race c.args.spelling board script c.answer_all.new.runners ended h c.finish.result (g.K.Sink.written c.args.out.now) (g.K.Sink.written c.finish.new.out) (Rose (g.K.Sink.write_faults c.args.out.now) (g.K.Sink.write_faults c.finish.new.out)) c.finish.ensures.finished)
+
+pub returns-clause-limit : goal.returns-clause-limit
+returns-clause-limit g c = within_limit c.answer_all.new.runners c.race_beside-ended.result c.finish.result (g.K.Sink.written c.args.out.now) (g.K.Sink.written c.finish.new.out) (Rose (g.K.Sink.write_faults c.args.out.now) (g.K.Sink.write_faults c.finish.new.out)) c.finish.ensures.finished
 
 pub returns-clause-causes : goal.returns-clause-causes
 returns-clause-causes g c = causes_of_race c.answer_all.new.runners c.race_beside-ended.result c.finish.result (g.K.Sink.written c.args.out.now) (g.K.Sink.written c.finish.new.out) (Rose (g.K.Sink.write_faults c.args.out.now) (g.K.Sink.write_faults c.finish.new.out)) c.finish.ensures.finished

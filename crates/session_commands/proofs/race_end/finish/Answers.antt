@@ -4,14 +4,14 @@ use Rattle.session_commands.specs.RaceEnds.{race_status, IsFinished, lost, writt
 use Rattle.command_base.specs.declared.status.Status.{Status}
 use Rattle.session_commands.proofs.race_end.finish.Goals as goal
 
-pub returns-then-any_lost-clause-finished : goal.returns-then-any_lost-clause-finished
-returns-then-any_lost-clause-finished g c = lost (sym c.any_lost.ensures ∙ c.if-any_lost.true) refl
+pub returns-then-wants_memory-clause-finished : goal.returns-then-wants_memory-clause-finished
+returns-then-wants_memory-clause-finished g c = lost (sym c.wants_memory.ensures ∙ c.if-wants_memory.true) refl
 
 pub returns-in-Ok-clause-finished : goal.returns-in-Ok-clause-finished
 returns-in-Ok-clause-finished g c =
     subst (λ (s : Status). IsFinished c.args.runners.now c.args.ended (g.K.Sink.written c.args.out.now) (g.K.Sink.written c.write_texts.new.out) (Rose (g.K.Sink.write_faults c.args.out.now) (g.K.Sink.write_faults c.write_texts.new.out)) s)
     (sym (c.race_status-status.ensures ∙ ap (λ (b : Bool). race_status b c.args.ended) c.any_long.ensures))
-    (written (sym c.any_lost.ensures ∙ c.if-any_lost.false) c.in-Ok.ensures.ok)
+    (written (sym c.wants_memory.ensures ∙ c.if-wants_memory.false) c.in-Ok.ensures.ok)
 
 pub returns-in-Err-clause-finished : goal.returns-in-Err-clause-finished
-returns-in-Err-clause-finished g c = cut (sym c.any_lost.ensures ∙ c.if-any_lost.false) c.in-Err.ensures.failed c.in-Err.ensures.left
+returns-in-Err-clause-finished g c = cut (sym c.wants_memory.ensures ∙ c.if-wants_memory.false) c.in-Err.ensures.failed c.in-Err.ensures.left

@@ -1,6 +1,7 @@
-use Rattle.std.proofs.Common.{◌≡◌, false, vec_len, All}
+use Rattle.std.proofs.Common.{◌≡◌, ◌≤◌, ◌*◌, false, vec_len, All}
 use Rattle.stage_lock.specs.Seen.{IsPassOf}
 use Rattle.session_commands.specs.Runners.{IsFresh}
+use Rattle.session_commands.specs.declared.transcript.TheConstants.{MAX_RACE_BYTES}
 use Rattle.session_commands.proofs.rounds.gather.Given as goal
 
 -- so many readers so far, each from the pass's floor on
@@ -11,4 +12,5 @@ invariant-loop-reader l = record {
   floor : l.pass.floor ≡ l.initial.pass.floor;
   count : vec_len l.runners ≡ l._reader;
   fresh : All (IsFresh l.board l.initial.pass.floor) l.runners.items;
+  shares : All (λ r. 2 * l.readers * r.share ≤ MAX_RACE_BYTES) l.runners.items;
 }
