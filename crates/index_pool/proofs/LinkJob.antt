@@ -1,11 +1,10 @@
 -- The output of a Link job.
-use Rattle.std.proofs.Common.{◌≡◌, ℕ, ◌<◌, List, length, Result, Ok, Err, sym, ap, subst, ◌∙◌, arith}
+use Rattle.std.proofs.Common.{◌≡◌, ℕ, ◌<◌, List, length, Result, Ok, Err, ap, ◌∙◌, arith}
 use Rattle.std.specs.Prelude.{IsOkAnd}
 use Rattle.ix_base.specs.declared.fault.Fault.{Fault}
 use Rattle.ix_base.specs.declared.fault.Stop.{Stop}
 use Rattle.ix_base.specs.declared.fault.Stop.TheVariants as stops
 use Rattle.file_image.specs.Images.{Image}
-use Rattle.index_model.specs.declared.job.Job.{Job}
 use Rattle.index_model.specs.declared.job.Job.TheVariants.{Link}
 use Rattle.index_model.specs.declared.shard.Shard.{Shard}
 use Rattle.index_model.specs.declared.shard.Linked.{Linked}
@@ -23,9 +22,8 @@ use Rattle.parent_resolve.specs.Runs.{ForRun}
 use Rattle.index_pool.specs.Drawn.{IsDrawn}
 use Rattle.index_pool.specs.Outputs.{output_of}
 use Rattle.index_pool.proofs.Lists.{part_at, ok_and, and_ok}
-use Rattle.index_pool.proofs.Next.{HandedOut, handed_out}
 use Rattle.index_pool.proofs.Walks.{Scanned, program, program_is, are_shards, count, link_is}
-use Rattle.index_pool.proofs.Given.{IsLink, is_link}
+use Rattle.index_pool.proofs.Given.{IsOut, is_out}
 use Rattle.index_pool.proofs.ScanJob.{Same, same_image}
 
 module _ (s : Subject) (p : Program) (file : program_of s.file ≡ Ok p) (k : ℕ) where
@@ -45,36 +43,28 @@ of_image s h shards x image same = record {
   are = are_shards s h shards x;
 }
 
-module _ (image : Image) (job : Job) (k : ℕ) (is : job ≡ Link k) (shards : List Shard) (d : IsDrawn image (record { job = job; given = ScansOf shards })) where
-  abbrev pub s : Subject
+module _ (image : Image) (k : ℕ) (shards : List Shard) (d : IsDrawn image (record { job = Link k; given = ScansOf shards })) where
+  abbrev s : Subject
   s = d.machine.subject
 
-  out : HandedOut d.machine.subject d.machine.state (record { job = job; given = ScansOf shards })
-  out = handed_out image (record { job = job; given = ScansOf shards }) d
+  out : IsOut s (record { job = Link k; given = ScansOf shards })
+  out = is_out image (record { job = Link k; given = ScansOf shards }) d
 
   abbrev h : HasRuns s
-  h = out.next.runs
-
-  here : IsLink s h d.machine.state.brought d.machine.state.end job shards
-  here = is_link s h d.machine.state.brought d.machine.state.end d.machine.state.closed d.machine.state.drawn job shards out.next.made out.next.kind out.next.within out.given
+  h = out.runs
 
   same : Same s h image
   same = same_image s h image d.image_is
 
-  own : here.k ≡ k
-  own = cc (here.job_is ∙ is)
-
   pub link_of_file : AreShardsOfFile image shards
-  link_of_file = of_image s h shards here.scanned image same
-
-  in_runs : k < length s.runs
-  in_runs = subst (λ (n : ℕ). n < length s.runs) own here.within
+  link_of_file = of_image s h shards out.given.scanned image same
 
   pub link_within : k < length shards
-  link_within = omega (arith, in_runs, count s h shards here.scanned)
+  link_within = omega (arith, out.given.within, count s h shards out.given.scanned)
 
-  pub link_brings : (r : Result Linked Stop) → ForRun image shards k (λ p links. GivesFor (IsLinked p) r links) → IsOutputOf s job (output_of LinkedOf r)
+  pub link_brings : (r : Result Linked Stop) → ForRun image shards k (λ p links. GivesFor (IsLinked p) r links) → IsOutputOf s (Link k) (output_of LinkedOf r)
   link_brings r gives =
-      let p = program s h shards here.scanned in
-      let file = program_is s h shards here.scanned in
-      subst (λ (j : Job). IsOutputOf s j (output_of LinkedOf r)) (sym is) (brings s p file k r (links_in p (part_at here.scanned.walks k)) (link_is s h shards here.scanned k in_runs) (gives p (ap program_of same.file ∙ file) (are_shards s h shards here.scanned)))
+      let x = out.given.scanned in
+      let p = program s h shards x in
+      let file = program_is s h shards x in
+      brings s p file k r (links_in p (part_at x.walks k)) (link_is s h shards x k out.given.within) (gives p (ap program_of same.file ∙ file) (are_shards s h shards x))

@@ -1,10 +1,9 @@
 -- The output of the Main job.
-use Rattle.std.proofs.Common.{◌≡◌, List, Result, Ok, Err, refl, sym, ap, subst, ◌∙◌}
+use Rattle.std.proofs.Common.{◌≡◌, List, Result, Ok, Err, refl, ap, ◌∙◌}
 use Rattle.ix_base.specs.declared.fault.Fault.{Fault}
 use Rattle.ix_base.specs.declared.fault.Stop.{Stop}
 use Rattle.ix_base.specs.declared.fault.Stop.TheVariants as stops
 use Rattle.file_image.specs.Images.{Image}
-use Rattle.index_model.specs.declared.job.Job.{Job}
 use Rattle.index_model.specs.declared.job.Job.TheVariants.{Main}
 use Rattle.index_model.specs.declared.range.UnitRange.{UnitRange}
 use Rattle.index_model.specs.declared.shard.Shard.{Shard}
@@ -26,9 +25,8 @@ use Rattle.index_pool.specs.Files.{IsSummaryOf}
 use Rattle.index_pool.specs.Outputs.{output_of}
 use Rattle.index_pool.proofs.Built.{built, built_with, fault_with, accepted_with, links_joined}
 use Rattle.index_pool.proofs.Lists.{joined, ok_and, and_ok}
-use Rattle.index_pool.proofs.Next.{HandedOut, handed_out}
 use Rattle.index_pool.proofs.Walks.{program, program_is, are_shards}
-use Rattle.index_pool.proofs.Given.{HasLinks, IsMainOrName, main_or_name}
+use Rattle.index_pool.proofs.Given.{HasLinks, IsOut, is_out}
 use Rattle.index_pool.proofs.ScanJob.{Same, same_image}
 
 module _ (s : Subject) (image : Image) (file_is : image.file ≡ s.file) (p : Program) (file : program_of s.file ≡ Ok p) (ks : List Link) (links : links_of p ≡ Ok ks) where
@@ -40,43 +38,43 @@ module _ (s : Subject) (image : Image) (file_is : image.file ≡ s.file) (p : Pr
   brings (Err (stops.Fault f)) m is gives = fault_with s.file p file ks links f (is ∙ gives)
   brings (Err stops.Memory) m is gives = tt
 
--- what is given for Main and Name
-module _ (image : Image) (job : Job) (shards : List Shard) (linked : List Linked) (d : IsDrawn image (record { job = job; given = LinksOf shards linked })) where
-  abbrev pub s : Subject
-  s = d.machine.subject
-
-  pub out : HandedOut d.machine.subject d.machine.state (record { job = job; given = LinksOf shards linked })
-  out = handed_out image (record { job = job; given = LinksOf shards linked }) d
-
-  abbrev pub h : HasRuns s
-  h = out.next.runs
-
-  pub here : HasLinks s h d.machine.state.brought d.machine.state.end shards linked × IsMainOrName s h d.machine.state.brought d.machine.state.end job
-  here = main_or_name s h d.machine.state.brought d.machine.state.end d.machine.state.closed d.machine.state.drawn job shards linked out.next.made out.next.kind out.next.within out.given
-
-  pub same : Same s h image
-  same = same_image s h image d.image_is
-
+-- the shards and the links that Main and Name are given
+module _ (s : Subject) (h : HasRuns s) (image : Image) (same : Same s h image) (shards : List Shard) (linked : List Linked) (has : HasLinks s h shards linked) where
   abbrev pub the_program : Program
-  the_program = program s h shards here.0.scanned
+  the_program = program s h shards has.scanned
 
   abbrev pub the_links : List Link
-  the_links = joined here.0.links.links
+  the_links = joined has.links.links
 
   pub links_are : links_of the_program ≡ Ok the_links
   unfolding links_of
-  links_are = links_joined the_program here.0.scanned.walks here.0.links.links here.0.links.read
+  links_are = links_joined the_program has.scanned.walks has.links.links has.links.read
 
   pub linked_of_file : AreLinkedOfFile image shards linked
   linked_of_file = record {
     program = the_program;
-    is = ap program_of same.file ∙ program_is s h shards here.0.scanned;
-    are = are_shards s h shards here.0.scanned;
-    links = here.0.links.are;
+    is = ap program_of same.file ∙ program_is s h shards has.scanned;
+    are = are_shards s h shards has.scanned;
+    links = has.links.are;
   }
 
-  pub main_brings : job ≡ Main → (r : Result Summary Stop) → ForLinks image (λ p ks. GivesFor (λ m rs. IsSummaryOf image (summary_seen m) rs) r (all_ranges p ks)) → IsOutputOf s job (output_of (λ m. SummaryOf (summary_seen m)) r)
-  main_brings is r gives =
-      let file = program_is s h shards here.0.scanned in
-      subst (λ (j : Job). IsOutputOf s j (output_of (λ m. SummaryOf (summary_seen m)) r)) (sym is)
-      (brings s image same.file the_program file the_links links_are r (all_ranges the_program the_links) refl (gives the_program (ap program_of same.file ∙ file) the_links links_are))
+module _ (image : Image) (shards : List Shard) (linked : List Linked) (d : IsDrawn image (record { job = Main; given = LinksOf shards linked })) where
+  abbrev s : Subject
+  s = d.machine.subject
+
+  out : IsOut s (record { job = Main; given = LinksOf shards linked })
+  out = is_out image (record { job = Main; given = LinksOf shards linked }) d
+
+  same : Same s out.runs image
+  same = same_image s out.runs image d.image_is
+
+  pub main_of_file : AreLinkedOfFile image shards linked
+  main_of_file = linked_of_file s out.runs image same shards linked out.given
+
+  pub main_brings : (r : Result Summary Stop) → ForLinks image (λ p ks. GivesFor (λ m rs. IsSummaryOf image (summary_seen m) rs) r (all_ranges p ks)) → IsOutputOf s Main (output_of (λ m. SummaryOf (summary_seen m)) r)
+  main_brings r gives =
+      let p = program s out.runs shards out.given.scanned in
+      let ks = joined out.given.links.links in
+      let file = program_is s out.runs shards out.given.scanned in
+      let links = links_are s out.runs image same shards linked out.given in
+      brings s image same.file p file ks links r (all_ranges p ks) refl (gives p (ap program_of same.file ∙ file) ks links)

@@ -4,8 +4,7 @@ use Rattle.std.specs.Prelude.{IfOk, codes}
 use Rattle.ix_base.specs.declared.fault.NoMemory.{NoMemory}
 use Rattle.file_image.specs.Images.{Image}
 use Rattle.index_model.specs.declared.entry.Entry.{Entry}
-use Rattle.index_model.specs.declared.job.Job.{Job}
-use Rattle.index_model.specs.declared.job.Job.TheVariants.{Name}
+use Rattle.index_model.specs.declared.job.Job.TheVariants.{Name, Merge}
 use Rattle.index_model.specs.declared.range.UnitRange.{UnitRange}
 use Rattle.index_model.specs.Answers.{entries_in}
 use Rattle.index_model.specs.Entries.{entries_of}
@@ -25,9 +24,8 @@ use Rattle.index_pool.proofs.Built.{built, built_with, ranges_of_accepted, links
 use Rattle.index_pool.proofs.Counts.{few_entries, tails_fit}
 use Rattle.index_pool.proofs.Lists.{joined, part_at, at_ok, and_ok, zip_length}
 use Rattle.index_pool.proofs.NameJob.{run_entries}
-use Rattle.index_pool.proofs.Next.{HandedOut, handed_out}
 use Rattle.index_pool.proofs.Walks.{Reads, program, program_is}
-use Rattle.index_pool.proofs.Given.{IsMerge, is_merge}
+use Rattle.index_pool.proofs.Given.{IsMerge, IsOut, is_out}
 use Rattle.index_pool.proofs.ScanJob.{Same, same_image}
 
 module _ (s : Subject) (b : Built) (is : built_of s.file ≡ Ok b) where
@@ -57,19 +55,18 @@ module _ (s : Subject) (b : Built) (is : built_of s.file ≡ Ok b) where
       shift : (k i : ℕ) → suc k + i ≡ k + suc i
       shift k i = omega arith
 
--- what is given for the Merge job
-module _ (image : Image) (job : Job) (runs : List (List Entry)) (d : IsDrawn image (record { job = job; given = RunsOf runs })) where
-  abbrev pub s : Subject
+module _ (image : Image) (runs : List (List Entry)) (d : IsDrawn image (record { job = Merge; given = RunsOf runs })) where
+  abbrev s : Subject
   s = d.machine.subject
 
-  out : HandedOut d.machine.subject d.machine.state (record { job = job; given = RunsOf runs })
-  out = handed_out image (record { job = job; given = RunsOf runs }) d
+  out : IsOut s (record { job = Merge; given = RunsOf runs })
+  out = is_out image (record { job = Merge; given = RunsOf runs }) d
 
   abbrev h : HasRuns s
-  h = out.next.runs
+  h = out.runs
 
-  here : IsMerge s h d.machine.state.brought d.machine.state.end job runs
-  here = is_merge s h d.machine.state.brought d.machine.state.end d.machine.state.closed d.machine.state.drawn job runs out.next.made out.next.kind out.next.within out.given
+  abbrev here : IsMerge s h runs
+  here = out.given
 
   same : Same s h image
   same = same_image s h image d.image_is
@@ -119,8 +116,6 @@ module _ (image : Image) (job : Job) (runs : List (List Entry)) (d : IsDrawn ima
   pub merge_tails : TailsFit (joined runs)
   merge_tails = subst TailsFit (sym all) (tails_fit p p.walks ks links)
 
-  pub merge_brings : (r : Result (List Entry) NoMemory) → IfOk r (λ t. t ≡ joined runs) → IsOutputOf s job (output_or_memory TableOf r)
+  pub merge_brings : (r : Result (List Entry) NoMemory) → IfOk r (λ t. t ≡ joined runs) → IsOutputOf s Merge (output_or_memory TableOf r)
   merge_brings (Err e) gives = tt
-  merge_brings (Ok es) gives =
-      subst (λ (j : Job). IsOutputOf s j (output_or_memory TableOf (Ok es))) here.job_is
-      (refl, and_ok (built_of s.file) (built p ks rs.0) (λ b. es ≡ entries_in b) built_is (gives ∙ all))
+  merge_brings (Ok es) gives = (refl, and_ok (built_of s.file) (built p ks rs.0) (λ b. es ≡ entries_in b) built_is (gives ∙ all))

@@ -1,32 +1,32 @@
 -- The output of a Name job.
-use Rattle.std.proofs.Common.{◌≡◌, ℕ, zero, suc, ◌<◌, List, [], ◌∷◌, ◌++◌, map, flat_map, filter, length, None, Result, Ok, Err, refl, sym, ap, subst, ◌∙◌, arith}
+use Rattle.std.proofs.Common.{◌≡◌, ℕ, zero, suc, ◌<◌, List, [], ◌∷◌, ◌++◌, map, flat_map, filter, length, Result, Ok, Err, refl, sym, ap, subst, ◌∙◌, arith}
 use Rattle.std.specs.Prelude.{IfOk}
 use Rattle.ix_base.specs.declared.fault.NoMemory.{NoMemory}
 use Rattle.file_image.specs.Images.{Image}
 use Rattle.index_model.specs.declared.entry.Entry.{Entry}
-use Rattle.index_model.specs.declared.job.Job.{Job}
 use Rattle.index_model.specs.declared.job.Job.TheVariants.{Name}
 use Rattle.index_model.specs.declared.shard.Shard.{Shard}
 use Rattle.index_model.specs.declared.shard.Linked.{Linked}
 use Rattle.index_model.specs.Answers.{entries_in}
 use Rattle.index_model.specs.Entries.{entries_of}
-use Rattle.index_model.specs.Faults.{built_of, program_of, first_fault}
+use Rattle.index_model.specs.Faults.{built_of, program_of}
 use Rattle.index_model.specs.Links.{links_in}
 use Rattle.index_model.specs.Program.{Program}
 use Rattle.index_model.specs.Outputs.{Subject, RunOf, IsOutputOf, is_in_run}
 use Rattle.index_model.specs.LawsCore.{HasRuns}
 use Rattle.index_model.proofs.Pairs.{Pairs}
 use Rattle.stage_core.specs.Inputs.{LinksOf}
-use Rattle.qualified_names.specs.Files.{ForLinkedRun}
+use Rattle.qualified_names.specs.Files.{AreLinkedOfFile, ForLinkedRun}
 use Rattle.index_pool.specs.Drawn.{IsDrawn}
 use Rattle.index_pool.specs.Outputs.{output_or_memory}
 use Rattle.index_pool.proofs.Built.{built, built_with, ranges_of_accepted, entries_joined}
 use Rattle.index_pool.proofs.Lists.{joined, part_at, and_ok, zip_parts, zip_length}
 use Rattle.index_pool.proofs.Walks.{Scanned, Reads, Links, program, program_is, are_shards, count}
-use Rattle.index_pool.proofs.Given.{IsMainOrName, is_main, is_name}
+use Rattle.index_pool.proofs.Given.{IsOut, is_out}
 use Rattle.index_pool.proofs.Picks.{Lower, pick, units_rise}
 use Rattle.index_pool.proofs.Owners.{own_runs}
-use Rattle.index_pool.proofs.MainJob as given
+use Rattle.index_pool.proofs.MainJob.{links_are, linked_of_file}
+use Rattle.index_pool.proofs.ScanJob.{Same, same_image}
 
 joined_map : {A B : Type 0} (f : A → List B) (xs : List A) → joined (map f xs) ≡ flat_map f xs
 joined_map f [] = refl
@@ -61,38 +61,34 @@ module _ (s : Subject) (h : HasRuns s) (shards : List Shard) (x : Scanned s h s.
   pub run_links : (k : ℕ) → k < length s.runs → links_in p (part_at x.walks k) ≡ Ok (part_at y.links k)
   run_links k lt = zip_parts (λ ws ks. links_in p ws ≡ Ok ks) x.walks y.links y.read k (omega (arith, lt, zip_length (Reads s h) s.runs x.walks x.read))
 
--- what is given for a Name job
-module _ (image : Image) (job : Job) (shards : List Shard) (linked : List Linked) (d : IsDrawn image (record { job = job; given = LinksOf shards linked })) (k : ℕ) (is : job ≡ Name k) where
-  abbrev pub s : Subject
+module _ (image : Image) (k : ℕ) (shards : List Shard) (linked : List Linked) (d : IsDrawn image (record { job = Name k; given = LinksOf shards linked })) where
+  abbrev s : Subject
   s = d.machine.subject
 
+  out : IsOut s (record { job = Name k; given = LinksOf shards linked })
+  out = is_out image (record { job = Name k; given = LinksOf shards linked }) d
+
   abbrev h : HasRuns s
-  h = given.h image job shards linked d
+  h = out.runs
 
-  record Named : Type 0 where
-    within : k < length s.runs
-    accepted : first_fault s.file ≡ None
+  same : Same s h image
+  same = same_image s h image d.image_is
 
-  named : Named
-  named = by (given.here image job shards linked d).1
-    where
-      by : IsMainOrName s h d.machine.state.brought d.machine.state.end job → Named
-      by (is_main same) = absurd (cc (same ∙ is))
-      by (is_name j same lt accepted) = let own : j ≡ k = cc (same ∙ is) in record { within = subst (λ (n : ℕ). n < length s.runs) own lt; accepted = accepted }
+  pub name_of_file : AreLinkedOfFile image shards linked
+  name_of_file = linked_of_file s h image same shards linked out.given.has
 
   pub name_within : k < length shards
-  name_within = omega (arith, named.within, count s h shards (given.here image job shards linked d).0.scanned)
+  name_within = omega (arith, out.given.within, count s h shards out.given.has.scanned)
 
-  pub name_brings : (r : Result (List Entry) NoMemory) → ForLinkedRun image shards linked k (λ p ks. IfOk r (λ run. run ≡ entries_of p ks)) → IsOutputOf s job (output_or_memory RunOf r)
+  pub name_brings : (r : Result (List Entry) NoMemory) → ForLinkedRun image shards linked k (λ p ks. IfOk r (λ run. run ≡ entries_of p ks)) → IsOutputOf s (Name k) (output_or_memory RunOf r)
   name_brings (Err e) gives = tt
   name_brings (Ok es) gives =
-      let x = (given.here image job shards linked d).0.scanned in
-      let y = (given.here image job shards linked d).0.links in
+      let x = out.given.has.scanned in
+      let y = out.given.has.links in
       let q = program s h shards x in
       let file = program_is s h shards x in
-      let links = given.links_are image job shards linked d in
-      let rs = ranges_of_accepted s.file q file (joined y.links) links named.accepted in
-      let own : es ≡ entries_of q (part_at y.links k) = gives q (ap program_of (given.same image job shards linked d).file ∙ file) (are_shards s h shards x) y.are (part_at y.links k) (run_links s h shards x linked y k named.within) in
-      let all : es ≡ filter (λ e. is_in_run s k e.unit) (entries_of q (joined y.links)) = own ∙ sym (run_entries s h shards x linked y k named.within) in
-      subst (λ (j : Job). IsOutputOf s j (output_or_memory RunOf (Ok es))) (sym is)
+      let links = links_are s h image same shards linked out.given.has in
+      let rs = ranges_of_accepted s.file q file (joined y.links) links out.given.accepted in
+      let own : es ≡ entries_of q (part_at y.links k) = gives q (ap program_of same.file ∙ file) (are_shards s h shards x) y.are (part_at y.links k) (run_links s h shards x linked y k out.given.within) in
+      let all : es ≡ filter (λ e. is_in_run s k e.unit) (entries_of q (joined y.links)) = own ∙ sym (run_entries s h shards x linked y k out.given.within) in
       (refl, and_ok (built_of s.file) (built q (joined y.links) rs.0) (λ b. es ≡ filter (λ e. is_in_run s k e.unit) (entries_in b)) (built_with s.file q file (joined y.links) links rs.0 rs.1) all)

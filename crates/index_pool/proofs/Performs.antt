@@ -1,11 +1,28 @@
 -- What holds of a job with what it is given holds of its task.
-use Rattle.std.proofs.Common.{◌≡◌, sym, subst}
+use Rattle.std.proofs.Common.{◌≡◌, ℕ, List, sym, subst}
 use Rattle.file_image.specs.Images.{Image}
-use Rattle.index_model.specs.declared.job.Job.{Job}
+use Rattle.index_model.specs.declared.job.Job.TheVariants.{Link, Main, Name}
+use Rattle.index_model.specs.declared.shard.Shard.{Shard}
+use Rattle.index_model.specs.declared.shard.Linked.{Linked}
 use Rattle.index_model.specs.Machine.{Output}
-use Rattle.index_model.specs.Outputs.{Made, IsOutputOf}
-use Rattle.stage_core.specs.Inputs.{Given}
-use Rattle.index_pool.specs.Drawn.{ForDrawn}
+use Rattle.index_model.specs.Outputs.{Made}
+use Rattle.stage_core.specs.Inputs.{ScansOf, LinksOf, Handed}
+use Rattle.index_pool.specs.Drawn.{IsDrawn, IsOutputFor}
 
-pub by_given : (image : Image) (job : Job) (g x : Given) (o : Output Made) → g ≡ x → ForDrawn image (record { job = job; given = x }) (λ s. IsOutputOf s job o) → ForDrawn image (record { job = job; given = g }) (λ s. IsOutputOf s job o)
-by_given image job g x o is = subst (λ (y : Given). ForDrawn image (record { job = job; given = y }) (λ s. IsOutputOf s job o)) (sym is)
+module _ (image : Image) (task h : Handed) (is : task ≡ h) where
+  pub drawn_as : IsDrawn image task → IsDrawn image h
+  drawn_as = subst (IsDrawn image) is
+
+  pub output_as : (o : Output Made) → IsOutputFor image h o → IsOutputFor image task o
+  output_as o = subst (λ (h : Handed). IsOutputFor image h o) (sym is)
+
+-- ---- what the jobs are given
+
+abbrev pub to_link : ℕ → List Shard → Handed
+to_link k shards = record { job = Link k; given = ScansOf shards }
+
+abbrev pub to_main : List Shard → List Linked → Handed
+to_main shards linked = record { job = Main; given = LinksOf shards linked }
+
+abbrev pub to_name : ℕ → List Shard → List Linked → Handed
+to_name k shards linked = record { job = Name k; given = LinksOf shards linked }

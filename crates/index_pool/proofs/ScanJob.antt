@@ -8,7 +8,6 @@ use Rattle.ix_base.specs.declared.fault.Stop.{Stop}
 use Rattle.ix_base.specs.declared.fault.Stop.TheVariants as stops
 use Rattle.file_image.specs.Images.{Image, image_of}
 use Rattle.file_image.proofs.Images.{parts_of}
-use Rattle.index_model.specs.declared.job.Job.{Job}
 use Rattle.index_model.specs.declared.job.Job.TheVariants.{Scan}
 use Rattle.index_model.specs.declared.shard.Shard.{Shard}
 use Rattle.index_model.specs.declared.unit.Unit.{Unit as UnitHeader}
@@ -26,8 +25,7 @@ use Rattle.stage_core.specs.Inputs.{UnitsOf, first_of}
 use Rattle.index_pool.specs.Drawn.{IsDrawn}
 use Rattle.index_pool.specs.Outputs.{output_of}
 use Rattle.index_pool.proofs.Lists.{joined, part_is, part_within, ok_and, and_ok}
-use Rattle.index_pool.proofs.Next.{HandedOut, handed_out}
-use Rattle.index_pool.proofs.Given.{IsScan, is_scan}
+use Rattle.index_pool.proofs.Given.{IsOut, is_out}
 
 -- the sections and units of an image are those of its file
 pub record Same (s : Subject) (h : HasRuns s) (image : Image) : Type 0 where
@@ -69,28 +67,25 @@ module _ (s : Subject) (h : HasRuns s) (k : ℕ) where
       let all : length (joined s.runs) ≡ length h.units = ap length h.all ∙ length-enumerate_from 0 h.units in
       omega (arith, begins, size, all, part_within s.runs k)
 
-module _ (image : Image) (job : Job) (first count : ℕ) (d : IsDrawn image (record { job = job; given = UnitsOf first count })) where
-  abbrev pub s : Subject
+module _ (image : Image) (k first count : ℕ) (d : IsDrawn image (record { job = Scan k; given = UnitsOf first count })) where
+  abbrev s : Subject
   s = d.machine.subject
 
-  out : HandedOut d.machine.subject d.machine.state (record { job = job; given = UnitsOf first count })
-  out = handed_out image (record { job = job; given = UnitsOf first count }) d
+  out : IsOut s (record { job = Scan k; given = UnitsOf first count })
+  out = is_out image (record { job = Scan k; given = UnitsOf first count }) d
 
-  h : HasRuns s
-  h = out.next.runs
-
-  here : IsScan s h d.machine.state.brought d.machine.state.end job first count
-  here = is_scan s h d.machine.state.brought d.machine.state.end d.machine.state.closed d.machine.state.drawn job first count out.next.kind out.next.within out.given
+  abbrev h : HasRuns s
+  h = out.runs
 
   same : Same s h image
   same = same_image s h image d.image_is
 
   pub scan_within : first + count ≤ length image.units
-  scan_within = subst (λ (us : List UnitHeader). first + count ≤ length us) (sym same.units) (units_within s h here.k first count here.first_is here.count_is)
+  scan_within = subst (λ (us : List UnitHeader). first + count ≤ length us) (sym same.units) (units_within s h k first count out.given.first_is out.given.count_is)
 
-  pub scan_brings : (r : Result Shard Stop) → GivesFor (StandsFor image.sections) r (each (scanned image.sections) (take count (drop first (enumerate_from 0 image.units)))) → IsOutputOf s job (output_of ShardOf r)
+  pub scan_brings : (r : Result Shard Stop) → GivesFor (StandsFor image.sections) r (each (scanned image.sections) (take count (drop first (enumerate_from 0 image.units)))) → IsOutputOf s (Scan k) (output_of ShardOf r)
   scan_brings r gives =
       let at_sections = subst (λ (ss : List Section). GivesFor (StandsFor ss) r (each (scanned ss) (take count (drop first (enumerate_from 0 image.units))))) same.sections gives in
       let at_units = subst (λ (us : List UnitHeader). GivesFor (StandsFor h.sections) r (each (scanned h.sections) (take count (drop first (enumerate_from 0 us))))) same.units at_sections in
-      let is = run_is s h here.k ∙ ap (each (scanned h.sections)) (sym (units_are s h here.k first count here.first_is here.count_is)) in
-      subst (λ (j : Job). IsOutputOf s j (output_of ShardOf r)) here.job_is (brings s h here.k r (each (scanned h.sections) (take count (drop first (enumerate_from 0 h.units)))) is at_units)
+      let is = run_is s h k ∙ ap (each (scanned h.sections)) (sym (units_are s h k first count out.given.first_is out.given.count_is)) in
+      brings s h k r (each (scanned h.sections) (take count (drop first (enumerate_from 0 h.units)))) is at_units

@@ -1,5 +1,5 @@
 -- The output of the Write job.
-use Rattle.std.proofs.Common.{◌≡◌, ◌⊎◌, ℕ, ◌+◌, ◌<◌, ◌≤◌, ◌^◌, Bool, true, false, cond, ◌&&◌, leb, List, [], ◌∷◌, length, map, Option, Some, Result, Ok, Err, Vec, refl, sym, ap, subst, ◌∙◌, arith, inl, inr}
+use Rattle.std.proofs.Common.{◌≡◌, ◌⊎◌, ℕ, ◌+◌, ◌<◌, ◌≤◌, ◌^◌, Bool, true, false, cond, ◌&&◌, leb, List, [], ◌∷◌, length, map, Option, Some, None, Result, Ok, Err, Vec, refl, sym, ap, subst, ◌∙◌, arith, inl, inr}
 use Rattle.std.specs.Prelude.{All, IfOk, IfErr, OnOk, IsOkAnd, IsSomeAnd, codes}
 use Rattle.std.proofs.lemmas.Bool.{le-leb, leb-true, lt-leb}
 use Rattle.ix_base.specs.declared.limits.TheConstants.{MAX_UNITS}
@@ -9,7 +9,6 @@ use Rattle.index_model.specs.declared.answer.Main.{Main as MainOf}
 use Rattle.index_model.specs.declared.entry.Entry.{Entry}
 use Rattle.index_model.specs.declared.job.CacheKind.{CacheKind}
 use Rattle.index_model.specs.declared.job.CacheKind.TheVariants.{Names}
-use Rattle.index_model.specs.declared.job.Job.{Job}
 use Rattle.index_model.specs.declared.job.Job.TheVariants.{Main, Merge, Write}
 use Rattle.index_model.specs.declared.range.UnitRange.{UnitRange}
 use Rattle.index_model.specs.declared.unit.Unit.{Unit as UnitHeader}
@@ -44,9 +43,8 @@ use Rattle.index_pool.specs.Outputs.{gdb_output, names_output}
 use Rattle.index_pool.specs.Written.{ArePublished, IsIndexOf, kind_of_version}
 use Rattle.index_pool.proofs.FileEntries.{entries_in_units, pieces_in_units, main_named}
 use Rattle.index_pool.proofs.FileUnits.{gdb_units, name_units}
-use Rattle.index_pool.proofs.Given.{IsWrite, is_write}
+use Rattle.index_pool.proofs.Given.{IsOut, is_out}
 use Rattle.index_pool.proofs.Lists.{ok_and, and_ok, at_ok}
-use Rattle.index_pool.proofs.Next.{HandedOut, handed_out}
 use Rattle.index_pool.proofs.ScanJob.{same_image}
 
 -- ---- a file without a fault
@@ -194,24 +192,28 @@ module _ (image : Image) (m : Summary) (entries : List Entry) (h : ArePublished 
 
 -- ---- what is given for the Write job
 
-module _ (image : Image) (job : Job) (given : Parts) (kind : CacheKind) (d : IsDrawn image (record { job = job; given = PublishedOf given kind })) where
+module _ (image : Image) (given : Parts) (kind : CacheKind) (d : IsDrawn image (record { job = Write; given = PublishedOf given kind })) where
   abbrev s : Subject
   s = d.machine.subject
 
-  out : HandedOut d.machine.subject d.machine.state (record { job = job; given = PublishedOf given kind })
-  out = handed_out image (record { job = job; given = PublishedOf given kind }) d
-
-  here : IsWrite s out.next.runs d.machine.state.brought d.machine.state.end job given kind
-  here = is_write s out.next.runs d.machine.state.brought d.machine.state.end d.machine.state.closed d.machine.state.drawn job given kind out.next.made out.next.kind out.given
+  out : IsOut s (record { job = Write; given = PublishedOf given kind })
+  out = is_out image (record { job = Write; given = PublishedOf given kind }) d
 
   file_is : image.file ≡ s.file
-  file_is = (same_image s out.next.runs image d.image_is).file
+  file_is = (same_image s out.runs image d.image_is).file
+
+  -- the summary and the table are there
+  pub has_summary : given.summary ≡ None → ⊥
+  has_summary = λ none. subst (λ (o : Option Summary). IsSomeAnd o (λ m. Makes s Main (SummaryOf m))) none out.given.summary
+
+  pub has_table : given.table ≡ None → ⊥
+  has_table = λ none. subst (λ (o : Option (List Entry)). IsSomeAnd o (λ es. Makes s Merge (TableOf es))) none out.given.table
 
   -- what is given is what the file means
   pub are_published : (m : Summary) (es : List Entry) → given.summary ≡ Some m → given.table ≡ Some es → ArePublished image m es
   are_published m es first second =
-      let summary : Makes s Main (SummaryOf m) = subst (λ (o : Option Summary). IsSomeAnd o (λ m. Makes s Main (SummaryOf m))) first here.summary in
-      let table : Makes s Merge (TableOf es) = subst (λ (o : Option (List Entry)). IsSomeAnd o (λ es. Makes s Merge (TableOf es))) second here.table in
+      let summary : Makes s Main (SummaryOf m) = subst (λ (o : Option Summary). IsSomeAnd o (λ m. Makes s Main (SummaryOf m))) first out.given.summary in
+      let table : Makes s Merge (TableOf es) = subst (λ (o : Option (List Entry)). IsSomeAnd o (λ es. Makes s Merge (TableOf es))) second out.given.table in
       let b = ok_and (built_of s.file) (λ b. (m.main ≡ main_of b.program b.links) × IsPieces b.ranges m.map) summary in
       record {
         built = b.0;
@@ -221,17 +223,14 @@ module _ (image : Image) (job : Job) (given : Parts) (kind : CacheKind) (d : IsD
         entries_are = at_ok (built_of s.file) b.0 (λ b. es ≡ entries_in b) b.1 table;
       }
 
-  pub write_brings : (o : Output Made) → IsIndexOf image kind o → IsOutputOf s job o
-  write_brings o is = subst (λ (j : Job). IsOutputOf s j o) here.job_is (by o is)
-    where
-      by : (o : Output Made) → IsIndexOf image kind o → IsOutputOf s Write o
-      by Memory is = tt
-      by (Faulty f) is = absurd is
-      by (Gave (CacheOf c)) is =
-          let at_file : IsOkAnd (built_of s.file) (λ b. c ≡ cache_in kind b) = subst (λ (f : List ℕ). IsOkAnd (built_of f) (λ b. c ≡ cache_in kind b)) file_is is in
-          (refl, subst (λ (k : CacheKind). IsOkAnd (built_of s.file) (λ b. c ≡ cache_in k b)) (sym here.kind_is) at_file)
-      by (Gave (ShardOf x)) is = absurd is
-      by (Gave (LinkedOf x)) is = absurd is
-      by (Gave (SummaryOf x)) is = absurd is
-      by (Gave (RunOf x)) is = absurd is
-      by (Gave (TableOf x)) is = absurd is
+  pub write_brings : (o : Output Made) → IsIndexOf image kind o → IsOutputOf s Write o
+  write_brings Memory is = tt
+  write_brings (Faulty f) is = absurd is
+  write_brings (Gave (CacheOf c)) is =
+      let at_file : IsOkAnd (built_of s.file) (λ b. c ≡ cache_in kind b) = subst (λ (f : List ℕ). IsOkAnd (built_of f) (λ b. c ≡ cache_in kind b)) file_is is in
+      (refl, subst (λ (k : CacheKind). IsOkAnd (built_of s.file) (λ b. c ≡ cache_in k b)) (sym out.given.kind_is) at_file)
+  write_brings (Gave (ShardOf x)) is = absurd is
+  write_brings (Gave (LinkedOf x)) is = absurd is
+  write_brings (Gave (SummaryOf x)) is = absurd is
+  write_brings (Gave (RunOf x)) is = absurd is
+  write_brings (Gave (TableOf x)) is = absurd is

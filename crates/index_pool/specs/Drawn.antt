@@ -2,8 +2,9 @@
 use Rattle.std.specs.Prelude.{◌≡◌, Some, Ok, option_map}
 use Rattle.file_image.specs.Images.{Image, image_of}
 use Rattle.index_model.specs.LawsCore.{IsState, plan_of}
+use Rattle.index_model.specs.Machine.{Output}
 use Rattle.index_model.specs.MachineEvents.{next_job}
-use Rattle.index_model.specs.Outputs.{Subject}
+use Rattle.index_model.specs.Outputs.{Made, IsOutputOf}
 use Rattle.stage_core.specs.Inputs.{Handed, handed}
 use Rattle.stage_core.specs.Machines.{Machine}
 
@@ -14,6 +15,6 @@ pub record IsDrawn (image : Image) (h : Handed) : Type 0 where
   pub image_is : image_of machine.subject.file ≡ Ok image
   pub next : option_map (handed machine.subject machine.state) (next_job (plan_of machine.subject) machine.state) ≡ Some h
 
--- whichever core of the file hands it out: what holds of its subject
-abbrev pub ForDrawn : Image → Handed → (Subject → Type 0) → Type 0
-ForDrawn image h Holds = (d : IsDrawn image h) → Holds d.machine.subject
+-- whichever core of the file hands it out, this is an output for the job
+abbrev pub IsOutputFor : Image → Handed → Output Made → Type 0
+IsOutputFor image h output = (d : IsDrawn image h) → IsOutputOf d.machine.subject h.job output

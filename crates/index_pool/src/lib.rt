@@ -12,6 +12,7 @@ mod next_job;
 mod outputs;
 mod pool;
 mod ranges;
+mod sizes;
 mod summary;
 mod team;
 mod worker;

@@ -58,9 +58,9 @@ fn do_drawn<'f, R: Threads + Wait + Sync, G: Gate>(
     requires idle { pass.old.holding ≡ false }
     ensures own { IsPassOf board.now pass.new }
     ensures idle { pass.new.holding ≡ false }
-    ensures finished { IsFinished board.now pass.old pass.new task.entry.job }
+    ensures finished { IsFinished board.now pass.old pass.new (task_seen task.entry).job }
 {
-    let job = task.job;
+    let job = task.job();
     gate.arrive(rt, job, Moment::Begin);
     let output = perform(rt, alloc, image, task);
     board.finish(rt, pass, job, output);

@@ -4,37 +4,30 @@ ghost use Rattle.std.specs.Prelude.{◌≡◌, ◌⊎◌, IfSome, IsOkAnd, optio
 ghost use Rattle.index_model.specs.Cache.{cache_in};
 ghost use Rattle.index_model.specs.Faults.{built_of};
 ghost use Rattle.index_model.specs.declared.job.CacheKind.TheVariants.{Names};
-ghost use Rattle.index_model.specs.Outputs.{IsOutputOf};
 ghost use Rattle.index_model.specs.Seen.{main_seen};
-ghost use Rattle.stage_core.specs.Inputs.{PublishedOf};
-ghost use Rattle.stage_core.specs.Outputs.{cache_seen, output_seen, parts_seen, summary_seen};
-ghost use Rattle.index_pool.specs.Drawn.{IsDrawn, ForDrawn};
+ghost use Rattle.stage_core.specs.Outputs.{cache_seen, output_seen, summary_seen};
 ghost use Rattle.index_pool.specs.Written.{ArePublished, IsIndexOf, kind_of_version};
 
 use crate::outputs::{of_gdb, of_names};
+use crate::sizes::sections_are_small;
 use file_image::Image;
-use index_model::{CacheKind, Job, Main, MainName};
+use index_model::{CacheKind, Main, MainName};
 use query_engine::Table;
-use stage_core::{Cache, Output, Parts, Summary};
+use stage_core::{Cache, Output, Summary};
 use std::alloc::Global;
 
-/// The index of the asked kind, or that its format can't hold it.
+/// The index of the asked kind, of what a build of the image's file has published; or that its format can't hold it, or want of
+/// memory.
 pub(crate) fn write_index<'f>(
     alloc: Global,
     image: &Image<'f>,
-    job: Job,
-    parts: &Parts<'f>,
+    summary: &Summary<'f>,
+    table: &Table<'f>,
     kind: CacheKind,
 ) -> Output<'f>
-    requires { IsDrawn image.now (record { job = job; given = PublishedOf (parts_seen parts.now) kind }) }
-    ensures { ForDrawn image.now (record { job = job; given = PublishedOf (parts_seen parts.now) kind }) (λ s. IsOutputOf s job (output_seen result)) }
+    requires { ArePublished image.now (summary_seen summary.now) table.now }
+    ensures { IsIndexOf image.now kind (output_seen result) }
 {
-    let Some(summary) = &parts.summary else {
-        return Output::Memory;
-    };
-    let Some(table) = &parts.table else {
-        return Output::Memory;
-    };
     match kind {
         CacheKind::Gdb8 => gdb_index(alloc, image, summary, table, 8),
         CacheKind::Gdb9 => gdb_index(alloc, image, summary, table, 9),
@@ -54,9 +47,7 @@ fn gdb_index<'f>(
     requires version { (version ≡ 8) ⊎ (version ≡ 9) }
     ensures { IsIndexOf image.now (kind_of_version version) (output_seen result) }
 {
-    // Their sizes bound where the units end.
-    let _info = image.sections().get(b".debug_info");
-    let _types = image.sections().get(b".debug_types");
+    sections_are_small(image);
     let units = image.units();
     let main = main_name(&summary.main);
     of_gdb(gdbindex_write::write(alloc, units, &summary.map, main, table, version))
@@ -73,9 +64,7 @@ pub fn name_index<'f>(
     requires { ArePublished image.now (summary_seen summary.now) table.now }
     ensures { IsIndexOf image.now Names (output_seen result) }
 {
-    // Their sizes bound where the units end.
-    let _info = image.sections().get(b".debug_info");
-    let _types = image.sections().get(b".debug_types");
+    sections_are_small(image);
     let units = image.units();
     let old_strings = image.sections().get(b".debug_str").len() as u64;
     of_names(debugnames_write::write(alloc, units, old_strings, table))

@@ -13,7 +13,6 @@ use Rattle.stage_core.specs.contracts.output.Parts as Parts
 use Rattle.stage_core.specs.contracts.brought.Brought as Brought
 use Rattle.stage_core.specs.contracts.progress.Progress as Progress
 use Rattle.stage_core.specs.contracts.stock.Stock as Stock
-use Rattle.stage_core.specs.contracts.task.Input as Input
 use Rattle.stage_core.specs.contracts.task.Task as Task
 use Rattle.stage_core.specs.contracts.build.Build as Build
 use Rattle.stage_core.specs.contracts.machine.Core as Core
@@ -69,11 +68,8 @@ stock_held l = search (sendable, crosses, shard_send, shard_sync, linked_send, l
 pub parts_held : (l : NamedLft) → IsSend (Parts.the_field l).row
 parts_held l = search (sendable, crosses, summary_send, summary_sync, table_send, table_sync, cache_send, cache_sync) depth 60 fits 60000
 
-input_held : (l : NamedLft) → IsSend (Input.the_field l).row
-input_held l = search (sendable, crosses, shard_send, shard_sync, linked_send, linked_sync, entry_send, parts_held) depth 60 fits 60000
-
 pub task_send : (l : NamedLft) → IsSend (Task.the_row l)
-task_send l = search (sendable, crosses, input_held) depth 60 fits 60000
+task_send l = search (sendable, crosses, shard_send, shard_sync, linked_send, linked_sync, entry_send, parts_held) depth 60 fits 60000
 
 build_held : (l : NamedLft) → IsSend (Build.the_field l).row
 build_held l = search (sendable, crosses, progress_held, stock_held, task_send, parts_held) depth 60 fits 60000

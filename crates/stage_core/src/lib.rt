@@ -22,4 +22,4 @@ mod tasks;
 pub use machine::{Core, core_is_right};
 pub use output::{Cache, Output, Parts, Summary};
 pub use stages::About;
-pub use task::{Input, Task};
+pub use task::{Links, Shards, Task};

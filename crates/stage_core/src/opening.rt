@@ -2,7 +2,7 @@
 
 ghost use Rattle.std.specs.Prelude.{◌≡◌, map, filter_map, length, OnOk, OnErr};
 ghost use Rattle.std.specs.Arc.{arc_value};
-ghost use Rattle.index_model.specs.declared.job.Job.TheVariants.{Scan, Link};
+ghost use Rattle.index_model.specs.declared.job.Job.TheVariants.{Scan, Link, Name};
 ghost use Rattle.stage_core.specs.Build.{IsOpen, OpensNext};
 ghost use Rattle.stage_core.specs.Inputs.{shard_in, linked_in as link_in, made_by_kind, LinksOf};
 ghost use Rattle.stage_core.specs.Tasks.{AreTasks};
@@ -10,9 +10,8 @@ ghost use Rattle.stage_core.specs.Tasks.{AreTasks};
 use crate::build::Build;
 use crate::slots::{cache_in, linked_in, move_runs, shards_in, summary_in, table_in};
 use crate::stock::Stock;
-use crate::task::{Input, Task};
-use crate::tasks::{Shards, Tasks, link_tasks, main_task, name_tasks, place_task, write_task};
-use index_model::Job;
+use crate::task::{Shards, Task};
+use crate::tasks::{Tasks, link_tasks, main_task, name_tasks, place_task, write_task};
 use std::alloc::{AllocError, Global};
 use std::collections::VecDeque;
 use std::sync::Arc;
@@ -79,7 +78,7 @@ impl<'f> Build<'f> {
         requires open { IsOpen self.old }
         requires kind { length self.old.progress.closed ≡ 2 }
         requires tasks { AreTasks tasks.items self.old.runs
-            (λ k. record { job = Job.Name k; given = LinksOf (filter_map shard_in (made_by_kind self.old.progress (Scan 0))) (filter_map link_in (made_by_kind self.old.progress (Link 0))) }) }
+            (λ k. record { job = Name k; given = LinksOf (filter_map shard_in (made_by_kind self.old.progress (Scan 0))) (filter_map link_in (made_by_kind self.old.progress (Link 0))) }) }
         ensures opens { OnOk result (OpensNext self.old self.new) }
         ensures same { OnErr result (self.new ≡ self.old) }
     {
@@ -101,9 +100,7 @@ impl<'f> Build<'f> {
         let mut tasks = VecDeque::with_capacity(alloc, 1)?;
         let mut brought = self.progress.close(alloc, 1)?;
         move_runs(&mut brought, &mut runs);
-        let job = Job::Merge;
-        let input = Input::Runs(runs);
-        place_task(&mut tasks, Task { job, input });
+        place_task(&mut tasks, Task::Merge(runs));
         self.begin(tasks, Stock::Merge);
         Ok(())
     }

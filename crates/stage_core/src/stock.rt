@@ -1,6 +1,6 @@
 //! What is kept of the closed kinds for those to come.
 
-use crate::tasks::{Links, Shards};
+use crate::task::{Links, Shards};
 
 /// The open kind, with what the kinds behind it need.
 #[derive(Drop)]

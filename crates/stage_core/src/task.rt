@@ -1,27 +1,64 @@
 //! What a worker is handed.
 
+ghost use Rattle.std.specs.Prelude.{◌≡◌};
+ghost use Rattle.stage_core.specs.Tasks.{task_seen};
+
 use crate::output::Parts;
 use index_model::{CacheKind, Job, Linked, Run, Shard};
 use std::sync::Arc;
 
-/// What a job needs. All lists are in the order of the jobs.
+/// Shards, shared as one list.
+pub type Shards<'f> = Arc<Vec<Arc<Shard<'f>>>>;
+
+/// Links, shared as one list.
+pub type Links<'f> = Arc<Vec<Arc<Linked<'f>>>>;
+
+/// A job and what it needs. All lists are in the order of the jobs that made them.
 #[derive(Drop)]
-pub enum Input<'f> {
-    /// For Scan: the number of the first unit of its run, in section order and counted from 0, and how many units it has.
-    Units { first: u32, count: u32 },
-    /// For Link: what the Scan jobs made.
-    Scans(Arc<Vec<Arc<Shard<'f>>>>),
-    /// For Main and Name: what the Scan jobs and the Link jobs made.
-    Links(Arc<Vec<Arc<Shard<'f>>>>, Arc<Vec<Arc<Linked<'f>>>>),
-    /// For Merge: what the Name jobs made.
-    Runs(Vec<Run<'f>>),
-    /// For Write: what has been published, and which index is to be written.
-    Published(Parts<'f>, CacheKind),
+pub enum Task<'f> {
+    /// The number of the first unit of the run, in section order and counted from 0, and how many units it has.
+    Scan {
+        run: u32,
+        first: u32,
+        count: u32,
+    },
+    /// What the Scan jobs made.
+    Link {
+        run: u32,
+        shards: Shards<'f>,
+    },
+    /// What the Scan jobs and the Link jobs made.
+    Main {
+        shards: Shards<'f>,
+        linked: Links<'f>,
+    },
+    /// As for Main.
+    Name {
+        run: u32,
+        shards: Shards<'f>,
+        linked: Links<'f>,
+    },
+    /// What the Name jobs made.
+    Merge(Vec<Run<'f>>),
+    /// What has been published, and which index is to be written.
+    Write {
+        published: Parts<'f>,
+        kind: CacheKind,
+    },
 }
 
-/// A job and its input.
-#[derive(Drop)]
-pub struct Task<'f> {
-    pub job: Job,
-    pub input: Input<'f>,
+impl Task<'_> {
+    /// Its job.
+    pub fn job(&self) -> Job
+        ensures { result ≡ (task_seen self.now).job }
+    {
+        match self {
+            Task::Scan { run, .. } => Job::Scan(*run),
+            Task::Link { run, .. } => Job::Link(*run),
+            Task::Main { .. } => Job::Main,
+            Task::Name { run, .. } => Job::Name(*run),
+            Task::Merge(_) => Job::Merge,
+            Task::Write { .. } => Job::Write,
+        }
+    }
 }

@@ -3,6 +3,7 @@
 ghost use Rattle.std.specs.Prelude.{◌≡◌, ◌+◌, ◌++◌, ◌∷◌, ◌<◌, ◌^◌, ℕ, List, [], length, take, flat_map, slice_get, unwrap_or, map, option_map, IfOk};
 ghost use Rattle.std.specs.Arc.{arc_value};
 ghost use Rattle.std.specs.VecDeque.{deque_len, deque_capacity};
+ghost use Rattle.index_model.specs.declared.job.Job.TheVariants.{Scan, Link, Main, Name, Write};
 ghost use Rattle.index_model.specs.declared.unit.Unit.{Unit as UnitHeader};
 ghost use Rattle.stage_core.specs.Cut.{cut};
 ghost use Rattle.stage_core.specs.Inputs.{UnitsOf, ScansOf, LinksOf, PublishedOf, Handed};
@@ -10,8 +11,8 @@ ghost use Rattle.stage_core.specs.Outputs.{parts_seen};
 ghost use Rattle.stage_core.specs.Tasks.{AreTasks, task_seen};
 
 use crate::output::{Parts, share};
-use crate::task::{Input, Task};
-use index_model::{CacheKind, Job, Linked, Shard};
+use crate::task::{Links, Shards, Task};
+use index_model::CacheKind;
 use query_engine::Table;
 use std::alloc::{AllocError, Global};
 use std::collections::VecDeque;
@@ -19,12 +20,6 @@ use std::sync::Arc;
 
 /// The tasks of the open kind that aren't drawn, in their order.
 pub(crate) type Tasks<'f> = VecDeque<Task<'f>>;
-
-/// Shards, shared as one list.
-pub(crate) type Shards<'f> = Arc<Vec<Arc<Shard<'f>>>>;
-
-/// Links, shared as one list.
-pub(crate) type Links<'f> = Arc<Vec<Arc<Linked<'f>>>>;
 
 // One task.
 fn only_task<'f>(alloc: Global, task: Task<'f>) -> Result<Tasks<'f>, AllocError>
@@ -48,16 +43,13 @@ pub(crate) fn place_task<'f>(tasks: &mut Tasks<'f>, task: Task<'f>)
 /// The tasks of the Scan jobs of so many runs of so many units.
 pub(crate) fn scan_tasks<'f>(alloc: Global, units: u32, runs: u32) -> Result<Tasks<'f>, AllocError>
     ensures { IfOk result (λ tasks. (us : List (ℕ × UnitHeader)) → length us ≡ units → AreTasks tasks.items runs
-        (λ k. record { job = Job.Scan k; given = UnitsOf (length (flat_map (λ run. run) (take k (cut runs us)))) (length (unwrap_or (slice_get (cut runs us) k) [])) })) }
+        (λ k. record { job = Scan k; given = UnitsOf (length (flat_map (λ run. run) (take k (cut runs us)))) (length (unwrap_or (slice_get (cut runs us) k) [])) })) }
 {
     let mut tasks = VecDeque::with_capacity(alloc, runs as usize)?;
     let mut first = 0;
     for run in 0..runs {
         let count = (units - first) / (runs - run);
-        tasks.push_back(Task {
-            job: Job::Scan(run),
-            input: Input::Units { first, count },
-        })?;
+        tasks.push_back(Task::Scan { run, first, count })?;
         first += count;
     }
     Ok(tasks)
@@ -70,13 +62,12 @@ pub(crate) fn link_tasks<'f>(
     shards: &Shards<'f>,
 ) -> Result<Tasks<'f>, AllocError>
     ensures { IfOk result (λ tasks. AreTasks tasks.items runs
-        (λ k. record { job = Job.Link k; given = ScansOf (map arc_value (arc_value shards.now).items) })) }
+        (λ k. record { job = Link k; given = ScansOf (map arc_value (arc_value shards.now).items) })) }
 {
     let mut tasks = VecDeque::with_capacity(alloc, runs as usize)?;
     for run in 0..runs {
-        let job = Job::Link(run);
-        let input = Input::Scans(Arc::try_clone(shards)?);
-        place_task(&mut tasks, Task { job, input });
+        let shards = Arc::try_clone(shards)?;
+        place_task(&mut tasks, Task::Link { run, shards });
     }
     Ok(tasks)
 }
@@ -89,13 +80,16 @@ pub(crate) fn name_tasks<'f>(
     linked: &Links<'f>,
 ) -> Result<Tasks<'f>, AllocError>
     ensures { IfOk result (λ tasks. AreTasks tasks.items runs
-        (λ k. record { job = Job.Name k; given = LinksOf (map arc_value (arc_value shards.now).items) (map arc_value (arc_value linked.now).items) })) }
+        (λ k. record { job = Name k; given = LinksOf (map arc_value (arc_value shards.now).items) (map arc_value (arc_value linked.now).items) })) }
 {
     let mut tasks = VecDeque::with_capacity(alloc, runs as usize)?;
     for run in 0..runs {
-        let job = Job::Name(run);
-        let input = Input::Links(Arc::try_clone(shards)?, Arc::try_clone(linked)?);
-        place_task(&mut tasks, Task { job, input });
+        let task = Task::Name {
+            run,
+            shards: Arc::try_clone(shards)?,
+            linked: Arc::try_clone(linked)?,
+        };
+        place_task(&mut tasks, task);
     }
     Ok(tasks)
 }
@@ -107,11 +101,13 @@ pub(crate) fn main_task<'f>(
     linked: &Links<'f>,
 ) -> Result<Tasks<'f>, AllocError>
     ensures { IfOk result (λ tasks. AreTasks tasks.items 1
-        (λ _. record { job = Job.Main; given = LinksOf (map arc_value (arc_value shards.now).items) (map arc_value (arc_value linked.now).items) })) }
+        (λ _. record { job = Main; given = LinksOf (map arc_value (arc_value shards.now).items) (map arc_value (arc_value linked.now).items) })) }
 {
-    let job = Job::Main;
-    let input = Input::Links(Arc::try_clone(shards)?, Arc::try_clone(linked)?);
-    only_task(alloc, Task { job, input })
+    let task = Task::Main {
+        shards: Arc::try_clone(shards)?,
+        linked: Arc::try_clone(linked)?,
+    };
+    only_task(alloc, task)
 }
 
 /// The task of the Write job, which is given what has been published, with this table.
@@ -119,14 +115,12 @@ pub(crate) fn write_task<'f>(
     alloc: Global,
     parts: &Parts<'f>,
     table: &Option<Arc<Table<'f>>>,
-    cache: CacheKind,
+    kind: CacheKind,
 ) -> Result<Tasks<'f>, AllocError>
     ensures { IfOk result (λ tasks. AreTasks tasks.items 1
-        (λ _. record { job = Job.Write; given = PublishedOf (record (parts_seen parts.now) { table = option_map arc_value table.now }) cache })) }
+        (λ _. record { job = Write; given = PublishedOf (record (parts_seen parts.now) { table = option_map arc_value table.now }) kind })) }
 {
     let mut published = parts.share()?;
     published.table = share(table)?;
-    let job = Job::Write;
-    let input = Input::Published(published, cache);
-    only_task(alloc, Task { job, input })
+    only_task(alloc, Task::Write { published, kind })
 }

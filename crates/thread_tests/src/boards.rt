@@ -120,7 +120,7 @@ fn want_memory<'f, R: Wait>(rt: &R, board: &Board<'f>, pass: &mut Pass<'f>)
     ensures idle { pass.new.holding ≡ false }
 {
     if let Some(task) = board.draw(rt, pass) {
-        board.finish(rt, pass, task.job, Output::Memory);
+        board.finish(rt, pass, task.job(), Output::Memory);
     }
 }
 

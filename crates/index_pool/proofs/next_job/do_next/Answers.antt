@@ -17,7 +17,7 @@ returns-clause-reach g c =
     let ended = c.do_drawn.ensures.finished in
     closure.onwards c.args.pass.now.floor c.draw.new.pass.floor c.do_drawn.new.pass.floor
     (by_turn c.args.board.now c.args.pass.now c.draw.new.pass drew.0 (drawn drew.0) drew.1)
-    (by_turn c.args.board.now c.draw.new.pass c.do_drawn.new.pass ended.after (finished ended.after c.in-Some.task.job ended.output ended.refused) ended.turn)
+    (by_turn c.args.board.now c.draw.new.pass c.do_drawn.new.pass ended.after (finished ended.after (task_seen c.in-Some.task).job ended.output ended.refused) ended.turn)
 
 pub returns-clause-done : goal.returns-clause-done
 returns-clause-done g c _ =

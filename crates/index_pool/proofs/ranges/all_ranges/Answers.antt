@@ -1,4 +1,4 @@
-use Rattle.std.proofs.Common.{◌≡◌, ℕ, ◌+◌, ◌<◌, List, [], length, map, take, Ok, sym, ap, subst, ◌∙◌, arith}
+use Rattle.std.proofs.Common.{◌≡◌, ℕ, ◌+◌, ◌<◌, List, [], length, map, take, ap, subst, ◌∙◌, arith}
 use Rattle.std.specs.Prelude.{IsOkAnd}
 use Rattle.std.specs.Arc.{arc_value}
 use Rattle.std.proofs.Math.Seq.{take-length}

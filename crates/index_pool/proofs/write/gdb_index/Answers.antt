@@ -1,11 +1,10 @@
-use Rattle.std.proofs.Common.{◌≡◌, ◌<◌, List, length, Option, Err, sym, ap, subst, ◌∙◌, arith}
-use Rattle.std.specs.Prelude.{codes, option_map, IfOk}
+use Rattle.std.proofs.Common.{◌≡◌, ◌<◌, List, length, Option, Err, sym, ap, subst, arith}
+use Rattle.std.specs.Prelude.{option_map, IfOk}
 use Rattle.index_model.specs.declared.answer.Main.{Main}
 use Rattle.index_model.specs.declared.unit.Unit.{Unit as UnitHeader}
 use Rattle.index_model.specs.GdbIndex.{gdb_index_bytes}
 use Rattle.index_model.specs.Machine.{Output}
 use Rattle.index_model.specs.Outputs.{Made}
-use Rattle.index_model.specs.Sections.{Section, section_bytes}
 use Rattle.index_model.specs.Seen.{main_seen}
 use Rattle.gdbindex_write.specs.declared.stop.WriteStop.TheVariants.{TooLarge}
 use Rattle.gdbindex_write.specs.Writable.{IsWritable}
@@ -20,11 +19,9 @@ write-requires c =
     let map = c.args.summary.now.map in
     let es = c.args.table.now in
     let units = c.units-units.ensures in
-    let info = c.get-info.ensures.value ∙ ap (λ (ss : List Section). section_bytes ss (codes ".debug_info")) c.sections.ensures in
-    let types = c.get-types.ensures.value ∙ ap (λ (ss : List Section). section_bytes ss (codes ".debug_types")) c.sections-2.ensures in
     let own =
     writable image (summary_seen c.args.summary.now) es c.requires.published units.of_file (omega (arith, units.few, ap length units.value))
-    (omega (arith, ap length info, c.get-info.ensures.small)) (omega (arith, ap length types, c.get-types.ensures.small)) c.args.version c.requires.version in
+    (omega (arith, c.sections_are_small.ensures.info)) (omega (arith, c.sections_are_small.ensures.types)) c.args.version c.requires.version in
     subst (λ (us : List UnitHeader). IsWritable us map (option_map main_seen c.main_name-main.result) es c.args.version) (sym units.value)
     (subst (λ (o : Option Main). IsWritable image.units map o es c.args.version) (sym c.main_name-main.ensures) own)
 

@@ -16,11 +16,9 @@ use Rattle.index_pool.proofs.write.name_index.Goals as goal
 pub write-requires : goal.write-requires
 write-requires c =
     let units = c.units-units.ensures in
-    let info = c.get-info.ensures.value ∙ ap (λ (ss : List Section). section_bytes ss (codes ".debug_info")) c.sections.ensures in
-    let types = c.get-types.ensures.value ∙ ap (λ (ss : List Section). section_bytes ss (codes ".debug_types")) c.sections-2.ensures in
     subst (λ (us : List UnitHeader). AreIndexable us c.args.table.now) (sym units.value)
     (indexable c.args.image.now (summary_seen c.args.summary.now) c.args.table.now c.requires units.of_file (omega (arith, units.few, ap length units.value))
-    (omega (arith, ap length info, c.get-info.ensures.small)) (omega (arith, ap length types, c.get-types.ensures.small)))
+    (omega (arith, c.sections_are_small.ensures.info)) (omega (arith, c.sections_are_small.ensures.types)))
 
 pub returns : goal.returns
 returns c =
@@ -29,7 +27,7 @@ returns c =
     let units = c.units-units.ensures in
     let r = c.write.result in
     let old = length c.get.result.now in
-    let old_is = ap length (c.get.ensures.value ∙ ap (λ (ss : List Section). section_bytes ss (codes ".debug_str")) c.sections-3.ensures) in
+    let old_is = ap length (c.get.ensures.value ∙ ap (λ (ss : List Section). section_bytes ss (codes ".debug_str")) c.sections.ensures) in
     let names = subst (λ (us : List UnitHeader). IfOk r (λ x. x.names ≡ name_index_bytes us old es)) units.value c.write.ensures.names in
     let strings = subst (λ (us : List UnitHeader). IfOk r (λ x. x.strings ≡ name_index_strings us es)) units.value c.write.ensures.strings in
     let fits = subst (λ (us : List UnitHeader). OnOk r (Fits us old es)) units.value c.write.ensures.fits in

@@ -5,8 +5,8 @@ use Rattle.index_model.specs.Outputs.{Made}
 use Rattle.index_model.specs.declared.entry.Entry.{Entry}
 use Rattle.index_model.specs.declared.job.Job.TheVariants.{Merge}
 use Rattle.stage_core.specs.declared.brought.Brought.{Brought}
-use Rattle.stage_core.specs.declared.task.Input.TheVariants as inputs
 use Rattle.stage_core.specs.declared.task.Task.{Task}
+use Rattle.stage_core.specs.declared.task.Task.TheVariants as tasks
 use Rattle.stage_core.specs.Inputs.{RunsOf, run_in}
 use Rattle.stage_core.proofs.TaskLaws.{one_task}
 use Rattle.stage_core.proofs.OpeningLaws.{other_tasks}
@@ -28,8 +28,8 @@ returns-clause-opens c =
     c.move_runs.ensures ∙ (ap (λ (rs : List (List Entry)). rs ++ filter_map run_in (made_of_slots c.deref_mut.result.now)) c.in_ok-runs.ensures.items ∙
     (ap (λ (slots : List (Option Brought)). filter_map run_in (made_of_slots slots)) c.deref_mut.ensures.value ∙
     ap (λ (bs : List (Option (Output Made))). filter_map run_in (filter_map made_in bs)) c.in_ok-brought.ensures.brought)) in
-    let task : Task = record { job = Merge; input = inputs.Runs c.move_runs.new.runs } in
-    let tasks =
+    let task : Task = tasks.Merge c.move_runs.new.runs in
+    let only =
     other_tasks c.place_task.new.tasks.items 1 _ (λ _. record { job = Merge; given = RunsOf (filter_map run_in ms) }) (λ i. ap (λ (rs : List (List Entry)). record { job = Merge; given = RunsOf rs }) moved)
     (one_task c.place_task.new.tasks.items task (c.place_task.ensures.placed ∙ ap (λ (ts : List Task). ts ++ task ∷ []) c.in_ok-tasks.ensures.items)) in
-    subst (OpensNext a) (sym c.begin.ensures) (opens_next a b 1 c.requires.open c.in_ok-brought.ensures.closed (merge_opens (subject_of a) a.runs ms b a.progress.closed c.requires.kind tasks (c.requires.open.fits.parts ∙ parts_going a.progress c.requires.open.going) (omega (arith, length-append a.progress.closed (ms ∷ []), c.requires.kind))))
+    subst (OpensNext a) (sym c.begin.ensures) (opens_next a b 1 c.requires.open c.in_ok-brought.ensures.closed (merge_opens (subject_of a) a.runs ms b a.progress.closed c.requires.kind only (c.requires.open.fits.parts ∙ parts_going a.progress c.requires.open.going) (omega (arith, length-append a.progress.closed (ms ∷ []), c.requires.kind))))
