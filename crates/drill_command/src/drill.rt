@@ -66,7 +66,7 @@ fn measure<R: Threads + Wait + Sync, K: Sink, G: Gate + Sync>(
         Ok((board, mut pass)) => {
             let mut reader = board.reader(&mut pass);
             let status = match reader.fetch(crew.rt) {
-                Ok(()) => summarize(crew.alloc, board.image(), &reader, out),
+                Ok(()) => summarize(crew.rt, crew.alloc, board.image(), &reader, out),
                 Err(_) => Status::NoMemory,
             };
             board.join(&mut pass, reader.end());
@@ -78,7 +78,8 @@ fn measure<R: Threads + Wait + Sync, K: Sink, G: Gate + Sync>(
 }
 
 // Writes the line of the sizes of what a reader keeps of a file with this image, or the fault.
-fn summarize<'f, K: Sink>(
+fn summarize<'f, R: Threads + Sync, K: Sink>(
+    rt: &R,
     alloc: Global,
     image: Option<&Image<'f>>,
     reader: &Reader<'_, 'f>,
@@ -94,14 +95,20 @@ fn summarize<'f, K: Sink>(
         return refuse(out, fault);
     }
     match image {
-        Some(image) => sum_up(alloc, image, reader.parts(), out),
+        Some(image) => sum_up(rt, alloc, image, reader.parts(), out),
         // A file that has no image has a fault, which the build found unless it was refused memory.
         None => Status::NoMemory,
     }
 }
 
 // Writes the line of the sizes of a file that was built, by its image and the parts that are published.
-fn sum_up<'f, K: Sink>(alloc: Global, image: &Image<'f>, parts: &Parts<'f>, out: &mut K) -> Status
+fn sum_up<'f, R: Threads + Sync, K: Sink>(
+    rt: &R,
+    alloc: Global,
+    image: &Image<'f>,
+    parts: &Parts<'f>,
+    out: &mut K,
+) -> Status
     requires { AreBuiltOf image.now.file (parts_seen parts.now) }
     ensures wrote { Wrote (SaysSummary image.now.file) result (K.written out.old) (K.written out.new) }
     ensures causes { CausesOfSummary image.now.file (Rose (K.write_faults out.old) (K.write_faults out.new)) result }
@@ -120,7 +127,7 @@ fn sum_up<'f, K: Sink>(alloc: Global, image: &Image<'f>, parts: &Parts<'f>, out:
     let Cache::Gdb(gdb) = &**cache else {
         return Status::IndexTooLarge;
     };
-    let Some(name_cache) = name_cache(alloc, image, summary, table) else {
+    let Some(name_cache) = name_cache(rt, alloc, image, summary, table) else {
         return Status::NoMemory;
     };
     let Cache::Names(names, strings) = &name_cache else {

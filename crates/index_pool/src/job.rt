@@ -45,7 +45,7 @@ pub fn perform<'f, R: Threads + Sync>(
             let (Some(summary), Some(table)) = (&published.summary, &published.table) else {
                 unreachable!();
             };
-            write_index(alloc, image, summary, table, kind)
+            write_index(rt, alloc, image, summary, table, kind)
         }
     }
 }

@@ -15,10 +15,12 @@ use index_model::{CacheKind, Main, MainName};
 use query_engine::Table;
 use stage_core::{Cache, Output, Summary};
 use std::alloc::Global;
+use std::thread::Threads;
 
 /// The index of the asked kind, of what a build of the image's file has published; or that its format can't hold it, or want of
 /// memory.
-pub(crate) fn write_index<'f>(
+pub(crate) fn write_index<'f, R: Threads + Sync>(
+    rt: &R,
     alloc: Global,
     image: &Image<'f>,
     summary: &Summary<'f>,
@@ -31,7 +33,7 @@ pub(crate) fn write_index<'f>(
     match kind {
         CacheKind::Gdb8 => gdb_index(alloc, image, summary, table, 8),
         CacheKind::Gdb9 => gdb_index(alloc, image, summary, table, 9),
-        CacheKind::Names => name_index(alloc, image, summary, table),
+        CacheKind::Names => name_index(rt, alloc, image, summary, table),
     }
 }
 
@@ -55,7 +57,8 @@ fn gdb_index<'f>(
 
 /// A `.debug_names` and the strings that it adds, of what a build of the image's file has published; or that the format can't hold
 /// them, or want of memory.
-pub fn name_index<'f>(
+pub fn name_index<'f, R: Threads + Sync>(
+    rt: &R,
     alloc: Global,
     image: &Image<'f>,
     summary: &Summary<'f>,
@@ -67,11 +70,12 @@ pub fn name_index<'f>(
     sections_are_small(image);
     let units = image.units();
     let old_strings = image.sections().get(b".debug_str").len() as u64;
-    of_names(debugnames_write::write(alloc, units, old_strings, table))
+    of_names(debugnames_write::write(rt, alloc, units, old_strings, table))
 }
 
 /// The index that `name_index` brings. None where memory was refused.
-pub fn name_cache<'f>(
+pub fn name_cache<'f, R: Threads + Sync>(
+    rt: &R,
     alloc: Global,
     image: &Image<'f>,
     summary: &Summary<'f>,
@@ -80,7 +84,7 @@ pub fn name_cache<'f>(
     requires { ArePublished image.now (summary_seen summary.now) table.now }
     ensures { IfSome result (λ cache. IsOkAnd (built_of image.now.file) (λ b. cache_seen cache ≡ cache_in Names b)) }
 {
-    match name_index(alloc, image, summary, table) {
+    match name_index(rt, alloc, image, summary, table) {
         Output::Cache(cache) => Some(cache),
         _ => None,
     }

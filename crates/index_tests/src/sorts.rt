@@ -134,12 +134,12 @@ fn entries(alloc: Global) -> Result<Vec<Entry<'static>>, AllocError> {
 }
 
 // Whether the index of a table of these units has the bytes above.
-fn is_written(alloc: Global, table: &Table<'_>) -> bool {
+fn is_written<R: Threads + Sync>(rt: &R, alloc: Global, table: &Table<'_>) -> bool {
     let units = four_units();
     if !all_inside(&units, table.entries()) {
         return false;
     }
-    match write(alloc, &units, 1000, table) {
+    match write(rt, alloc, &units, 1000, table) {
         Ok(index) => {
             let names = index.names.as_slice() == NAMES.as_slice();
             names && index.strings.as_slice() == b"Value\0_Zv\0value\0".as_slice()
@@ -156,6 +156,6 @@ fn names_in_units_of_each_sort(rt: HostRuntime) -> Result<(), Fail> {
         return Err("these entries can't be sorted".into());
     }
     let table = table_of(&rt, alloc, entries).map_err(|_| "memory")?;
-    assert!(rt; is_written(alloc, &table));
+    assert!(rt; is_written(&rt, alloc, &table));
     Ok(())
 }

@@ -114,12 +114,17 @@ fn names_of_too_many_bytes(rt: HostRuntime) -> Result<(), Fail> {
 }
 
 // How the names of the table are written behind so many bytes of strings: whether they are, and whether they are too large.
-fn written_behind(alloc: Global, table: &Table<'_>, bytes: u64) -> Option<(bool, bool)> {
+fn written_behind<R: Threads + Sync>(
+    rt: &R,
+    alloc: Global,
+    table: &Table<'_>,
+    bytes: u64,
+) -> Option<(bool, bool)> {
     let units = [UNIT];
     if !are_inside(&units, table.entries()) {
         return None;
     }
-    match write_names(alloc, &units, bytes, table) {
+    match write_names(rt, alloc, &units, bytes, table) {
         Ok(_) => Some((true, false)),
         Err(debugnames_write::WriteStop::TooLarge) => Some((false, true)),
         Err(_) => Some((false, false)),
@@ -130,8 +135,8 @@ fn written_behind(alloc: Global, table: &Table<'_>, bytes: u64) -> Option<(bool,
 #[test]
 fn strings_beyond_the_limit(rt: HostRuntime) -> Result<(), Fail> {
     let table = table(&rt, rt.alloc())?;
-    let fits = written_behind(rt.alloc(), &table, 4_294_967_290);
-    let beyond = written_behind(rt.alloc(), &table, 4_294_967_291);
+    let fits = written_behind(&rt, rt.alloc(), &table, 4_294_967_290);
+    let beyond = written_behind(&rt, rt.alloc(), &table, 4_294_967_291);
     assert_eq!(rt; (fits, beyond), (Some((true, false)), Some((false, true))));
     Ok(())
 }

@@ -14,6 +14,7 @@ use ix_base::NoMemory;
 use query_engine::Table;
 use std::alloc::Global;
 use std::test::Fail;
+use std::thread::Threads;
 use test_files::indexes::{GDB8, GDB9, NAMES};
 
 // Whether the only piece is one of the only unit.
@@ -75,12 +76,12 @@ fn are_gdb(alloc: Global, table: &Table<'_>) -> Result<(bool, bool), NoMemory> {
     Ok((eight, is_gdb(alloc, &map, table, 9, &GDB9)))
 }
 
-fn is_names(alloc: Global, table: &Table<'_>) -> bool {
+fn is_names<R: Threads + Sync>(rt: &R, alloc: Global, table: &Table<'_>) -> bool {
     let units = [UNIT];
     if !is_main(&units, table.entries(), Some(MAIN)) {
         return false;
     }
-    match write_names(alloc, &units, 0, table) {
+    match write_names(rt, alloc, &units, 0, table) {
         Ok(index) => {
             let names = index.names.as_slice() == NAMES.as_slice();
             names && index.strings.as_slice() == b"main\0".as_slice()
@@ -93,7 +94,7 @@ fn is_names(alloc: Global, table: &Table<'_>) -> bool {
 fn the_indexes_of_a_program(rt: HostRuntime) -> Result<(), Fail> {
     let table = table(&rt, rt.alloc())?;
     let gdb = are_gdb(rt.alloc(), &table)?;
-    let names = is_names(rt.alloc(), &table);
+    let names = is_names(&rt, rt.alloc(), &table);
     assert_eq!(rt; (gdb, names), ((true, true), true));
     Ok(())
 }

@@ -23,7 +23,7 @@ pub sum_up-requires : goal.sum_up-requires
 sum_up-requires g c =
     let r = c.args.reader.now in
     let is = subst (λ o. IsImage (image_of r.board.subject.file) (option_map (λ i. i.now) o)) c.in-Some-image.is c.requires.image in
-    built_parts r c.requires.kind c.in-Some-image.image.now is c.parts-in-Some-image.ensures.right (parts_seen c.parts-in-Some-image.result.now) c.parts-in-Some-image.ensures.parts
+    (c.type_bounds.sync-R, built_parts r c.requires.kind c.in-Some-image.image.now is c.parts-in-Some-image.ensures.right (parts_seen c.parts-in-Some-image.result.now) c.parts-in-Some-image.ensures.parts)
 
 pub returns-in-Some-image-clause-wrote : goal.returns-in-Some-image-clause-wrote
 returns-in-Some-image-clause-wrote g c =

@@ -14,14 +14,16 @@ use Rattle.index_pool.proofs.WriteJob.{indexable, names_bring}
 use Rattle.index_pool.proofs.write.name_index.Goals as goal
 
 pub write-requires : goal.write-requires
-write-requires c =
+write-requires g c =
     let units = c.units-units.ensures in
+    let indexed =
     subst (λ (us : List UnitHeader). AreIndexable us c.args.table.now) (sym units.value)
     (indexable c.args.image.now (summary_seen c.args.summary.now) c.args.table.now c.requires units.of_file (omega (arith, units.few, ap length units.value))
-    (omega (arith, c.sections_are_small.ensures.info)) (omega (arith, c.sections_are_small.ensures.types)))
+    (omega (arith, c.sections_are_small.ensures.info)) (omega (arith, c.sections_are_small.ensures.types))) in
+    (c.type_bounds.sync-R, indexed)
 
 pub returns : goal.returns
-returns c =
+returns g c =
     let image = c.args.image.now in
     let es = c.args.table.now in
     let units = c.units-units.ensures in
