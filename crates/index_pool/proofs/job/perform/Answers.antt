@@ -112,9 +112,11 @@ unreachable-requires g c =
 
 pub write_index-requires : goal.write_index-requires
 write_index-requires g c =
+    let published =
     are_published c.args.image.now (parts_seen c.in-Write.published) c.in-Write.kind (drawn_as c.args.image.now (task_seen c.args.task) _ (ap task_seen c.in-Write.is) c.requires) (summary_seen c.deref-in-Write.result.now) c.deref-in-Write-2.result.now
     (ap (option_map (λ m. summary_seen (arc_value m))) c.in-Some-Some.is-0 ∙ ap (λ m. Some (summary_seen m)) (sym c.deref-in-Write.ensures))
-    (ap (option_map arc_value) c.in-Some-Some.is-1 ∙ ap (λ es. Some es) (sym c.deref-in-Write-2.ensures))
+    (ap (option_map arc_value) c.in-Some-Some.is-1 ∙ ap (λ es. Some es) (sym c.deref-in-Write-2.ensures)) in
+    (c.type_bounds.sync-R, published)
 
 pub returns-in-Some-Some : goal.returns-in-Some-Some
 returns-in-Some-Some g c = output_as c.args.image.now (task_seen c.args.task) _ (ap task_seen c.in-Write.is) (output_seen c.write_index.result)
