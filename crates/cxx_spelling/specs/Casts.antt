@@ -5,21 +5,25 @@ use Rattle.cxx_spelling.specs.declared.kind.Kind.TheVariants as token
 use Rattle.cxx_spelling.specs.declared.symbol.Symbol.{Symbol}
 use Rattle.cxx_spelling.specs.declared.symbol.Symbol.TheVariants.{Do, Expand}
 use Rattle.cxx_spelling.specs.declared.symbol.Action.TheVariants.{BeginQualifiers, Skip, Take, TakeBoolCast, TakeCharacter, TakeFloating, TakeFloatingCast, TakeIntegerCast, TakeLongDouble, TakeNumber, TakeOperand, TakeWord, WriteBool, WriteOpen, WriteWords}
-use Rattle.cxx_spelling.specs.declared.symbol.Nonterminal.TheVariants.{Address, BoolOperand, CastBool, CastEnd, CastFloating, CastGroup, CastOperand, CastWords, CvQualifiers, Declarator, FloatingOperand, GroupEnd, IntegerOperand, Parenthesised, ParenthesisEnd, TypeId}
+use Rattle.cxx_spelling.specs.declared.symbol.Nonterminal.TheVariants.{Casts, Declarators, Names, Types}
+use Rattle.cxx_spelling.specs.declared.symbol.CastSymbol.TheVariants.{BoolOperand, CastBool, CastEnd, CastFloating, CastGroup, CastOperand, CastWords, FloatingOperand, GroupEnd, IntegerOperand, Parenthesised}
+use Rattle.cxx_spelling.specs.declared.symbol.DeclaratorSymbol.TheVariants.{Declarator, ParenthesisEnd}
+use Rattle.cxx_spelling.specs.declared.symbol.NameSymbol.TheVariants.{Address}
+use Rattle.cxx_spelling.specs.declared.symbol.TypeSymbol.TheVariants.{CvQualifiers, TypeId}
 
 -- behind a `(`, which is not written yet: an address, a literal, or a cast ([expr.cast])
 abbrev pub parenthesised : Kind → Option (List Symbol)
-parenthesised token.Reference = Some (Do Take ∷ Expand Address ∷ Expand GroupEnd ∷ [])
-parenthesised token.Number = Some (Do TakeNumber ∷ Expand GroupEnd ∷ [])
-parenthesised token.Character = Some (Do TakeCharacter ∷ Expand GroupEnd ∷ [])
-parenthesised token.Truth = Some (Do Take ∷ Expand GroupEnd ∷ [])
-parenthesised token.Floating = Some (Do TakeFloating ∷ Expand GroupEnd ∷ [])
-parenthesised token.OpenParenthesis = Some (Do Skip ∷ Expand Parenthesised ∷ Expand GroupEnd ∷ [])
-parenthesised (token.Integer word) = Some (Do TakeWord ∷ Expand CastWords ∷ [])
-parenthesised token.Bool = Some (Do Skip ∷ Expand CastBool ∷ [])
-parenthesised token.Double = Some (Do WriteOpen ∷ Do Take ∷ Expand CastFloating ∷ [])
-parenthesised token.Float = Some (Do WriteOpen ∷ Do Take ∷ Expand CastFloating ∷ [])
-parenthesised _ = Some (Do WriteOpen ∷ Expand TypeId ∷ Expand CastEnd ∷ [])
+parenthesised token.Reference = Some (Do Take ∷ Expand (Names Address) ∷ Expand (Casts GroupEnd) ∷ [])
+parenthesised token.Number = Some (Do TakeNumber ∷ Expand (Casts GroupEnd) ∷ [])
+parenthesised token.Character = Some (Do TakeCharacter ∷ Expand (Casts GroupEnd) ∷ [])
+parenthesised token.Truth = Some (Do Take ∷ Expand (Casts GroupEnd) ∷ [])
+parenthesised token.Floating = Some (Do TakeFloating ∷ Expand (Casts GroupEnd) ∷ [])
+parenthesised token.OpenParenthesis = Some (Do Skip ∷ Expand (Casts Parenthesised) ∷ Expand (Casts GroupEnd) ∷ [])
+parenthesised (token.Integer word) = Some (Do TakeWord ∷ Expand (Casts CastWords) ∷ [])
+parenthesised token.Bool = Some (Do Skip ∷ Expand (Casts CastBool) ∷ [])
+parenthesised token.Double = Some (Do WriteOpen ∷ Do Take ∷ Expand (Casts CastFloating) ∷ [])
+parenthesised token.Float = Some (Do WriteOpen ∷ Do Take ∷ Expand (Casts CastFloating) ∷ [])
+parenthesised _ = Some (Do WriteOpen ∷ Expand (Types TypeId) ∷ Expand (Casts CastEnd) ∷ [])
 
 -- the end of a group whose parentheses fall
 abbrev pub group_end : Kind → Option (List Symbol)
@@ -28,24 +32,24 @@ group_end _ = None
 
 -- a cast to an integer type: of a literal, it is written as the literal's suffix where the type has one
 abbrev pub cast_words : Kind → Option (List Symbol)
-cast_words (token.Integer word) = Some (Do TakeWord ∷ Expand CastWords ∷ [])
-cast_words token.CloseParenthesis = Some (Do Skip ∷ Expand IntegerOperand ∷ [])
-cast_words token.Double = Some (Do WriteOpen ∷ Do TakeLongDouble ∷ Expand CastFloating ∷ [])
-cast_words _ = Some (Do WriteOpen ∷ Do WriteWords ∷ Do BeginQualifiers ∷ Expand CvQualifiers ∷ Expand Declarator ∷ Expand CastEnd ∷ [])
+cast_words (token.Integer word) = Some (Do TakeWord ∷ Expand (Casts CastWords) ∷ [])
+cast_words token.CloseParenthesis = Some (Do Skip ∷ Expand (Casts IntegerOperand) ∷ [])
+cast_words token.Double = Some (Do WriteOpen ∷ Do TakeLongDouble ∷ Expand (Casts CastFloating) ∷ [])
+cast_words _ = Some (Do WriteOpen ∷ Do WriteWords ∷ Do BeginQualifiers ∷ Expand (Types CvQualifiers) ∷ Expand (Declarators Declarator) ∷ Expand (Casts CastEnd) ∷ [])
 
 -- a cast to `bool`
 abbrev pub cast_bool : Kind → Option (List Symbol)
-cast_bool token.CloseParenthesis = Some (Do Skip ∷ Expand BoolOperand ∷ [])
-cast_bool _ = Some (Do WriteOpen ∷ Do WriteBool ∷ Do BeginQualifiers ∷ Expand CvQualifiers ∷ Expand Declarator ∷ Expand CastEnd ∷ [])
+cast_bool token.CloseParenthesis = Some (Do Skip ∷ Expand (Casts BoolOperand) ∷ [])
+cast_bool _ = Some (Do WriteOpen ∷ Do WriteBool ∷ Do BeginQualifiers ∷ Expand (Types CvQualifiers) ∷ Expand (Declarators Declarator) ∷ Expand (Casts CastEnd) ∷ [])
 
 -- a cast to a floating-point type: a literal is written in brackets
 abbrev pub cast_floating : Kind → Option (List Symbol)
-cast_floating token.CloseParenthesis = Some (Do Take ∷ Expand FloatingOperand ∷ [])
-cast_floating _ = Some (Do BeginQualifiers ∷ Expand CvQualifiers ∷ Expand Declarator ∷ Expand CastEnd ∷ [])
+cast_floating token.CloseParenthesis = Some (Do Take ∷ Expand (Casts FloatingOperand) ∷ [])
+cast_floating _ = Some (Do BeginQualifiers ∷ Expand (Types CvQualifiers) ∷ Expand (Declarators Declarator) ∷ Expand (Casts CastEnd) ∷ [])
 
 -- the end of any other cast
 abbrev pub cast_end : Kind → Option (List Symbol)
-cast_end token.CloseParenthesis = Some (Do Take ∷ Expand CastOperand ∷ [])
+cast_end token.CloseParenthesis = Some (Do Take ∷ Expand (Casts CastOperand) ∷ [])
 cast_end _ = None
 
 -- what is cast: a literal, which stands without a suffix, or something in parentheses
@@ -54,16 +58,16 @@ cast_operand token.Number = Some (Do TakeOperand ∷ [])
 cast_operand token.Character = Some (Do TakeOperand ∷ [])
 cast_operand token.Truth = Some (Do TakeOperand ∷ [])
 cast_operand token.Floating = Some (Do TakeOperand ∷ [])
-cast_operand token.OpenParenthesis = Some (Do Skip ∷ Expand CastGroup ∷ [])
+cast_operand token.OpenParenthesis = Some (Do Skip ∷ Expand (Casts CastGroup) ∷ [])
 cast_operand _ = None
 
 -- behind a `(` that is not written yet: a literal, which stands without parentheses, or an address
 abbrev pub cast_group : Kind → Option (List Symbol)
-cast_group token.Number = Some (Do TakeOperand ∷ Expand GroupEnd ∷ [])
-cast_group token.Character = Some (Do TakeOperand ∷ Expand GroupEnd ∷ [])
-cast_group token.Truth = Some (Do TakeOperand ∷ Expand GroupEnd ∷ [])
-cast_group token.Floating = Some (Do TakeOperand ∷ Expand GroupEnd ∷ [])
-cast_group token.Reference = Some (Do WriteOpen ∷ Do Take ∷ Expand Address ∷ Expand ParenthesisEnd ∷ [])
+cast_group token.Number = Some (Do TakeOperand ∷ Expand (Casts GroupEnd) ∷ [])
+cast_group token.Character = Some (Do TakeOperand ∷ Expand (Casts GroupEnd) ∷ [])
+cast_group token.Truth = Some (Do TakeOperand ∷ Expand (Casts GroupEnd) ∷ [])
+cast_group token.Floating = Some (Do TakeOperand ∷ Expand (Casts GroupEnd) ∷ [])
+cast_group token.Reference = Some (Do WriteOpen ∷ Do Take ∷ Expand (Names Address) ∷ Expand (Declarators ParenthesisEnd) ∷ [])
 cast_group _ = None
 
 -- the literal of an integer type

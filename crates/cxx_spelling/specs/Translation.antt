@@ -7,7 +7,8 @@ use Rattle.cxx_spelling.specs.declared.symbol.Symbol.{Symbol}
 use Rattle.cxx_spelling.specs.declared.symbol.Symbol.TheVariants.{Do, Expand}
 use Rattle.cxx_spelling.specs.declared.symbol.Action.{Action}
 use Rattle.cxx_spelling.specs.declared.symbol.Action.TheVariants as action
-use Rattle.cxx_spelling.specs.declared.symbol.Nonterminal.TheVariants.{Start}
+use Rattle.cxx_spelling.specs.declared.symbol.Nonterminal.TheVariants.{Functions}
+use Rattle.cxx_spelling.specs.declared.symbol.FunctionSymbol.TheVariants.{Start}
 use Rattle.cxx_spelling.specs.declared.integers.IntegerWords.{IntegerWords}
 use Rattle.cxx_spelling.specs.declared.integers.IntegerType.{IntegerType}
 use Rattle.cxx_spelling.specs.declared.qualifiers.Qualifiers.{Qualifiers}
@@ -247,7 +248,7 @@ begun name = record {
   outer = [];
   words = no_words;
   gaps = [];
-  parts = (Expand Start ∷ []) ∷ [];
+  parts = (Expand (Functions Start) ∷ []) ∷ [];
 }
 
 -- no name needs as many steps

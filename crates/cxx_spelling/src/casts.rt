@@ -9,29 +9,36 @@ use crate::symbol::Action::{
     TakeIntegerCast, TakeLongDouble, TakeNumber, TakeOperand, TakeWord, WriteBool, WriteOpen,
     WriteWords,
 };
-use crate::symbol::Nonterminal::{
-    Address, BoolOperand, CastBool, CastEnd, CastFloating, CastGroup, CastOperand, CastWords,
-    CvQualifiers, Declarator, FloatingOperand, GroupEnd, IntegerOperand, ParenthesisEnd,
-    Parenthesised, TypeId,
+use crate::symbol::CastSymbol::{
+    BoolOperand, CastBool, CastEnd, CastFloating, CastGroup, CastOperand, CastWords,
+    FloatingOperand, GroupEnd, IntegerOperand, Parenthesised,
 };
+use crate::symbol::DeclaratorSymbol::{Declarator, ParenthesisEnd};
+use crate::symbol::NameSymbol::Address;
+use crate::symbol::Nonterminal::{Casts, Declarators, Names, Types};
 use crate::symbol::Symbol;
 use crate::symbol::Symbol::{Do, Expand};
+use crate::symbol::TypeSymbol::{CvQualifiers, TypeId};
 
 /// Behind a `(`, which is not written yet: an address, a literal, or a cast ([expr.cast]).
 pub(crate) fn parenthesised(kind: Kind) -> Option<&'static [Symbol]>
     ensures { option_map (λ symbols. symbols.now) result ≡ parenthesised kind }
 {
     match kind {
-        Kind::Reference => Some(&[Do(Take), Expand(Address), Expand(GroupEnd)]),
-        Kind::Number => Some(&[Do(TakeNumber), Expand(GroupEnd)]),
-        Kind::Character => Some(&[Do(TakeCharacter), Expand(GroupEnd)]),
-        Kind::Truth => Some(&[Do(Take), Expand(GroupEnd)]),
-        Kind::Floating => Some(&[Do(TakeFloating), Expand(GroupEnd)]),
-        Kind::OpenParenthesis => Some(&[Do(Skip), Expand(Parenthesised), Expand(GroupEnd)]),
-        Kind::Integer(_) => Some(&[Do(TakeWord), Expand(CastWords)]),
-        Kind::Bool => Some(&[Do(Skip), Expand(CastBool)]),
-        Kind::Double | Kind::Float => Some(&[Do(WriteOpen), Do(Take), Expand(CastFloating)]),
-        _ => Some(&[Do(WriteOpen), Expand(TypeId), Expand(CastEnd)]),
+        Kind::Reference => Some(&[Do(Take), Expand(Names(Address)), Expand(Casts(GroupEnd))]),
+        Kind::Number => Some(&[Do(TakeNumber), Expand(Casts(GroupEnd))]),
+        Kind::Character => Some(&[Do(TakeCharacter), Expand(Casts(GroupEnd))]),
+        Kind::Truth => Some(&[Do(Take), Expand(Casts(GroupEnd))]),
+        Kind::Floating => Some(&[Do(TakeFloating), Expand(Casts(GroupEnd))]),
+        Kind::OpenParenthesis => Some(&[
+            Do(Skip),
+            Expand(Casts(Parenthesised)),
+            Expand(Casts(GroupEnd)),
+        ]),
+        Kind::Integer(_) => Some(&[Do(TakeWord), Expand(Casts(CastWords))]),
+        Kind::Bool => Some(&[Do(Skip), Expand(Casts(CastBool))]),
+        Kind::Double | Kind::Float => Some(&[Do(WriteOpen), Do(Take), Expand(Casts(CastFloating))]),
+        _ => Some(&[Do(WriteOpen), Expand(Types(TypeId)), Expand(Casts(CastEnd))]),
     }
 }
 
@@ -50,16 +57,20 @@ pub(crate) fn cast_words(kind: Kind) -> Option<&'static [Symbol]>
     ensures { option_map (λ symbols. symbols.now) result ≡ cast_words kind }
 {
     match kind {
-        Kind::Integer(_) => Some(&[Do(TakeWord), Expand(CastWords)]),
-        Kind::CloseParenthesis => Some(&[Do(Skip), Expand(IntegerOperand)]),
-        Kind::Double => Some(&[Do(WriteOpen), Do(TakeLongDouble), Expand(CastFloating)]),
+        Kind::Integer(_) => Some(&[Do(TakeWord), Expand(Casts(CastWords))]),
+        Kind::CloseParenthesis => Some(&[Do(Skip), Expand(Casts(IntegerOperand))]),
+        Kind::Double => Some(&[
+            Do(WriteOpen),
+            Do(TakeLongDouble),
+            Expand(Casts(CastFloating)),
+        ]),
         _ => Some(&[
             Do(WriteOpen),
             Do(WriteWords),
             Do(BeginQualifiers),
-            Expand(CvQualifiers),
-            Expand(Declarator),
-            Expand(CastEnd),
+            Expand(Types(CvQualifiers)),
+            Expand(Declarators(Declarator)),
+            Expand(Casts(CastEnd)),
         ]),
     }
 }
@@ -69,14 +80,14 @@ pub(crate) fn cast_bool(kind: Kind) -> Option<&'static [Symbol]>
     ensures { option_map (λ symbols. symbols.now) result ≡ cast_bool kind }
 {
     match kind {
-        Kind::CloseParenthesis => Some(&[Do(Skip), Expand(BoolOperand)]),
+        Kind::CloseParenthesis => Some(&[Do(Skip), Expand(Casts(BoolOperand))]),
         _ => Some(&[
             Do(WriteOpen),
             Do(WriteBool),
             Do(BeginQualifiers),
-            Expand(CvQualifiers),
-            Expand(Declarator),
-            Expand(CastEnd),
+            Expand(Types(CvQualifiers)),
+            Expand(Declarators(Declarator)),
+            Expand(Casts(CastEnd)),
         ]),
     }
 }
@@ -86,12 +97,12 @@ pub(crate) fn cast_floating(kind: Kind) -> Option<&'static [Symbol]>
     ensures { option_map (λ symbols. symbols.now) result ≡ cast_floating kind }
 {
     match kind {
-        Kind::CloseParenthesis => Some(&[Do(Take), Expand(FloatingOperand)]),
+        Kind::CloseParenthesis => Some(&[Do(Take), Expand(Casts(FloatingOperand))]),
         _ => Some(&[
             Do(BeginQualifiers),
-            Expand(CvQualifiers),
-            Expand(Declarator),
-            Expand(CastEnd),
+            Expand(Types(CvQualifiers)),
+            Expand(Declarators(Declarator)),
+            Expand(Casts(CastEnd)),
         ]),
     }
 }
@@ -101,7 +112,7 @@ pub(crate) fn cast_end(kind: Kind) -> Option<&'static [Symbol]>
     ensures { option_map (λ symbols. symbols.now) result ≡ cast_end kind }
 {
     match kind {
-        Kind::CloseParenthesis => Some(&[Do(Take), Expand(CastOperand)]),
+        Kind::CloseParenthesis => Some(&[Do(Take), Expand(Casts(CastOperand))]),
         _ => None,
     }
 }
@@ -112,7 +123,7 @@ pub(crate) fn cast_operand(kind: Kind) -> Option<&'static [Symbol]>
 {
     match kind {
         Kind::Number | Kind::Character | Kind::Truth | Kind::Floating => Some(&[Do(TakeOperand)]),
-        Kind::OpenParenthesis => Some(&[Do(Skip), Expand(CastGroup)]),
+        Kind::OpenParenthesis => Some(&[Do(Skip), Expand(Casts(CastGroup))]),
         _ => None,
     }
 }
@@ -123,13 +134,13 @@ pub(crate) fn cast_group(kind: Kind) -> Option<&'static [Symbol]>
 {
     match kind {
         Kind::Number | Kind::Character | Kind::Truth | Kind::Floating => {
-            Some(&[Do(TakeOperand), Expand(GroupEnd)])
+            Some(&[Do(TakeOperand), Expand(Casts(GroupEnd))])
         }
         Kind::Reference => Some(&[
             Do(WriteOpen),
             Do(Take),
-            Expand(Address),
-            Expand(ParenthesisEnd),
+            Expand(Names(Address)),
+            Expand(Declarators(ParenthesisEnd)),
         ]),
         _ => None,
     }

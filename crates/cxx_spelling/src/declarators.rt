@@ -8,13 +8,16 @@ use crate::symbol::Action::{
     BeginQualifiers, FillSpace, LeaveGap, Skip, Take, TakeReference, WriteNestedOpen, WriteOpen,
     WriteSpace,
 };
-use crate::symbol::Nonterminal::{
-    Array, CvQualifiers, Declarator, DeclaratorSuffix, InnerDeclarator, InnerRest, MemberArguments,
-    MemberName, MemberNext, MemberPointer, MemberScope, MoreArguments, MoreArrays,
-    NestedDeclarator, NestedSuffix, Parameters, ParenthesisEnd, PtrOperator, TemplateArgument,
+use crate::symbol::DeclaratorSymbol::{
+    Declarator, DeclaratorSuffix, InnerDeclarator, InnerRest, MemberArguments, MemberName,
+    MemberNext, MemberPointer, MemberScope, NestedDeclarator, NestedSuffix, ParenthesisEnd,
+    PtrOperator,
 };
+use crate::symbol::NameSymbol::{MoreArguments, TemplateArgument};
+use crate::symbol::Nonterminal::{Declarators, Names, Types};
 use crate::symbol::Symbol;
 use crate::symbol::Symbol::{Do, Expand};
+use crate::symbol::TypeSymbol::{Array, CvQualifiers, MoreArrays, Parameters};
 
 /// Abstract-declarator ([dcl.name]): pointers, references, pointers to members, and functions or arrays behind them.
 pub(crate) fn declarator(kind: Kind) -> Option<&'static [Symbol]>
@@ -22,22 +25,26 @@ pub(crate) fn declarator(kind: Kind) -> Option<&'static [Symbol]>
 {
     match kind {
         Kind::Star | Kind::Reference | Kind::RvalueReference => Some(&[
-            Expand(PtrOperator),
-            Expand(Declarator),
+            Expand(Declarators(PtrOperator)),
+            Expand(Declarators(Declarator)),
         ]),
         Kind::Name | Kind::Scope => Some(&[
             Do(WriteSpace),
-            Expand(MemberPointer),
-            Expand(Declarator),
+            Expand(Declarators(MemberPointer)),
+            Expand(Declarators(Declarator)),
         ]),
         Kind::OpenParenthesis => Some(&[
             Do(WriteSpace),
             Do(Take),
-            Expand(InnerDeclarator),
-            Expand(ParenthesisEnd),
-            Expand(DeclaratorSuffix),
+            Expand(Declarators(InnerDeclarator)),
+            Expand(Declarators(ParenthesisEnd)),
+            Expand(Declarators(DeclaratorSuffix)),
         ]),
-        Kind::OpenBracket => Some(&[Do(WriteSpace), Expand(Array), Expand(MoreArrays)]),
+        Kind::OpenBracket => Some(&[
+            Do(WriteSpace),
+            Expand(Types(Array)),
+            Expand(Types(MoreArrays)),
+        ]),
         _ => Some(&[]),
     }
 }
@@ -47,7 +54,7 @@ pub(crate) fn ptr_operator(kind: Kind) -> Option<&'static [Symbol]>
     ensures { option_map (λ symbols. symbols.now) result ≡ ptr_operator kind }
 {
     match kind {
-        Kind::Star => Some(&[Do(Take), Do(BeginQualifiers), Expand(CvQualifiers)]),
+        Kind::Star => Some(&[Do(Take), Do(BeginQualifiers), Expand(Types(CvQualifiers))]),
         Kind::Reference | Kind::RvalueReference => Some(&[Do(TakeReference)]),
         _ => None,
     }
@@ -59,10 +66,13 @@ pub(crate) fn inner_declarator(kind: Kind) -> Option<&'static [Symbol]>
 {
     match kind {
         Kind::Star | Kind::Reference | Kind::RvalueReference => Some(&[
-            Expand(PtrOperator),
-            Expand(InnerRest),
+            Expand(Declarators(PtrOperator)),
+            Expand(Declarators(InnerRest)),
         ]),
-        Kind::Name | Kind::Scope => Some(&[Expand(MemberPointer), Expand(InnerRest)]),
+        Kind::Name | Kind::Scope => Some(&[
+            Expand(Declarators(MemberPointer)),
+            Expand(Declarators(InnerRest)),
+        ]),
         _ => None,
     }
 }
@@ -73,16 +83,20 @@ pub(crate) fn inner_rest(kind: Kind) -> Option<&'static [Symbol]>
 {
     match kind {
         Kind::Star | Kind::Reference | Kind::RvalueReference => Some(&[
-            Expand(PtrOperator),
-            Expand(InnerRest),
+            Expand(Declarators(PtrOperator)),
+            Expand(Declarators(InnerRest)),
         ]),
         Kind::Name | Kind::Scope => Some(&[
             Do(WriteSpace),
-            Expand(MemberPointer),
-            Expand(InnerRest),
+            Expand(Declarators(MemberPointer)),
+            Expand(Declarators(InnerRest)),
         ]),
-        Kind::OpenParenthesis => Some(&[Do(Skip), Expand(NestedDeclarator)]),
-        Kind::OpenBracket => Some(&[Do(WriteSpace), Expand(Array), Expand(MoreArrays)]),
+        Kind::OpenParenthesis => Some(&[Do(Skip), Expand(Declarators(NestedDeclarator))]),
+        Kind::OpenBracket => Some(&[
+            Do(WriteSpace),
+            Expand(Types(Array)),
+            Expand(Types(MoreArrays)),
+        ]),
         _ => Some(&[]),
     }
 }
@@ -94,16 +108,16 @@ pub(crate) fn nested_declarator(kind: Kind) -> Option<&'static [Symbol]>
     match kind {
         Kind::Star | Kind::Reference | Kind::RvalueReference => Some(&[
             Do(WriteNestedOpen),
-            Expand(InnerDeclarator),
-            Expand(ParenthesisEnd),
-            Expand(NestedSuffix),
+            Expand(Declarators(InnerDeclarator)),
+            Expand(Declarators(ParenthesisEnd)),
+            Expand(Declarators(NestedSuffix)),
         ]),
         Kind::Name | Kind::Scope => Some(&[
             Do(WriteSpace),
             Do(WriteOpen),
-            Expand(InnerDeclarator),
-            Expand(ParenthesisEnd),
-            Expand(DeclaratorSuffix),
+            Expand(Declarators(InnerDeclarator)),
+            Expand(Declarators(ParenthesisEnd)),
+            Expand(Declarators(DeclaratorSuffix)),
         ]),
         _ => None,
     }
@@ -114,12 +128,12 @@ pub(crate) fn nested_suffix(kind: Kind) -> Option<&'static [Symbol]>
     ensures { option_map (λ symbols. symbols.now) result ≡ nested_suffix kind }
 {
     match kind {
-        Kind::OpenParenthesis => Some(&[Do(LeaveGap), Expand(Parameters)]),
+        Kind::OpenParenthesis => Some(&[Do(LeaveGap), Expand(Types(Parameters))]),
         Kind::OpenBracket => Some(&[
             Do(FillSpace),
             Do(WriteSpace),
-            Expand(Array),
-            Expand(MoreArrays),
+            Expand(Types(Array)),
+            Expand(Types(MoreArrays)),
         ]),
         _ => None,
     }
@@ -130,8 +144,12 @@ pub(crate) fn declarator_suffix(kind: Kind) -> Option<&'static [Symbol]>
     ensures { option_map (λ symbols. symbols.now) result ≡ declarator_suffix kind }
 {
     match kind {
-        Kind::OpenParenthesis => Some(&[Expand(Parameters)]),
-        Kind::OpenBracket => Some(&[Do(WriteSpace), Expand(Array), Expand(MoreArrays)]),
+        Kind::OpenParenthesis => Some(&[Expand(Types(Parameters))]),
+        Kind::OpenBracket => Some(&[
+            Do(WriteSpace),
+            Expand(Types(Array)),
+            Expand(Types(MoreArrays)),
+        ]),
         _ => None,
     }
 }
@@ -151,8 +169,8 @@ pub(crate) fn member_pointer(kind: Kind) -> Option<&'static [Symbol]>
     ensures { option_map (λ symbols. symbols.now) result ≡ member_pointer kind }
 {
     match kind {
-        Kind::Scope => Some(&[Do(Skip), Expand(MemberName)]),
-        _ => Some(&[Expand(MemberName)]),
+        Kind::Scope => Some(&[Do(Skip), Expand(Declarators(MemberName))]),
+        _ => Some(&[Expand(Declarators(MemberName))]),
     }
 }
 
@@ -161,7 +179,7 @@ pub(crate) fn member_name(kind: Kind) -> Option<&'static [Symbol]>
     ensures { option_map (λ symbols. symbols.now) result ≡ member_name kind }
 {
     match kind {
-        Kind::Name => Some(&[Do(Take), Expand(MemberArguments)]),
+        Kind::Name => Some(&[Do(Take), Expand(Declarators(MemberArguments))]),
         _ => None,
     }
 }
@@ -173,11 +191,11 @@ pub(crate) fn member_arguments(kind: Kind) -> Option<&'static [Symbol]>
     match kind {
         Kind::Less => Some(&[
             Do(Take),
-            Expand(TemplateArgument),
-            Expand(MoreArguments),
-            Expand(MemberScope),
+            Expand(Names(TemplateArgument)),
+            Expand(Names(MoreArguments)),
+            Expand(Declarators(MemberScope)),
         ]),
-        _ => Some(&[Expand(MemberScope)]),
+        _ => Some(&[Expand(Declarators(MemberScope))]),
     }
 }
 
@@ -186,7 +204,7 @@ pub(crate) fn member_scope(kind: Kind) -> Option<&'static [Symbol]>
     ensures { option_map (λ symbols. symbols.now) result ≡ member_scope kind }
 {
     match kind {
-        Kind::Scope => Some(&[Do(Take), Expand(MemberNext)]),
+        Kind::Scope => Some(&[Do(Take), Expand(Declarators(MemberNext))]),
         _ => None,
     }
 }
@@ -196,7 +214,7 @@ pub(crate) fn member_next(kind: Kind) -> Option<&'static [Symbol]>
     ensures { option_map (λ symbols. symbols.now) result ≡ member_next kind }
 {
     match kind {
-        Kind::Star => Some(&[Expand(PtrOperator)]),
-        _ => Some(&[Expand(MemberName)]),
+        Kind::Star => Some(&[Expand(Declarators(PtrOperator))]),
+        _ => Some(&[Expand(Declarators(MemberName))]),
     }
 }

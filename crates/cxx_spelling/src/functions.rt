@@ -5,13 +5,18 @@ ghost use Rattle.cxx_spelling.specs.Functions.{start, start_rest, start_parenthe
 
 use crate::kind::Kind;
 use crate::symbol::Action::{BeginQualifiers, Skip, Take, WriteOpen, WriteSpace};
-use crate::symbol::Nonterminal::{
-    ConversionRest, Declarator, DeclaratorSuffix, InnerDeclarator, Local, MemberPointer,
-    MoreArguments, ParameterList, Parameters, ParenthesisEnd, PtrOperator, Start, StartArguments,
-    StartEnd, StartName, StartNext, StartParenthesis, StartRest, TemplateArgument, TypeSpecifier,
+use crate::symbol::DeclaratorSymbol::{
+    Declarator, DeclaratorSuffix, InnerDeclarator, MemberPointer, ParenthesisEnd, PtrOperator,
 };
+use crate::symbol::FunctionSymbol::{
+    ConversionRest, Local, Start, StartArguments, StartEnd, StartName, StartNext, StartParenthesis,
+    StartRest,
+};
+use crate::symbol::NameSymbol::{MoreArguments, TemplateArgument};
+use crate::symbol::Nonterminal::{Declarators, Functions, Names, Types};
 use crate::symbol::Symbol;
 use crate::symbol::Symbol::{Do, Expand};
+use crate::symbol::TypeSymbol::{ParameterList, Parameters, TypeSpecifier};
 
 /// A whole name: a conversion function ([class.conv.fct]), a type, or a function.
 pub(crate) fn start(kind: Kind) -> Option<&'static [Symbol]>
@@ -22,13 +27,13 @@ pub(crate) fn start(kind: Kind) -> Option<&'static [Symbol]>
             Do(Take),
             Do(WriteSpace),
             Do(BeginQualifiers),
-            Expand(TypeSpecifier),
-            Expand(ConversionRest),
+            Expand(Types(TypeSpecifier)),
+            Expand(Functions(ConversionRest)),
         ]),
         _ => Some(&[
             Do(BeginQualifiers),
-            Expand(TypeSpecifier),
-            Expand(StartRest),
+            Expand(Types(TypeSpecifier)),
+            Expand(Functions(StartRest)),
         ]),
     }
 }
@@ -38,10 +43,10 @@ pub(crate) fn start_rest(kind: Kind) -> Option<&'static [Symbol]>
     ensures { option_map (λ symbols. symbols.now) result ≡ start_rest kind }
 {
     match kind {
-        Kind::OpenParenthesis => Some(&[Do(Skip), Expand(StartParenthesis)]),
-        Kind::Name => Some(&[Do(WriteSpace), Expand(StartName)]),
-        Kind::Scope => Some(&[Do(WriteSpace), Do(Skip), Expand(StartName)]),
-        _ => Some(&[Expand(Declarator)]),
+        Kind::OpenParenthesis => Some(&[Do(Skip), Expand(Functions(StartParenthesis))]),
+        Kind::Name => Some(&[Do(WriteSpace), Expand(Functions(StartName))]),
+        Kind::Scope => Some(&[Do(WriteSpace), Do(Skip), Expand(Functions(StartName))]),
+        _ => Some(&[Expand(Declarators(Declarator))]),
     }
 }
 
@@ -53,11 +58,15 @@ pub(crate) fn start_parenthesis(kind: Kind) -> Option<&'static [Symbol]>
         Kind::Star | Kind::Reference | Kind::RvalueReference => Some(&[
             Do(WriteSpace),
             Do(WriteOpen),
-            Expand(InnerDeclarator),
-            Expand(ParenthesisEnd),
-            Expand(DeclaratorSuffix),
+            Expand(Declarators(InnerDeclarator)),
+            Expand(Declarators(ParenthesisEnd)),
+            Expand(Declarators(DeclaratorSuffix)),
         ]),
-        _ => Some(&[Do(WriteOpen), Expand(ParameterList), Expand(Local)]),
+        _ => Some(&[
+            Do(WriteOpen),
+            Expand(Types(ParameterList)),
+            Expand(Functions(Local)),
+        ]),
     }
 }
 
@@ -66,7 +75,7 @@ pub(crate) fn start_name(kind: Kind) -> Option<&'static [Symbol]>
     ensures { option_map (λ symbols. symbols.now) result ≡ start_name kind }
 {
     match kind {
-        Kind::Name => Some(&[Do(Take), Expand(StartArguments)]),
+        Kind::Name => Some(&[Do(Take), Expand(Functions(StartArguments))]),
         _ => None,
     }
 }
@@ -78,11 +87,11 @@ pub(crate) fn start_arguments(kind: Kind) -> Option<&'static [Symbol]>
     match kind {
         Kind::Less => Some(&[
             Do(Take),
-            Expand(TemplateArgument),
-            Expand(MoreArguments),
-            Expand(StartEnd),
+            Expand(Names(TemplateArgument)),
+            Expand(Names(MoreArguments)),
+            Expand(Functions(StartEnd)),
         ]),
-        _ => Some(&[Expand(StartEnd)]),
+        _ => Some(&[Expand(Functions(StartEnd))]),
     }
 }
 
@@ -91,8 +100,8 @@ pub(crate) fn start_end(kind: Kind) -> Option<&'static [Symbol]>
     ensures { option_map (λ symbols. symbols.now) result ≡ start_end kind }
 {
     match kind {
-        Kind::Scope => Some(&[Do(Take), Expand(StartNext)]),
-        Kind::OpenParenthesis => Some(&[Expand(Parameters), Expand(Local)]),
+        Kind::Scope => Some(&[Do(Take), Expand(Functions(StartNext))]),
+        Kind::OpenParenthesis => Some(&[Expand(Types(Parameters)), Expand(Functions(Local))]),
         _ => Some(&[]),
     }
 }
@@ -102,8 +111,11 @@ pub(crate) fn start_next(kind: Kind) -> Option<&'static [Symbol]>
     ensures { option_map (λ symbols. symbols.now) result ≡ start_next kind }
 {
     match kind {
-        Kind::Star => Some(&[Expand(PtrOperator), Expand(Declarator)]),
-        _ => Some(&[Expand(StartName)]),
+        Kind::Star => Some(&[
+            Expand(Declarators(PtrOperator)),
+            Expand(Declarators(Declarator)),
+        ]),
+        _ => Some(&[Expand(Functions(StartName))]),
     }
 }
 
@@ -112,7 +124,7 @@ pub(crate) fn local(kind: Kind) -> Option<&'static [Symbol]>
     ensures { option_map (λ symbols. symbols.now) result ≡ local kind }
 {
     match kind {
-        Kind::Scope => Some(&[Do(Take), Expand(Start)]),
+        Kind::Scope => Some(&[Do(Take), Expand(Functions(Start))]),
         _ => Some(&[]),
     }
 }
@@ -123,15 +135,15 @@ pub(crate) fn conversion_rest(kind: Kind) -> Option<&'static [Symbol]>
 {
     match kind {
         Kind::Star | Kind::Reference | Kind::RvalueReference => Some(&[
-            Expand(PtrOperator),
-            Expand(ConversionRest),
+            Expand(Declarators(PtrOperator)),
+            Expand(Functions(ConversionRest)),
         ]),
         Kind::Name | Kind::Scope => Some(&[
             Do(WriteSpace),
-            Expand(MemberPointer),
-            Expand(ConversionRest),
+            Expand(Declarators(MemberPointer)),
+            Expand(Functions(ConversionRest)),
         ]),
-        Kind::OpenParenthesis => Some(&[Do(Skip), Expand(StartParenthesis)]),
-        _ => Some(&[Expand(Declarator)]),
+        Kind::OpenParenthesis => Some(&[Do(Skip), Expand(Functions(StartParenthesis))]),
+        _ => Some(&[Expand(Declarators(Declarator))]),
     }
 }

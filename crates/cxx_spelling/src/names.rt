@@ -8,20 +8,23 @@ use crate::symbol::Action::{
     BeginGap, BeginQualifiers, FillOpen, LeaveGap, Skip, Take, TakeCharacter, TakeFloating,
     TakeGreater, TakeNumber, WriteClose, WriteSpace,
 };
-use crate::symbol::Nonterminal::{
+use crate::symbol::CastSymbol::Parenthesised;
+use crate::symbol::DeclaratorSymbol::{MemberPointer, PtrOperator};
+use crate::symbol::NameSymbol::{
     Address, AddressArguments, AddressMember, AddressName, AddressNext, AddressRest, AddressScope,
-    ConversionPointers, MemberPointer, MoreArguments, NameArguments, NameRest, Parenthesised,
-    PtrOperator, QualifiedName, TemplateArgument, TypeId, TypeSpecifier,
+    ConversionPointers, MoreArguments, NameArguments, NameRest, QualifiedName, TemplateArgument,
 };
+use crate::symbol::Nonterminal::{Casts, Declarators, Names, Types};
 use crate::symbol::Symbol;
 use crate::symbol::Symbol::{Do, Expand};
+use crate::symbol::TypeSymbol::{TypeId, TypeSpecifier};
 
 /// Qualified-id without what names the global namespace ([expr.prim.id.qual]).
 pub(crate) fn qualified_name(kind: Kind) -> Option<&'static [Symbol]>
     ensures { option_map (λ symbols. symbols.now) result ≡ qualified_name kind }
 {
     match kind {
-        Kind::Name => Some(&[Do(Take), Expand(NameArguments)]),
+        Kind::Name => Some(&[Do(Take), Expand(Names(NameArguments))]),
         _ => None,
     }
 }
@@ -33,11 +36,11 @@ pub(crate) fn name_arguments(kind: Kind) -> Option<&'static [Symbol]>
     match kind {
         Kind::Less => Some(&[
             Do(Take),
-            Expand(TemplateArgument),
-            Expand(MoreArguments),
-            Expand(NameRest),
+            Expand(Names(TemplateArgument)),
+            Expand(Names(MoreArguments)),
+            Expand(Names(NameRest)),
         ]),
-        _ => Some(&[Expand(NameRest)]),
+        _ => Some(&[Expand(Names(NameRest))]),
     }
 }
 
@@ -46,7 +49,7 @@ pub(crate) fn name_rest(kind: Kind) -> Option<&'static [Symbol]>
     ensures { option_map (λ symbols. symbols.now) result ≡ name_rest kind }
 {
     match kind {
-        Kind::Scope => Some(&[Do(Take), Expand(QualifiedName)]),
+        Kind::Scope => Some(&[Do(Take), Expand(Names(QualifiedName))]),
         _ => Some(&[]),
     }
 }
@@ -59,8 +62,8 @@ pub(crate) fn more_arguments(kind: Kind) -> Option<&'static [Symbol]>
         Kind::Comma => Some(&[
             Do(Take),
             Do(WriteSpace),
-            Expand(TemplateArgument),
-            Expand(MoreArguments),
+            Expand(Names(TemplateArgument)),
+            Expand(Names(MoreArguments)),
         ]),
         Kind::Greater => Some(&[Do(TakeGreater)]),
         _ => None,
@@ -72,13 +75,13 @@ pub(crate) fn template_argument(kind: Kind) -> Option<&'static [Symbol]>
     ensures { option_map (λ symbols. symbols.now) result ≡ template_argument kind }
 {
     match kind {
-        Kind::Reference => Some(&[Do(Take), Expand(Address)]),
-        Kind::OpenParenthesis => Some(&[Do(Skip), Expand(Parenthesised)]),
+        Kind::Reference => Some(&[Do(Take), Expand(Names(Address))]),
+        Kind::OpenParenthesis => Some(&[Do(Skip), Expand(Casts(Parenthesised))]),
         Kind::Number => Some(&[Do(TakeNumber)]),
         Kind::Character => Some(&[Do(TakeCharacter)]),
         Kind::Truth => Some(&[Do(Take)]),
         Kind::Floating => Some(&[Do(TakeFloating)]),
-        _ => Some(&[Expand(TypeId)]),
+        _ => Some(&[Expand(Types(TypeId))]),
     }
 }
 
@@ -87,8 +90,8 @@ pub(crate) fn address(kind: Kind) -> Option<&'static [Symbol]>
     ensures { option_map (λ symbols. symbols.now) result ≡ address kind }
 {
     match kind {
-        Kind::Scope => Some(&[Do(Skip), Expand(AddressName)]),
-        _ => Some(&[Expand(AddressName)]),
+        Kind::Scope => Some(&[Do(Skip), Expand(Names(AddressName))]),
+        _ => Some(&[Expand(Names(AddressName))]),
     }
 }
 
@@ -97,7 +100,7 @@ pub(crate) fn address_name(kind: Kind) -> Option<&'static [Symbol]>
     ensures { option_map (λ symbols. symbols.now) result ≡ address_name kind }
 {
     match kind {
-        Kind::Name => Some(&[Do(BeginGap), Do(Take), Expand(AddressRest)]),
+        Kind::Name => Some(&[Do(BeginGap), Do(Take), Expand(Names(AddressRest))]),
         _ => None,
     }
 }
@@ -109,11 +112,11 @@ pub(crate) fn address_rest(kind: Kind) -> Option<&'static [Symbol]>
     match kind {
         Kind::Less => Some(&[
             Do(Take),
-            Expand(TemplateArgument),
-            Expand(MoreArguments),
-            Expand(AddressScope),
+            Expand(Names(TemplateArgument)),
+            Expand(Names(MoreArguments)),
+            Expand(Names(AddressScope)),
         ]),
-        Kind::Scope => Some(&[Do(LeaveGap), Do(Take), Expand(AddressMember)]),
+        Kind::Scope => Some(&[Do(LeaveGap), Do(Take), Expand(Names(AddressMember))]),
         _ => Some(&[Do(LeaveGap)]),
     }
 }
@@ -123,7 +126,7 @@ pub(crate) fn address_scope(kind: Kind) -> Option<&'static [Symbol]>
     ensures { option_map (λ symbols. symbols.now) result ≡ address_scope kind }
 {
     match kind {
-        Kind::Scope => Some(&[Do(LeaveGap), Do(Take), Expand(AddressMember)]),
+        Kind::Scope => Some(&[Do(LeaveGap), Do(Take), Expand(Names(AddressMember))]),
         _ => Some(&[Do(FillOpen), Do(WriteClose)]),
     }
 }
@@ -133,13 +136,13 @@ pub(crate) fn address_member(kind: Kind) -> Option<&'static [Symbol]>
     ensures { option_map (λ symbols. symbols.now) result ≡ address_member kind }
 {
     match kind {
-        Kind::Name => Some(&[Do(Take), Expand(AddressArguments)]),
+        Kind::Name => Some(&[Do(Take), Expand(Names(AddressArguments))]),
         Kind::Operator => Some(&[
             Do(Take),
             Do(WriteSpace),
             Do(BeginQualifiers),
-            Expand(TypeSpecifier),
-            Expand(ConversionPointers),
+            Expand(Types(TypeSpecifier)),
+            Expand(Names(ConversionPointers)),
         ]),
         _ => None,
     }
@@ -152,11 +155,11 @@ pub(crate) fn address_arguments(kind: Kind) -> Option<&'static [Symbol]>
     match kind {
         Kind::Less => Some(&[
             Do(Take),
-            Expand(TemplateArgument),
-            Expand(MoreArguments),
-            Expand(AddressNext),
+            Expand(Names(TemplateArgument)),
+            Expand(Names(MoreArguments)),
+            Expand(Names(AddressNext)),
         ]),
-        _ => Some(&[Expand(AddressNext)]),
+        _ => Some(&[Expand(Names(AddressNext))]),
     }
 }
 
@@ -165,7 +168,7 @@ pub(crate) fn address_next(kind: Kind) -> Option<&'static [Symbol]>
     ensures { option_map (λ symbols. symbols.now) result ≡ address_next kind }
 {
     match kind {
-        Kind::Scope => Some(&[Do(Take), Expand(AddressMember)]),
+        Kind::Scope => Some(&[Do(Take), Expand(Names(AddressMember))]),
         _ => Some(&[]),
     }
 }
@@ -176,13 +179,13 @@ pub(crate) fn conversion_pointers(kind: Kind) -> Option<&'static [Symbol]>
 {
     match kind {
         Kind::Star | Kind::Reference | Kind::RvalueReference => Some(&[
-            Expand(PtrOperator),
-            Expand(ConversionPointers),
+            Expand(Declarators(PtrOperator)),
+            Expand(Names(ConversionPointers)),
         ]),
         Kind::Name | Kind::Scope => Some(&[
             Do(WriteSpace),
-            Expand(MemberPointer),
-            Expand(ConversionPointers),
+            Expand(Declarators(MemberPointer)),
+            Expand(Names(ConversionPointers)),
         ]),
         _ => Some(&[]),
     }

@@ -1,7 +1,7 @@
 //! The rules of the grammar: in sight of the next token, each symbol has one at most.
 
 ghost use Rattle.std.specs.Prelude.{◌≡◌, option_map};
-ghost use Rattle.cxx_spelling.specs.Rules.{rule};
+ghost use Rattle.cxx_spelling.specs.Rules.{rule, name_rule, type_rule, cast_rule, declarator_rule, function_rule};
 
 use crate::casts::{
     bool_operand, cast_bool, cast_end, cast_floating, cast_group, cast_operand, cast_words,
@@ -22,7 +22,9 @@ use crate::names::{
     address_scope, conversion_pointers, more_arguments, name_arguments, name_rest, qualified_name,
     template_argument,
 };
-use crate::symbol::{Nonterminal, Symbol};
+use crate::symbol::{
+    CastSymbol, DeclaratorSymbol, FunctionSymbol, NameSymbol, Nonterminal, Symbol, TypeSymbol,
+};
 use crate::types::{
     after_void, array, array_bound, bracket_end, cv_qualifiers, more_arrays, more_parameters,
     more_words, parameter, parameter_list, parameters, type_id, type_specifier,
@@ -33,64 +35,109 @@ pub(crate) fn rule(symbol: Nonterminal, kind: Kind) -> Option<&'static [Symbol]>
     ensures { option_map (λ symbols. symbols.now) result ≡ rule symbol kind }
 {
     match symbol {
-        Nonterminal::QualifiedName => qualified_name(kind),
-        Nonterminal::NameArguments => name_arguments(kind),
-        Nonterminal::NameRest => name_rest(kind),
-        Nonterminal::MoreArguments => more_arguments(kind),
-        Nonterminal::TemplateArgument => template_argument(kind),
-        Nonterminal::Address => address(kind),
-        Nonterminal::AddressName => address_name(kind),
-        Nonterminal::AddressRest => address_rest(kind),
-        Nonterminal::AddressScope => address_scope(kind),
-        Nonterminal::AddressMember => address_member(kind),
-        Nonterminal::AddressArguments => address_arguments(kind),
-        Nonterminal::AddressNext => address_next(kind),
-        Nonterminal::ConversionPointers => conversion_pointers(kind),
-        Nonterminal::TypeId => type_id(kind),
-        Nonterminal::TypeSpecifier => type_specifier(kind),
-        Nonterminal::MoreWords => more_words(kind),
-        Nonterminal::CvQualifiers => cv_qualifiers(kind),
-        Nonterminal::Array => array(kind),
-        Nonterminal::ArrayBound => array_bound(kind),
-        Nonterminal::BracketEnd => bracket_end(kind),
-        Nonterminal::MoreArrays => more_arrays(kind),
-        Nonterminal::Parameters => parameters(kind),
-        Nonterminal::ParameterList => parameter_list(kind),
-        Nonterminal::AfterVoid => after_void(kind),
-        Nonterminal::MoreParameters => more_parameters(kind),
-        Nonterminal::Parameter => parameter(kind),
-        Nonterminal::Parenthesised => parenthesised(kind),
-        Nonterminal::GroupEnd => group_end(kind),
-        Nonterminal::CastWords => cast_words(kind),
-        Nonterminal::CastBool => cast_bool(kind),
-        Nonterminal::CastFloating => cast_floating(kind),
-        Nonterminal::CastEnd => cast_end(kind),
-        Nonterminal::CastOperand => cast_operand(kind),
-        Nonterminal::CastGroup => cast_group(kind),
-        Nonterminal::IntegerOperand => integer_operand(kind),
-        Nonterminal::BoolOperand => bool_operand(kind),
-        Nonterminal::FloatingOperand => floating_operand(kind),
-        Nonterminal::Declarator => declarator(kind),
-        Nonterminal::PtrOperator => ptr_operator(kind),
-        Nonterminal::InnerDeclarator => inner_declarator(kind),
-        Nonterminal::InnerRest => inner_rest(kind),
-        Nonterminal::NestedDeclarator => nested_declarator(kind),
-        Nonterminal::NestedSuffix => nested_suffix(kind),
-        Nonterminal::DeclaratorSuffix => declarator_suffix(kind),
-        Nonterminal::ParenthesisEnd => parenthesis_end(kind),
-        Nonterminal::MemberPointer => member_pointer(kind),
-        Nonterminal::MemberName => member_name(kind),
-        Nonterminal::MemberArguments => member_arguments(kind),
-        Nonterminal::MemberScope => member_scope(kind),
-        Nonterminal::MemberNext => member_next(kind),
-        Nonterminal::Start => start(kind),
-        Nonterminal::StartRest => start_rest(kind),
-        Nonterminal::StartParenthesis => start_parenthesis(kind),
-        Nonterminal::StartName => start_name(kind),
-        Nonterminal::StartArguments => start_arguments(kind),
-        Nonterminal::StartEnd => start_end(kind),
-        Nonterminal::StartNext => start_next(kind),
-        Nonterminal::Local => local(kind),
-        Nonterminal::ConversionRest => conversion_rest(kind),
+        Nonterminal::Names(symbol) => name_rule(symbol, kind),
+        Nonterminal::Types(symbol) => type_rule(symbol, kind),
+        Nonterminal::Casts(symbol) => cast_rule(symbol, kind),
+        Nonterminal::Declarators(symbol) => declarator_rule(symbol, kind),
+        Nonterminal::Functions(symbol) => function_rule(symbol, kind),
+    }
+}
+
+// The same of a symbol of names and their template arguments.
+fn name_rule(symbol: NameSymbol, kind: Kind) -> Option<&'static [Symbol]>
+    ensures { option_map (λ symbols. symbols.now) result ≡ name_rule symbol kind }
+{
+    match symbol {
+        NameSymbol::QualifiedName => qualified_name(kind),
+        NameSymbol::NameArguments => name_arguments(kind),
+        NameSymbol::NameRest => name_rest(kind),
+        NameSymbol::MoreArguments => more_arguments(kind),
+        NameSymbol::TemplateArgument => template_argument(kind),
+        NameSymbol::Address => address(kind),
+        NameSymbol::AddressName => address_name(kind),
+        NameSymbol::AddressRest => address_rest(kind),
+        NameSymbol::AddressScope => address_scope(kind),
+        NameSymbol::AddressMember => address_member(kind),
+        NameSymbol::AddressArguments => address_arguments(kind),
+        NameSymbol::AddressNext => address_next(kind),
+        NameSymbol::ConversionPointers => conversion_pointers(kind),
+    }
+}
+
+// The same of a symbol of types.
+fn type_rule(symbol: TypeSymbol, kind: Kind) -> Option<&'static [Symbol]>
+    ensures { option_map (λ symbols. symbols.now) result ≡ type_rule symbol kind }
+{
+    match symbol {
+        TypeSymbol::TypeId => type_id(kind),
+        TypeSymbol::TypeSpecifier => type_specifier(kind),
+        TypeSymbol::MoreWords => more_words(kind),
+        TypeSymbol::CvQualifiers => cv_qualifiers(kind),
+        TypeSymbol::Array => array(kind),
+        TypeSymbol::ArrayBound => array_bound(kind),
+        TypeSymbol::BracketEnd => bracket_end(kind),
+        TypeSymbol::MoreArrays => more_arrays(kind),
+        TypeSymbol::Parameters => parameters(kind),
+        TypeSymbol::ParameterList => parameter_list(kind),
+        TypeSymbol::AfterVoid => after_void(kind),
+        TypeSymbol::MoreParameters => more_parameters(kind),
+        TypeSymbol::Parameter => parameter(kind),
+    }
+}
+
+// The same of a symbol of literals in parentheses, and of casts.
+fn cast_rule(symbol: CastSymbol, kind: Kind) -> Option<&'static [Symbol]>
+    ensures { option_map (λ symbols. symbols.now) result ≡ cast_rule symbol kind }
+{
+    match symbol {
+        CastSymbol::Parenthesised => parenthesised(kind),
+        CastSymbol::GroupEnd => group_end(kind),
+        CastSymbol::CastWords => cast_words(kind),
+        CastSymbol::CastBool => cast_bool(kind),
+        CastSymbol::CastFloating => cast_floating(kind),
+        CastSymbol::CastEnd => cast_end(kind),
+        CastSymbol::CastOperand => cast_operand(kind),
+        CastSymbol::CastGroup => cast_group(kind),
+        CastSymbol::IntegerOperand => integer_operand(kind),
+        CastSymbol::BoolOperand => bool_operand(kind),
+        CastSymbol::FloatingOperand => floating_operand(kind),
+    }
+}
+
+// The same of a symbol of declarators.
+fn declarator_rule(symbol: DeclaratorSymbol, kind: Kind) -> Option<&'static [Symbol]>
+    ensures { option_map (λ symbols. symbols.now) result ≡ declarator_rule symbol kind }
+{
+    match symbol {
+        DeclaratorSymbol::Declarator => declarator(kind),
+        DeclaratorSymbol::PtrOperator => ptr_operator(kind),
+        DeclaratorSymbol::InnerDeclarator => inner_declarator(kind),
+        DeclaratorSymbol::InnerRest => inner_rest(kind),
+        DeclaratorSymbol::NestedDeclarator => nested_declarator(kind),
+        DeclaratorSymbol::NestedSuffix => nested_suffix(kind),
+        DeclaratorSymbol::DeclaratorSuffix => declarator_suffix(kind),
+        DeclaratorSymbol::ParenthesisEnd => parenthesis_end(kind),
+        DeclaratorSymbol::MemberPointer => member_pointer(kind),
+        DeclaratorSymbol::MemberName => member_name(kind),
+        DeclaratorSymbol::MemberArguments => member_arguments(kind),
+        DeclaratorSymbol::MemberScope => member_scope(kind),
+        DeclaratorSymbol::MemberNext => member_next(kind),
+    }
+}
+
+// The same of a symbol of whole names and functions.
+fn function_rule(symbol: FunctionSymbol, kind: Kind) -> Option<&'static [Symbol]>
+    ensures { option_map (λ symbols. symbols.now) result ≡ function_rule symbol kind }
+{
+    match symbol {
+        FunctionSymbol::Start => start(kind),
+        FunctionSymbol::StartRest => start_rest(kind),
+        FunctionSymbol::StartParenthesis => start_parenthesis(kind),
+        FunctionSymbol::StartName => start_name(kind),
+        FunctionSymbol::StartArguments => start_arguments(kind),
+        FunctionSymbol::StartEnd => start_end(kind),
+        FunctionSymbol::StartNext => start_next(kind),
+        FunctionSymbol::Local => local(kind),
+        FunctionSymbol::ConversionRest => conversion_rest(kind),
     }
 }

@@ -7,9 +7,19 @@ pub(crate) enum Symbol {
     Do(Action),
 }
 
-/// A symbol that rules expand. The rules say what each stands for.
+/// A symbol that rules expand. The rules say what each stands for; each kind of symbol has a file of them.
 #[derive(Clone, Copy)]
 pub(crate) enum Nonterminal {
+    Names(NameSymbol),
+    Types(TypeSymbol),
+    Casts(CastSymbol),
+    Declarators(DeclaratorSymbol),
+    Functions(FunctionSymbol),
+}
+
+/// The symbols of names and their template arguments.
+#[derive(Clone, Copy)]
+pub(crate) enum NameSymbol {
     QualifiedName,
     NameArguments,
     NameRest,
@@ -23,6 +33,11 @@ pub(crate) enum Nonterminal {
     AddressArguments,
     AddressNext,
     ConversionPointers,
+}
+
+/// The symbols of types.
+#[derive(Clone, Copy)]
+pub(crate) enum TypeSymbol {
     TypeId,
     TypeSpecifier,
     MoreWords,
@@ -36,6 +51,11 @@ pub(crate) enum Nonterminal {
     AfterVoid,
     MoreParameters,
     Parameter,
+}
+
+/// The symbols of literals in parentheses, and of casts.
+#[derive(Clone, Copy)]
+pub(crate) enum CastSymbol {
     Parenthesised,
     GroupEnd,
     CastWords,
@@ -47,6 +67,11 @@ pub(crate) enum Nonterminal {
     IntegerOperand,
     BoolOperand,
     FloatingOperand,
+}
+
+/// The symbols of declarators.
+#[derive(Clone, Copy)]
+pub(crate) enum DeclaratorSymbol {
     Declarator,
     PtrOperator,
     InnerDeclarator,
@@ -60,6 +85,11 @@ pub(crate) enum Nonterminal {
     MemberArguments,
     MemberScope,
     MemberNext,
+}
+
+/// The symbols of whole names and functions.
+#[derive(Clone, Copy)]
+pub(crate) enum FunctionSymbol {
     Start,
     StartRest,
     StartParenthesis,

@@ -10,7 +10,7 @@ use crate::integers::{IntegerWords, NO_WORDS};
 use crate::kind::Kind;
 use crate::qualifiers::{NO_QUALIFIERS, Qualifiers};
 use crate::rules::rule;
-use crate::symbol::{Action, Nonterminal, Symbol};
+use crate::symbol::{Action, FunctionSymbol, Nonterminal, Symbol};
 use crate::token::{Token, first_token};
 use std::alloc::{AllocError, Global};
 
@@ -48,7 +48,7 @@ pub(crate) struct Translation<'n> {
 const MAX_LENGTH: usize = 1_048_576;
 
 /// What a whole name is.
-const WHOLE: &[Symbol] = &[Symbol::Expand(Nonterminal::Start)];
+const WHOLE: &[Symbol] = &[Symbol::Expand(Nonterminal::Functions(FunctionSymbol::Start))];
 
 impl<'n> Translation<'n> {
     fn begin(alloc: Global, name: &'n [u8]) -> Result<Translation<'n>, AllocError>

@@ -8,12 +8,15 @@ use crate::symbol::Action::{
     BeginQualifiers, EndQualifiers, Skip, Take, TakeCharacter, TakeLongDouble, TakeNumber,
     TakeQualifier, TakeWord, WriteSpace, WriteVoid, WriteWords,
 };
-use crate::symbol::Nonterminal::{
-    AfterVoid, Array, ArrayBound, BracketEnd, CvQualifiers, Declarator, MoreArrays, MoreParameters,
-    MoreWords, Parameter, ParameterList, QualifiedName, TypeId, TypeSpecifier,
-};
+use crate::symbol::DeclaratorSymbol::Declarator;
+use crate::symbol::NameSymbol::QualifiedName;
+use crate::symbol::Nonterminal::{Declarators, Names, Types};
 use crate::symbol::Symbol;
 use crate::symbol::Symbol::{Do, Expand};
+use crate::symbol::TypeSymbol::{
+    AfterVoid, Array, ArrayBound, BracketEnd, CvQualifiers, MoreArrays, MoreParameters, MoreWords,
+    Parameter, ParameterList, TypeId, TypeSpecifier,
+};
 
 /// Type-id ([dcl.name]): what specifies a type, and a declarator without a name.
 pub(crate) fn type_id(_kind: Kind) -> Option<&'static [Symbol]>
@@ -21,8 +24,8 @@ pub(crate) fn type_id(_kind: Kind) -> Option<&'static [Symbol]>
 {
     Some(&[
         Do(BeginQualifiers),
-        Expand(TypeSpecifier),
-        Expand(Declarator),
+        Expand(Types(TypeSpecifier)),
+        Expand(Declarators(Declarator)),
     ])
 }
 
@@ -31,12 +34,20 @@ pub(crate) fn type_specifier(kind: Kind) -> Option<&'static [Symbol]>
     ensures { option_map (λ symbols. symbols.now) result ≡ type_specifier kind }
 {
     match kind {
-        Kind::Qualifier(_) => Some(&[Do(TakeQualifier), Expand(TypeSpecifier)]),
-        Kind::Integer(_) => Some(&[Do(TakeWord), Expand(MoreWords), Expand(CvQualifiers)]),
-        Kind::Scope => Some(&[Do(Skip), Expand(QualifiedName), Expand(CvQualifiers)]),
-        Kind::Name => Some(&[Expand(QualifiedName), Expand(CvQualifiers)]),
+        Kind::Qualifier(_) => Some(&[Do(TakeQualifier), Expand(Types(TypeSpecifier))]),
+        Kind::Integer(_) => Some(&[
+            Do(TakeWord),
+            Expand(Types(MoreWords)),
+            Expand(Types(CvQualifiers)),
+        ]),
+        Kind::Scope => Some(&[
+            Do(Skip),
+            Expand(Names(QualifiedName)),
+            Expand(Types(CvQualifiers)),
+        ]),
+        Kind::Name => Some(&[Expand(Names(QualifiedName)), Expand(Types(CvQualifiers))]),
         Kind::Double | Kind::Float | Kind::WideCharacter | Kind::Bool | Kind::Void => {
-            Some(&[Do(Take), Expand(CvQualifiers)])
+            Some(&[Do(Take), Expand(Types(CvQualifiers))])
         }
         _ => None,
     }
@@ -47,7 +58,7 @@ pub(crate) fn more_words(kind: Kind) -> Option<&'static [Symbol]>
     ensures { option_map (λ symbols. symbols.now) result ≡ more_words kind }
 {
     match kind {
-        Kind::Integer(_) => Some(&[Do(TakeWord), Expand(MoreWords)]),
+        Kind::Integer(_) => Some(&[Do(TakeWord), Expand(Types(MoreWords))]),
         Kind::Double => Some(&[Do(TakeLongDouble)]),
         _ => Some(&[Do(WriteWords)]),
     }
@@ -58,7 +69,7 @@ pub(crate) fn cv_qualifiers(kind: Kind) -> Option<&'static [Symbol]>
     ensures { option_map (λ symbols. symbols.now) result ≡ cv_qualifiers kind }
 {
     match kind {
-        Kind::Qualifier(_) => Some(&[Do(TakeQualifier), Expand(CvQualifiers)]),
+        Kind::Qualifier(_) => Some(&[Do(TakeQualifier), Expand(Types(CvQualifiers))]),
         _ => Some(&[Do(EndQualifiers)]),
     }
 }
@@ -68,7 +79,7 @@ pub(crate) fn array(kind: Kind) -> Option<&'static [Symbol]>
     ensures { option_map (λ symbols. symbols.now) result ≡ array kind }
 {
     match kind {
-        Kind::OpenBracket => Some(&[Do(Take), Expand(ArrayBound)]),
+        Kind::OpenBracket => Some(&[Do(Take), Expand(Types(ArrayBound))]),
         _ => None,
     }
 }
@@ -78,8 +89,8 @@ pub(crate) fn array_bound(kind: Kind) -> Option<&'static [Symbol]>
     ensures { option_map (λ symbols. symbols.now) result ≡ array_bound kind }
 {
     match kind {
-        Kind::Number => Some(&[Do(TakeNumber), Expand(BracketEnd)]),
-        Kind::Character => Some(&[Do(TakeCharacter), Expand(BracketEnd)]),
+        Kind::Number => Some(&[Do(TakeNumber), Expand(Types(BracketEnd))]),
+        Kind::Character => Some(&[Do(TakeCharacter), Expand(Types(BracketEnd))]),
         Kind::CloseBracket => Some(&[Do(Take)]),
         _ => None,
     }
@@ -100,7 +111,7 @@ pub(crate) fn more_arrays(kind: Kind) -> Option<&'static [Symbol]>
     ensures { option_map (λ symbols. symbols.now) result ≡ more_arrays kind }
 {
     match kind {
-        Kind::OpenBracket => Some(&[Expand(Array), Expand(MoreArrays)]),
+        Kind::OpenBracket => Some(&[Expand(Types(Array)), Expand(Types(MoreArrays))]),
         _ => Some(&[]),
     }
 }
@@ -110,7 +121,7 @@ pub(crate) fn parameters(kind: Kind) -> Option<&'static [Symbol]>
     ensures { option_map (λ symbols. symbols.now) result ≡ parameters kind }
 {
     match kind {
-        Kind::OpenParenthesis => Some(&[Do(Take), Expand(ParameterList)]),
+        Kind::OpenParenthesis => Some(&[Do(Take), Expand(Types(ParameterList))]),
         _ => None,
     }
 }
@@ -120,9 +131,13 @@ pub(crate) fn parameter_list(kind: Kind) -> Option<&'static [Symbol]>
     ensures { option_map (λ symbols. symbols.now) result ≡ parameter_list kind }
 {
     match kind {
-        Kind::CloseParenthesis => Some(&[Do(Take), Do(BeginQualifiers), Expand(CvQualifiers)]),
-        Kind::Void => Some(&[Do(Skip), Expand(AfterVoid)]),
-        _ => Some(&[Expand(TypeId), Expand(MoreParameters)]),
+        Kind::CloseParenthesis => Some(&[
+            Do(Take),
+            Do(BeginQualifiers),
+            Expand(Types(CvQualifiers)),
+        ]),
+        Kind::Void => Some(&[Do(Skip), Expand(Types(AfterVoid))]),
+        _ => Some(&[Expand(Types(TypeId)), Expand(Types(MoreParameters))]),
     }
 }
 
@@ -131,13 +146,17 @@ pub(crate) fn after_void(kind: Kind) -> Option<&'static [Symbol]>
     ensures { option_map (λ symbols. symbols.now) result ≡ after_void kind }
 {
     match kind {
-        Kind::CloseParenthesis => Some(&[Do(Take), Do(BeginQualifiers), Expand(CvQualifiers)]),
+        Kind::CloseParenthesis => Some(&[
+            Do(Take),
+            Do(BeginQualifiers),
+            Expand(Types(CvQualifiers)),
+        ]),
         _ => Some(&[
             Do(WriteVoid),
             Do(BeginQualifiers),
-            Expand(CvQualifiers),
-            Expand(Declarator),
-            Expand(MoreParameters),
+            Expand(Types(CvQualifiers)),
+            Expand(Declarators(Declarator)),
+            Expand(Types(MoreParameters)),
         ]),
     }
 }
@@ -150,10 +169,14 @@ pub(crate) fn more_parameters(kind: Kind) -> Option<&'static [Symbol]>
         Kind::Comma => Some(&[
             Do(Take),
             Do(WriteSpace),
-            Expand(Parameter),
-            Expand(MoreParameters),
+            Expand(Types(Parameter)),
+            Expand(Types(MoreParameters)),
         ]),
-        Kind::CloseParenthesis => Some(&[Do(Take), Do(BeginQualifiers), Expand(CvQualifiers)]),
+        Kind::CloseParenthesis => Some(&[
+            Do(Take),
+            Do(BeginQualifiers),
+            Expand(Types(CvQualifiers)),
+        ]),
         _ => None,
     }
 }
@@ -164,6 +187,6 @@ pub(crate) fn parameter(kind: Kind) -> Option<&'static [Symbol]>
 {
     match kind {
         Kind::Ellipsis => Some(&[Do(Take)]),
-        _ => Some(&[Expand(TypeId)]),
+        _ => Some(&[Expand(Types(TypeId))]),
     }
 }
