@@ -2,8 +2,9 @@
 """python3 too_large.py PROGRAM
 
 Runs PROGRAM over files that are too large to be kept as rows, each with one thing more than is allowed, and over its neighbour that has
-just as much as is allowed. It makes them while it runs, on a disk, where holes take no room. Behind each stands what it took. The last
-line is 'too large: N passed, M failed'."""
+just as much as is allowed; and over one with millions of ranges, of which no number is too many. It makes them while it runs, on a disk,
+where holes take no room. Behind each stands what it took. The last line is 'too large: N passed, M failed'."""
+import array
 import os
 import re
 import resource
@@ -19,6 +20,8 @@ import fault_pages  # noqa: E402
 from fuzzing.packed import pack  # noqa: E402
 
 UNITS, STRING, NAME, FILE = 16_777_215, 1 << 20, 1 << 24, 1 << 30
+# So many ranges of one unit have no limit of their own.
+RANGES = 4_000_001
 ASKED = ["ask", "--workers", "1", "A", "main"]
 # A unit of version 4 without an entry: its length, its version, its abbreviations, the size of an address. And one with an entry whose
 # code has no abbreviation.
@@ -115,14 +118,23 @@ def with_as_long_a_program(folder):
     return ASKED, (0, b"none\n")
 
 
+def with_many_ranges(folder):
+    """A unit of version 4 with a list of ranges, the highest first, each 8 bytes long and 8 apart; asked is the last byte of the last."""
+    ranges = array.array("Q", (number for low in range(16 * RANGES, 0, -16) for number in (low, low + 8))).tobytes()
+    table = b"\x01\x11\x00\x55\x17\x11\x01\x00\x00\x00"     # a compilation unit: its ranges in .debug_ranges, and its base
+    body = little(4, 2) + bytes(4) + b"\x08" + b"\x01" + bytes(4) + bytes(8)
+    write_program(folder, debug_info=little(len(body), 4) + body, debug_abbrev=table, debug_ranges=ranges + bytes(16))
+    return ["ask", "--workers", "1", "A", "addr", "17"], (0, b"unit 0\n")
+
+
 # Of each code that no row gives: what has one thing more than is allowed, and what has just as much.
 CASES = {
     22: (with_many_units, with_as_many_units),
     24: (with_a_long_string, with_a_long_name, with_as_long_a_string, with_as_long_a_name),
     82: (with_a_long_kept_index, with_as_long_a_kept_index),
 }
-# The same of a file that is no fault.
-FILES = (with_a_long_program, with_as_long_a_program)
+# The same of a file that is no fault, and what has no limit.
+FILES = (with_a_long_program, with_as_long_a_program, with_many_ranges)
 # So many bytes of addresses are enough for each: room is taken by what is there, and not by how long the file is.
 ADDRESSES = 16 << 30
 
