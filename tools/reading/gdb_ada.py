@@ -71,9 +71,9 @@ def decoded(name):
     suffix = SUFFIX.fullmatch(name)
     inner = _without_ends(suffix.group(1) if suffix else name)
     pieces = None if inner is None else _pieces(inner)
-    if not pieces:
+    if pieces is None:
         return None
-    return pieces + b"[" + suffix.group(2) + b"]" if suffix else pieces
+    return pieces + (b"[" + suffix.group(2) + b"]" if suffix else b"") or None
 
 
 def encoded(name):

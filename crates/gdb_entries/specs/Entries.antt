@@ -15,7 +15,7 @@ use Rattle.gdb_entries.specs.Owners.{owner_of, own_class}
 use Rattle.gdb_entries.specs.Chains.{facts_of, name_of, linkage_of, is_external}
 use Rattle.gdb_entries.specs.Reached.{is_seen}
 use Rattle.gdb_entries.specs.Scopes.{around_by}
-use Rattle.gdb_entries.specs.AdaNames.{encoded}
+use Rattle.ada_spelling.specs.AdaNames.{encoded}
 use Rattle.gdb_entries.specs.Names.{full_name}
 
 -- whether the names of an item are static by its own chain

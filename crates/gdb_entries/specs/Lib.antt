@@ -5,7 +5,6 @@ pub mod Owners
 pub mod Chains
 pub mod Reached
 pub mod Scopes
-pub mod AdaNames
 pub mod Names
 pub mod Entries
 pub mod MadeFile

@@ -9,7 +9,7 @@ use Rattle.gdb_entries.specs.Classes.{is_ada, separator_of, separator_text}
 use Rattle.gdb_entries.specs.Owners.{class_read}
 use Rattle.gdb_entries.specs.Chains.{name_of, is_scoped}
 use Rattle.gdb_entries.specs.Scopes.{scope_path}
-use Rattle.gdb_entries.specs.AdaNames.{decoded, encoded}
+use Rattle.ada_spelling.specs.AdaNames.{decoded, encoded}
 
 -- the name of an item by the class by which its unit is read
 abbrev pub name_read : Program → Located → Option (List ℕ)

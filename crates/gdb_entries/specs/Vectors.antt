@@ -5,7 +5,7 @@ use Rattle.index_model.specs.Program.{Program}
 use Rattle.index_model.specs.Faults.{program_of}
 use Rattle.index_model.specs.GdbIndex.{index_names, vector}
 use Rattle.gdb_entries.specs.Entries.{listed}
-use Rattle.gdb_entries.specs.AdaNames.{decoded, encoded}
+use Rattle.ada_spelling.specs.AdaNames.{decoded, encoded}
 
 -- of each name of a program, in byte order, its elements
 abbrev pub elements_of : Program → List (List ℕ × List ℕ)
