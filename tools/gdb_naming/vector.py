@@ -12,6 +12,7 @@ TOOLS = os.path.dirname(os.path.dirname(os.path.abspath(__file__)))
 sys.path.insert(0, TOOLS)
 
 from gdb_naming import compare          # noqa: E402
+from gdb_naming.ada import listed       # noqa: E402
 from generated import packed            # noqa: E402
 
 OUT = os.path.join(os.path.dirname(TOOLS), "crates", "gdb_entries", "specs", "MadeFile.antt")
@@ -96,22 +97,9 @@ def file_of(folder):
     return packed(2, [(name, _section(made, name)) for name in (".debug_abbrev", ".debug_info")])
 
 
-def ada_names(gdb, folder):
-    """How gdb lists some names of Ada, each in a unit of its own: in one gdb takes the scopes of names for each other's."""
-    source, made = os.path.join(folder, "ada.s"), os.path.join(folder, "ada")
-    with open(source, "w") as file:
-        file.write(" .section .debug_abbrev,\"\",@progbits\n .uleb128 1,0x11,1,0x13,0x0b,0,0,2,0x34,0,3,8,0x6e,8,0,0,0\n")
-        file.write(" .section .debug_info,\"\",@progbits\n")
-        for number, name in enumerate(ADA):
-            file.write(" .4byte 2f-1f\n1: .2byte 4\n .4byte 0\n .byte 8,1,0x0d,2\n")
-            file.write(" .asciz \"%s\"\n .asciz \"n%d\"\n .byte 0\n2:\n" % (name, number))
-    subprocess.run(["as", "-o", made, source], check=True)
-    of_unit = {}
-    for name, elements in compare.gdb_names(gdb, made).of.items():
-        for _, number, _ in elements:
-            if name != b"n%d" % number:
-                of_unit[number] = name
-    return [(name, of_unit[number].decode()) for number, name in enumerate(ADA)]
+def ada_names(gdb):
+    """How gdb lists some names of Ada."""
+    return list(zip(ADA, (name.decode() for name in listed(gdb, [name.encode() for name in ADA]))))
 
 
 def _numbers(data):
@@ -140,7 +128,7 @@ def main():
         file, path = file_of(folder), os.path.join(folder, "made")
         with open(path, "wb") as out:
             out.write(file)
-        names, ada = compare.gdb_names(sys.argv[1], path), ada_names(sys.argv[1], folder)
+        names, ada = compare.gdb_names(sys.argv[1], path), ada_names(sys.argv[1])
     with open(OUT, "w") as out:
         out.write(text_of(file, names, ada))
     print("%d bytes, %d names" % (len(file), len(names.of)))

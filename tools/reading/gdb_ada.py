@@ -61,15 +61,26 @@ def _pieces(name):
     return bytes(out)
 
 
-def decoded(name):
-    """The decoded name, or None where it isn't one of Ada's coding."""
+def _whole(name):
+    """The name without what stands before it."""
     name = name[1:] if name.startswith(b".") else name
     for prefix in (b"_ada_", b"___ghost_"):
         name = name[len(prefix):] if name.startswith(prefix) else name
+    return name
+
+
+def inner_part(name):
+    """What is left of a name between what stands around it and at its end, or None where it isn't one of Ada's coding."""
+    name = _whole(name)
     if name[:1] in (b"_", b"<", b""):
         return None
     suffix = SUFFIX.fullmatch(name)
-    inner = _without_ends(suffix.group(1) if suffix else name)
+    return _without_ends(suffix.group(1) if suffix else name)
+
+
+def decoded(name):
+    """The decoded name, or None where it isn't one of Ada's coding."""
+    inner, suffix = inner_part(name), SUFFIX.fullmatch(_whole(name))
     pieces = None if inner is None else _pieces(inner)
     if pieces is None:
         return None

@@ -1,4 +1,5 @@
-"""What the crate cxx_spelling makes of names: a program over it is made beside the repository, so that no gate has to prove it."""
+"""What the crates cxx_spelling and ada_spelling make of names: a program over one is made beside the repository, so that no gate has to
+prove it."""
 import os
 import shutil
 import subprocess
@@ -6,16 +7,33 @@ import sys
 import tempfile
 
 TOP = os.path.dirname(os.path.dirname(os.path.dirname(os.path.abspath(__file__))))
-CRATE = os.path.join(TOP, "crates", "cxx_spelling")
 BATCH = 48 << 20
-CRATES = "cxx_spelling:\nspelled_lines: cxx_spelling\n"
+# How a name is spelled by each crate.
+SPELLED = {
+    "cxx_spelling": """use cxx_spelling::spelling;
+use std::alloc::{AllocError, Global};
+
+fn spelled(alloc: Global, name: &[u8]) -> Result<Vec<u8>, AllocError> {
+    spelling(alloc, name)?.bytes().to_vec(alloc)
+}
+""",
+    "ada_spelling": """use ada_spelling::{decode, encode};
+use std::alloc::{AllocError, Global};
+
+fn spelled(alloc: Global, name: &[u8]) -> Result<Vec<u8>, AllocError> {
+    match decode(alloc, name)? {
+        Some(text) => encode(alloc, text.as_slice()),
+        None => encode(alloc, name),
+    }
+}
+""",
+}
 PROGRAM = """//! Writes the last line, and of each line, a name and a spelling, the name and its spelling where that is another one.
 #![tactic(auto)]
 
-use cxx_spelling::spelling;
 use std::io;
 use std::io::{BufReader, BufWriter, Read, Write};
-
+%s
 // What stands behind the last line's end.
 fn last_of(lines: &[u8]) -> &[u8] {
     lines.split(|b| *b == b'\\n').last().unwrap_or(lines)
@@ -33,11 +51,11 @@ fn main(rt: HostRuntime) -> io::Result<()> {
         let mut halves = line.split(|b| *b == b'\\t');
         let name = halves.next().unwrap_or(b"");
         let wanted = halves.next().unwrap_or(b"");
-        let spelled = spelling(alloc, name)?;
-        if spelled.bytes() != wanted {
+        let text = spelled(alloc, name)?;
+        if text.as_slice() != wanted {
             out.write_all(name)?;
             out.write_all(b"\\t")?;
-            out.write_all(spelled.bytes())?;
+            out.write_all(text.as_slice())?;
             out.write_all(b"\\n")?;
         }
     }
@@ -75,16 +93,16 @@ def batches(lines):
         yield batch
 
 
-def other_spellings(wanted):
-    """Of names with a spelling, those that are spelled otherwise, with that. No name has a tab or the end of a line in it."""
+def other_spellings(wanted, crate="cxx_spelling"):
+    """Of names with a spelling, those that a crate spells otherwise, with that. No name has a tab or the end of a line in it."""
     others = {}
     with tempfile.TemporaryDirectory() as folder:
         for part in ("src", "specs", "proofs"):
-            shutil.copytree(os.path.join(CRATE, part), os.path.join(folder, "crates", "cxx_spelling", part))
-        write(os.path.join(folder, "crates.txt"), CRATES)
+            shutil.copytree(os.path.join(TOP, "crates", crate, part), os.path.join(folder, "crates", crate, part))
+        write(os.path.join(folder, "crates.txt"), "%s:\nspelled_lines: %s\n" % (crate, crate))
         write(os.path.join(folder, "HANDLES"), "Handles allowed: none.\n")
         program = os.path.join(folder, "crates", "spelled_lines")
-        write(os.path.join(program, "src", "main.rt"), PROGRAM)
+        write(os.path.join(program, "src", "main.rt"), PROGRAM % SPELLED[crate])
         for batch in batches([name + b"\t" + spelling for name, spelling in wanted.items()]):
             others.update(answers_to(program, batch))
     return others
