@@ -1,6 +1,6 @@
 -- Where a text begins, and where the numbers at the end do, step by step.
-use Rattle.std.proofs.Common.{◌≡◌, ℕ, suc, ◌+◌, ◌-◌, ◌<◌, ◌≤◌, ◌∙◌, List, [], ◌∷◌, length, drop, refl, ap, arith}
-use Rattle.std.specs.Prelude.{Bool, true, false, if◌then◌else◌, Option, Some, None}
+use Rattle.std.proofs.Common.{◌≡◌, ℕ, suc, ◌+◌, ◌-◌, ◌<◌, ◌≤◌, List, [], ◌∷◌, length, drop, refl, ap, arith}
+use Rattle.std.specs.Prelude.{true, false, if◌then◌else◌, Some, None}
 use Rattle.std.proofs.lemmas.List.{drop_more, drop_all}
 use Rattle.ada_spelling.specs.Bytes.{begins_with}
 use Rattle.ada_spelling.specs.Ends.{place_from, is_of_numbers, numbers_start}

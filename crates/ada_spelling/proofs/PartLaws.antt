@@ -1,10 +1,9 @@
 -- The parts of a name, one by one.
-use Rattle.std.proofs.Common.{◌≡◌, ℕ, suc, ◌+◌, ◌-◌, ◌<◌, ◌∙◌, List, [], ◌∷◌, ◌++◌, length, take, refl, ap, sym, arith, append_assoc}
+use Rattle.std.proofs.Common.{◌≡◌, ℕ, suc, ◌+◌, ◌-◌, ◌<◌, List, [], ◌∷◌, ◌++◌, length, take, refl, ap, arith, append_assoc}
 use Rattle.std.specs.Prelude.{Option, Some, None, option_map, not}
 use Rattle.std.specs.List.{prefix_len}
 use Rattle.std.proofs.lemmas.List.{append-nil}
-use Rattle.ada_spelling.specs.declared.parts.Part.{Part}
-use Rattle.ada_spelling.specs.declared.parts.Part.TheVariants.{Ends, Refused, Gives}
+use Rattle.ada_spelling.specs.declared.parts.NamePart.TheVariants.{Ends, Refused, Gives}
 use Rattle.ada_spelling.specs.Bytes.{is_letter}
 use Rattle.ada_spelling.specs.Marks.{behind_marks}
 use Rattle.ada_spelling.specs.Parts.{part_at, with_more, parts_from, parts_of}

@@ -11,7 +11,7 @@ use std::alloc::{AllocError, Global};
 
 /// What a place of a name gives.
 #[derive(Clone, Copy)]
-pub(crate) enum Part {
+pub(crate) enum NamePart {
     /// The name ends there.
     Ends,
     /// The name isn't one of Ada's coding.
@@ -41,39 +41,39 @@ fn all_nesting(bytes: &[u8]) -> bool
 }
 
 // X with b and n alone behind it marks what is nested in packages.
-fn nested_part(rest: &[u8]) -> Part
+fn nested_part(rest: &[u8]) -> NamePart
     requires { 1 ≤ length rest.now }
     ensures { result ≡ nested_part rest.now }
 {
     if all_nesting(&rest[1..]) {
-        Part::Ends
+        NamePart::Ends
     } else {
-        Part::Refused
+        NamePart::Refused
     }
 }
 
 // `__` is a point.
-fn written_part(rest: &[u8], at: usize) -> Part
+fn written_part(rest: &[u8], at: usize) -> NamePart
     requires some { 1 ≤ length rest.now }
     requires fits { at + length rest.now < 2 ^ 64 }
     ensures { result ≡ written_part rest.now at }
 {
     if goes_on(rest) {
-        Part::Gives(b'.', at + 2)
+        NamePart::Gives(b'.', at + 2)
     } else {
-        Part::Gives(byte_at(rest, 0), at + 1)
+        NamePart::Gives(byte_at(rest, 0), at + 1)
     }
 }
 
 #[tactic(auto, unfolding(crate::specs::Parts::part_at))]
-fn part_at(name: &[u8], at: usize) -> Part
+fn part_at(name: &[u8], at: usize) -> NamePart
     requires { at ≤ length name.now }
     ensures value { result ≡ part_at name.now at }
     ensures within { GoesOnWithin (length name.now) result }
 {
     let (before, rest) = name.split_at(at);
     if rest.is_empty() {
-        Part::Ends
+        NamePart::Ends
     } else if is_nested(before, rest) {
         nested_part(rest)
     } else {
@@ -99,9 +99,9 @@ pub(crate) fn parts_of(alloc: Global, name: &[u8]) -> Result<Option<Vec<u8>>, Al
     text.extend_from_slice(&name[..at])?;
     for _given in 0..name.len() + 1 {
         match part_at(name, behind_marks(name, at)) {
-            Part::Ends => return Ok(Some(text)),
-            Part::Refused => return Ok(None),
-            Part::Gives(b, next) => {
+            NamePart::Ends => return Ok(Some(text)),
+            NamePart::Refused => return Ok(None),
+            NamePart::Gives(b, next) => {
                 text.push(b)?;
                 at = next;
             }
