@@ -53,8 +53,8 @@ class Speller:
 
     def learn(self, program):
         items = GdbNames(program, as_stands)
-        names = {(items.class_of(member), said.name) for offset, said in items.items.said.items() if said.name
-                 for member in (program.links.by_offset[offset],)}
+        names = {(items.class_of(program.links.by_offset[offset]), said.name or said.linkage)
+                 for offset, said in items.items.said.items() if said.name or said.linkage}
         asked = sorted({name for language_class, name in names if may_change(language_class, name)} - set(self.known))
         if not asked:
             return

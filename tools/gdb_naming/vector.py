@@ -24,28 +24,31 @@ ABBREVIATIONS = {
     "structure": (0x13, 1, "3 8"), "declared structure": (0x13, 1, "3 8 0x3c 0x19"), "completed": (0x13, 1, "0x47 0x13"),
     "scoped": (0x04, 1, "3 8 0x6d 0x19"), "enumeration": (0x04, 1, ""), "enumerator": (0x28, 0, "3 8"),
     "method": (0x2E, 0, "3 8 0x3f 0x19 0x3c 0x19"), "body": (0x2E, 0, "0x47 0x13"),
-    "instance": (0x2E, 0, "0x31 0x13"), "called": (0x2E, 0, "0x6e 8"),
+    "far body": (0x2E, 0, "0x47 0x10"), "instance": (0x2E, 0, "0x31 0x13"), "called": (0x2E, 0, "0x6e 8"),
     "function": (0x2E, 1, "3 8 0x6e 8"), "local": (0x2E, 1, "3 8"), "block": (0x0B, 1, ""),
     "variable": (0x34, 0, "3 8"), "outside": (0x34, 0, "3 8 0x3f 0x19 0x3c 0x19"), "declared": (0x34, 0, "3 8 0x3c 0x19"),
-    "module": (0x1E, 1, "3 8"), "entry": (0x03, 0, "3 8"), "type": (0x24, 0, "3 8"),
+    "symbol": (0x34, 0, "0x6e 8"), "module": (0x1E, 1, "3 8"), "entry": (0x03, 0, "3 8"), "type": (0x24, 0, "3 8"),
 }
 ADA = """demo _ada_demo a__b__c a__b__c__2 pkg__proc$2 a__b.5 worker__taskTKB workerTB bodyB a__getN a__putP a__b___XR12 a__b___Y12
     a__B_1__inner a__B_22 a__wait_E28b a__wait__B27s a__tTK__e aXb a__bXn Xb a__lineX __line <a .a__b ___ghost_a__b a__b.cold a__1__2 a__x1_2
     a__N__b a__bN__c a__ a Oadd a__Oadd 9__b a__12_3""".split()
 CODES = {name: code for code, name in enumerate(ABBREVIATIONS, 1)}
-# Each unit as the lines of its tree: what the item is, its texts and what it refers to; `-` ends the children of an item.
+# Each unit as the lines of its tree: what the item is, its texts, with `~` for a blank, and what it refers to; `-` ends the children of an
+# item.
 UNITS = [
     ("Cxx", """unit 4|import =Partial|namespace n|structure s|Method: method m|scoped e|enumerator a|-|enumeration|enumerator b|-|-
         |nameless|variable v|-|-|Body: body @Method|instance @Body|outside x|declared y|called _Z1gv|function f _Z1fv|variable inner|-
-        |declared namespace d|declared structure t|Inner: declared structure u|-|-|-|completed @Inner|enumerator z|-|-"""),
+        |declared namespace d|declared structure t|Inner: declared structure u|-|-|-|completed @Inner|enumerator z|-
+        |type long~unsigned~int|structure Box<long~unsigned~int>|local get|-|-|far body @Far|called o(short~int)|symbol _ZL1q|-"""),
     ("Rust", "unit 0x1c|namespace core|namespace fmt|structure Formatter|local pad|-|-|-|-|-"),
     ("Ada", """unit 0x0d|local _ada_demo|variable kept|block|function demo__add__2 demo__add__2|function odd___Y odd|-|-|-|-
-        |variable shapes__made|variable Odd__x|-"""),
+        |variable shapes__made|variable Odd__x|called shapes__only__2|-"""),
     ("Fortran", "unit 8|module shapes|function area __shapes_MOD_area|entry again|-|type real|-|-"),
-    ("C", "unit 0x0c|structure point|enumerator hidden|-|function main main|-|-"),
+    ("C", """unit 0x0c|structure point|enumerator hidden|-|function main main|-|type short~unsigned~int|type Box<unsigned>|called char~unsigned
+        |function k short~int|-|symbol q|namespace n<unsigned>|Far: method far|-|-"""),
     ("D", "unit 0x13|module demo|structure Point|local sum|variable n|-|-|-|-"),
     ("Go", "made 1_GNU_Go_12|structure main.T|local F|-|-|-"),
-    ("Partial", "partial|import =Other|structure shared|variable within|-|-"),
+    ("Partial", "partial|import =Other|structure shared<short~int>|variable within|-|-"),
     ("Other", "partial|structure further|-|-"),
     ("Alone", "partial|structure unread|-|-"),
 ]
@@ -65,7 +68,7 @@ def _item(line, unit):
         elif word[0] in "=@":
             lines.append(" .4byte %s - %s" % (("I" + word[1:], "Cxx") if word[0] == "@" else (word[1:] + "R", "Cxx")))
         else:
-            lines.append(" .asciz \"%s\"" % word)
+            lines.append(" .asciz \"%s\"" % word.replace("~", " "))
     return ("I%s:\n" % label if colon else "") + "\n".join(lines)
 
 

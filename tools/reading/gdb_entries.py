@@ -89,6 +89,13 @@ class GdbNames:
                 break
         return b".".join(pieces[::-1])
 
+    def _only_name(self, language_class, linkage):
+        """A linkage name that is taken for a name: it is spelled as names are, and in Ada decoded."""
+        if language_class == ADA:
+            decoded = gdb_ada.decoded(linkage)
+            return gdb_ada.encoded(linkage if decoded is None else decoded)
+        return self.spelled(language_class, linkage)
+
     def _is_static(self, item):
         if item.tag == gdb_rules.ENTRY_POINT:
             return self._is_static(self.items.around[item.offset])
@@ -105,7 +112,7 @@ class GdbNames:
         if linkage is None:
             return
         if said.name is None and item.tag in gdb_rules.CALLED:
-            yield Entry(item, unit, static, False, linkage)
+            yield Entry(item, unit, static, False, self._only_name(language_class, linkage))
         elif language_class != CXX:
             yield Entry(item, unit, static, True, gdb_ada.encoded(linkage) if language_class == ADA else linkage)
 

@@ -1,22 +1,22 @@
 -- The list of entries of a file (gdb/dwarf2/read.c, index_dies; index-write.c, write_cooked_index).
-use Rattle.std.specs.Prelude.{ℕ, Bool, true, false, not, ◌&&◌, ◌==◌, if◌then◌else◌, List, [], ◌∷◌, ◌++◌, map, flat_map, filter, is_some, Option, Some, None, option_to_list}
-use Rattle.std.specs.Option.{option_or}
+use Rattle.std.specs.Prelude.{ℕ, Bool, true, false, ◌==◌, if◌then◌else◌, List, [], ◌∷◌, ◌++◌, map, flat_map, filter, Option, Some, None, option_to_list}
 use Rattle.index_model.specs.declared.entry.Entry.{Entry}
 use Rattle.index_model.specs.declared.entry.Kind.{Kind}
 use Rattle.index_model.specs.Meaning.{value_of}
-use Rattle.index_model.specs.Tags.{is_one_of}
 use Rattle.index_model.specs.Program.{Program, Walked, Located, located}
 use Rattle.index_model.specs.Faults.{program_of}
 use Rattle.gdb_entries.specs.declared.language.LanguageClass.{LanguageClass}
-use Rattle.gdb_entries.specs.Classes.{is_ada, is_cxx}
+use Rattle.gdb_entries.specs.Classes.{is_ada}
+use Rattle.gdb_entries.specs.Components.{spelled}
+use Rattle.gdb_entries.specs.ItemNames.{SecondName, OnlyName, Linkage, item_names}
 use Rattle.gdb_entries.specs.Kinds.{kinds_of, kinds_in}
-use Rattle.gdb_entries.specs.Rules.{gives_scope_alone, is_static, entry_point}
+use Rattle.gdb_entries.specs.Rules.{is_static, entry_point}
 use Rattle.gdb_entries.specs.Owners.{owner_of, own_class}
 use Rattle.gdb_entries.specs.Chains.{facts_of, name_of, linkage_of, is_external}
 use Rattle.gdb_entries.specs.Reached.{is_seen}
 use Rattle.gdb_entries.specs.Scopes.{around_by}
 use Rattle.ada_spelling.specs.AdaNames.{encoded}
-use Rattle.gdb_entries.specs.Names.{full_name}
+use Rattle.gdb_entries.specs.Names.{ada_name, full_name}
 
 -- whether the names of an item are static by its own chain
 abbrev pub is_static_itself : Program → LanguageClass → Located → Bool
@@ -45,31 +45,17 @@ entry_as owner d static linkage name kind = record {
   tail = 0;
 }
 
--- subprogram, inlined subroutine and entry point are listed by a linkage name alone
-abbrev pub is_called : ℕ → Bool
-is_called = is_one_of (0x2E ∷ 0x1D ∷ 0x03 ∷ [])
-
--- the linkage name of an item with this name; in Ada the name is one where there is no other
-abbrev pub linkage_name : Program → LanguageClass → Located → Option (List ℕ) → Option (List ℕ)
-linkage_name p class d name = option_or (linkage_of p d) (if is_ada class then name else None)
-
--- a linkage name as it is listed
-abbrev pub linkage_text : LanguageClass → List ℕ → List ℕ
-linkage_text class name = if is_ada class then encoded name else name
-
--- the second name of an item: whether it is a linkage entry, and its text
-abbrev pub second_name : LanguageClass → Located → Option (List ℕ) → Option (List ℕ) → List (Bool × List ℕ)
-second_name class d name None = []
-second_name class d name (Some linkage) =
-    if not (is_some name) && is_called d.item.tag then (false, linkage) ∷ [] else
-    if is_cxx class then [] else (true, linkage_text class linkage) ∷ []
+-- A second name as it is listed: whether it is that of a linkage entry, and its text. An only name is spelled as names are, a linkage
+-- name isn't.
+abbrev pub second_listed : LanguageClass → SecondName → Bool × List ℕ
+second_listed class (OnlyName name) = (false, if is_ada class then ada_name (name ∷ []) else spelled class name)
+second_listed class (Linkage name) = (true, if is_ada class then encoded name else name)
 
 -- the names of an item that is looked at
 unfoldable pub names_of : Program → LanguageClass → Located → List (Bool × List ℕ)
 names_of p class d =
-    let name = name_of p class d in
-    let own = map (λ n. (false, full_name p class d n)) (option_to_list name) in
-    if gives_scope_alone (facts_of d.item) && not (is_ada class) then [] else own ++ second_name class d name (linkage_name p class d name)
+    let names = item_names class (facts_of d.item) (name_of p class d) (linkage_of p d) in
+    map (λ name. (false, full_name p class d name)) (option_to_list names.name) ++ map (second_listed class) (option_to_list names.second)
 
 -- the entries of an item that is looked at: each name under each kind of its tag
 unfoldable pub entries_of_item : Program → Walked → LanguageClass → Located → List Entry

@@ -5,6 +5,8 @@ pub mod Owners
 pub mod Chains
 pub mod Reached
 pub mod Scopes
+pub mod Components
+pub mod ItemNames
 pub mod Names
 pub mod Entries
 pub mod MadeFile

@@ -2,9 +2,11 @@
 //! `abbrev_table::read`; read.c, `scan_attributes` and `index_dies`).
 
 ghost use Rattle.std.specs.Prelude.{◌≡◌};
+ghost use Rattle.gdb_entries.specs.Components.{gives_component};
+ghost use Rattle.gdb_entries.specs.ItemNames.{is_called};
 ghost use Rattle.gdb_entries.specs.Rules.{counts, gives_scope_alone, is_declared, is_declared_scope, is_allowed_in, is_static, opens, has_local_subprograms, is_shared_in_cxx, may_be_nameless};
 
-use crate::codes::{DW_TAG_entry_point, DW_TAG_module};
+use crate::codes::{DW_TAG_entry_point, DW_TAG_inlined_subroutine, DW_TAG_module};
 use crate::kinds::kinds_of;
 use crate::language::LanguageClass;
 use dwarf_codes::tag::{
@@ -96,6 +98,24 @@ fn has_local_subprograms(class: LanguageClass) -> bool
     ensures { result ≡ has_local_subprograms class }
 {
     matches!(class, LanguageClass::Ada | LanguageClass::Fortran)
+}
+
+/// Whether an open item on the scope path of another gives a component to its name, if it has a name itself. The enumerators
+/// of an enumeration that isn't scoped take its scope.
+pub fn gives_component(tag: u64, scoped: bool) -> bool
+    ensures { result ≡ gives_component tag scoped }
+{
+    tag != DW_TAG_enumeration_type || scoped
+}
+
+/// Whether an item with this tag is listed by its linkage name where it has no other name.
+pub fn is_called(tag: u64) -> bool
+    ensures { result ≡ is_called tag }
+{
+    matches!(
+        tag,
+        DW_TAG_subprogram | DW_TAG_inlined_subroutine | DW_TAG_entry_point
+    )
 }
 
 /// Whether the names of an item are static: they count in its own unit alone. An entry point is as its subprogram.

@@ -14,7 +14,10 @@ mod language;
 mod separator;
 pub mod vectors;
 
-pub use item::{ItemFacts, counts, gives_scope_alone, is_allowed_in, is_static, opens};
+pub use item::{
+    ItemFacts, counts, gives_component, gives_scope_alone, is_allowed_in, is_called, is_static,
+    opens,
+};
 pub use kinds::{Kinds, kinds_of};
 pub use language::{LanguageClass, class};
 pub use separator::{Separator, separator_of};
