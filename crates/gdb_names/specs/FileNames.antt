@@ -1,0 +1,36 @@
+-- How the names of a file's items are made of what this crate gives.
+use Rattle.std.specs.Prelude.{◌≡◌, ℕ, false, List, ◌++◌, map, reverse, filter_map, option_to_list, Some}
+use Rattle.index_model.specs.Program.{Program, Located}
+use Rattle.gdb_entries.specs.declared.language.LanguageClass.{LanguageClass}
+use Rattle.gdb_entries.specs.Classes.{is_ada}
+use Rattle.gdb_entries.specs.Components.{spelled, component_of, behind_scope}
+use Rattle.gdb_entries.specs.ItemNames.{ItemNames, item_names}
+use Rattle.gdb_entries.specs.Owners.{class_read}
+use Rattle.gdb_entries.specs.Chains.{facts_of, name_of, linkage_of, is_scoped}
+use Rattle.gdb_entries.specs.Scopes.{scope_path}
+use Rattle.gdb_entries.specs.Names.{component, full_name}
+use Rattle.gdb_entries.specs.Entries.{second_listed, names_of}
+
+-- a member of a path gives the component that its own unit's class says
+abbrev pub ComponentsAreOfTheirUnits : Type 0
+ComponentsAreOfTheirUnits =
+    (p : Program) (class : LanguageClass) (e : Located) → class_read p e.home ≡ Some class →
+    component p e ≡ component_of class e.item.tag (is_scoped p e) (name_of p class e)
+
+-- the full name of an item that isn't in a unit of Ada is its spelled name behind the components of its path
+abbrev pub FullNamesStandBehindPaths : Type 0
+FullNamesStandBehindPaths =
+    (p : Program) (class : LanguageClass) (d : Located) (name : List ℕ) → is_ada class ≡ false →
+    full_name p class d name ≡ behind_scope class (reverse (filter_map (component p) (scope_path p d))) (spelled class name)
+
+-- the names that an item has
+abbrev pub names_in : Program → LanguageClass → Located → ItemNames
+names_in p class d = item_names class (facts_of d.item) (name_of p class d) (linkage_of p d)
+
+-- it is listed by its full name, and by its second one
+abbrev pub ItemsAreListedByBoth : Type 0
+ItemsAreListedByBoth =
+    (p : Program) (class : LanguageClass) (d : Located) →
+    names_of p class d
+    ≡ map (λ name. (false, full_name p class d name)) (option_to_list (names_in p class d).name)
+    ++ map (second_listed class) (option_to_list (names_in p class d).second)

@@ -1,0 +1,43 @@
+//! The components of names, each spelled by the class by which its own unit is read.
+
+ghost use Rattle.std.specs.Prelude.{◌≡◌, IfOk, option_map};
+ghost use Rattle.cxx_spelling.specs.Spelling.{IsSpelledAs, spelling_bytes};
+ghost use Rattle.gdb_entries.specs.Components.{spelled, component_of};
+ghost use Rattle.gdb_names.specs.Seen.{bytes_of};
+
+use cxx_spelling::{SpelledName, c_spelling, spelling};
+use gdb_entries::{LanguageClass, gives_component};
+use std::alloc::{AllocError, Global};
+
+/// A name as gdb spells it in a unit of this class: those of C and C++ anew, others as they stand. It is lent where nothing
+/// changes.
+pub fn spelled<'n>(
+    alloc: Global,
+    class: LanguageClass,
+    name: &'n [u8],
+) -> Result<SpelledName<'n>, AllocError>
+    ensures { IfOk result (IsSpelledAs (spelled class name.now) name.now) }
+{
+    match class {
+        LanguageClass::C => c_spelling(alloc, name),
+        LanguageClass::Cxx => spelling(alloc, name),
+        _ => Ok(SpelledName::Lent(name)),
+    }
+}
+
+/// What a member of a scope path gives to names, by the class of its own unit and not by that of the item whose name it is:
+/// nothing where it has no name, or is an enumeration that isn't scoped.
+pub fn component<'n>(
+    alloc: Global,
+    class: LanguageClass,
+    tag: u64,
+    scoped: bool,
+    name: Option<&'n [u8]>,
+) -> Result<Option<SpelledName<'n>>, AllocError>
+    ensures { IfOk result (λ component. option_map spelling_bytes component ≡ component_of class tag scoped (bytes_of name.entry)) }
+{
+    match name {
+        Some(name) if gives_component(tag, scoped) => Ok(Some(spelled(alloc, class, name)?)),
+        _ => Ok(None),
+    }
+}
