@@ -8,11 +8,11 @@ by_suffix : (b : ℕ) (bs : List ℕ) → opens_suffix b bs ≡ true → encoded
 unfolding encoded
 by_suffix b bs e = rw e refl
 
-by_byte : (b : ℕ) (bs : List ℕ) → opens_suffix b bs ≡ false → encoded (b ∷ bs) ≡ encoded_byte b ++ encoded bs
+pub by_byte : (b : ℕ) (bs : List ℕ) → opens_suffix b bs ≡ false → encoded (b ∷ bs) ≡ encoded_byte b ++ encoded bs
 unfolding encoded
 by_byte b bs e = rw e refl
 
-of_nothing : encoded [] ≡ []
+pub of_nothing : encoded [] ≡ []
 unfolding encoded
 of_nothing = refl
 

@@ -11,11 +11,11 @@ found : (text : List ℕ) (at b : ℕ) (bs : List ℕ) → begins_with text (b �
 unfolding place_from
 found text at b bs e = rw e refl
 
-later : (text : List ℕ) (at b : ℕ) (bs : List ℕ) → begins_with text (b ∷ bs) ≡ false → place_from text at (b ∷ bs) ≡ place_from text (at + 1) bs
+pub later : (text : List ℕ) (at b : ℕ) (bs : List ℕ) → begins_with text (b ∷ bs) ≡ false → place_from text at (b ∷ bs) ≡ place_from text (at + 1) bs
 unfolding place_from
 later text at b bs e = rw e refl
 
-nowhere : (text : List ℕ) (at : ℕ) → place_from text at [] ≡ None
+pub nowhere : (text : List ℕ) (at : ℕ) → place_from text at [] ≡ None
 unfolding place_from
 nowhere text at = refl
 

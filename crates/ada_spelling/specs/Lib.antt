@@ -4,3 +4,4 @@ pub mod Ends
 pub mod Marks
 pub mod Parts
 pub mod AdaNames
+pub mod PlainNames

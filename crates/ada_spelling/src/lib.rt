@@ -18,8 +18,10 @@ mod bytes;
 mod decoding;
 mod encoding;
 mod ends;
+mod laws;
 mod marks;
 mod parts;
 
 pub use decoding::decode;
 pub use encoding::encode;
+pub use laws::plain_names_come_back;
