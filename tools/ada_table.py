@@ -2,7 +2,7 @@
 """Names of Ada with the form in which gdb 13 lists them in an index that it writes (crates/spelling_tests/tables/ada_names.txt).
 
     ada_table.py           compares the table with what ada_spelling makes of its names, and with what gdb does where it is gdb 13
-    ada_table.py --write   makes the table anew, by gdb alone
+    ada_table.py --write   makes the table anew, by gdb and by the rules as tools/reading has them, not by ada_spelling
     ada_table.py --made COUNT SEED     compares ours with gdb over so many names that are made by chance
 
 A line of the table is a name, a tab and gdb's form. Where ours is another one, since gdb goes by an error, a second tab and ours follow: gdb
@@ -29,8 +29,8 @@ RULES = os.path.join(TOOLS, "spelling", "ada_rule_names.txt")
 MADE, REAL = 1200, 300
 # What gdb has of a name that it takes for GNAT's coding of a wide character, as gdb 13 does, or of an operator: neither is in the definition.
 CODED = re.compile(rb"U[0-9a-f]{2}|W[0-9a-f]{4}|\"|[^\x20-\x7e]")
-# At the end of what is left of a name: there gdb copies a byte of what it has cut off.
-MARKED = re.compile(rb".*(?:_E[0-9]+[bs]|(?:^|__)[0-9a-z]*N)", re.DOTALL)
+# At the end of what is left of a name: there gdb looks at what it has cut off, or copies a byte of it.
+MARKED = re.compile(rb".*(?:_E[0-9]+[bs]|(?:^|__)[0-9a-z]*N_?)", re.DOTALL)
 SHOWN = 40
 
 
