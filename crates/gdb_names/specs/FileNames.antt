@@ -1,5 +1,5 @@
 -- How the names of a file's items are made of what this crate gives.
-use Rattle.std.specs.Prelude.{◌≡◌, ℕ, false, List, ◌++◌, map, reverse, filter_map, option_to_list, Some}
+use Rattle.std.specs.Prelude.{◌≡◌, ℕ, false, List, [], ◌++◌, map, reverse, filter_map, option_to_list, Some}
 use Rattle.index_model.specs.Program.{Program, Located}
 use Rattle.gdb_entries.specs.declared.language.LanguageClass.{LanguageClass}
 use Rattle.gdb_entries.specs.Classes.{is_ada}
@@ -22,6 +22,11 @@ abbrev pub FullNamesStandBehindPaths : Type 0
 FullNamesStandBehindPaths =
     (p : Program) (class : LanguageClass) (d : Located) (name : List ℕ) → is_ada class ≡ false →
     full_name p class d name ≡ behind_scope class (reverse (filter_map (component p) (scope_path p d))) (spelled class name)
+
+-- What stands before a name in a scope is the same for each name there: it can be formed once, of an empty name.
+abbrev pub FrontsStandBeforeNames : Type 0
+FrontsStandBeforeNames =
+    (class : LanguageClass) (components : List (List ℕ)) (name : List ℕ) → behind_scope class components name ≡ behind_scope class components [] ++ name
 
 -- the names that an item has
 abbrev pub names_in : Program → LanguageClass → Located → ItemNames

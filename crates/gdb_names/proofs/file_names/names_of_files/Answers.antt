@@ -1,11 +1,13 @@
 use Rattle.std.proofs.Common.{◌∷◌, Bool, reverse, filter_map, refl, ap}
 use Rattle.std.specs.Prelude.{if◌then◌else◌, option_and_then}
 use Rattle.gdb_entries.specs.declared.language.LanguageClass.{LanguageClass}
+use Rattle.gdb_entries.specs.Classes.{separator_of}
 use Rattle.gdb_entries.specs.Components.{spelled, component_of, behind_scope}
 use Rattle.gdb_entries.specs.Chains.{name_of, is_scoped}
 use Rattle.gdb_entries.specs.Scopes.{scope_path}
 use Rattle.gdb_entries.specs.Names.{component, full_name, ada_name}
 use Rattle.gdb_entries.specs.Entries.{names_of}
+use Rattle.gdb_names.proofs.JoinLaws.{front}
 use Rattle.gdb_names.proofs.file_names.names_of_files.Goals as goal
 
 pub returns-clause-components : goal.returns-clause-components
@@ -17,6 +19,9 @@ unfolding full_name
 returns-clause-full c p class d name h =
     let components = filter_map (component p) (scope_path p d) in
     ap (λ (b : Bool). if b then ada_name (name ∷ components) else behind_scope class (reverse components) (spelled class name)) h
+
+pub returns-clause-fronts : goal.returns-clause-fronts
+returns-clause-fronts c class components name = front (separator_of class) components name
 
 pub returns-clause-listed : goal.returns-clause-listed
 unfolding names_of
