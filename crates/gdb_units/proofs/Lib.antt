@@ -1,0 +1,12 @@
+mod AnyLaws
+mod LeadsLaws
+mod ClaimLaws
+mod SpreadLaws
+mod OwnedLaws
+mod TargetLaws
+mod RootLaws
+mod EdgeLaws
+mod OwnerLaws
+mod GoLaws
+mod FoundLaws
+mod PointLaws
