@@ -1,3 +1,4 @@
 pub mod WayLaws
 pub mod NextLaws
 pub mod StandLaws
+pub mod RunLaws

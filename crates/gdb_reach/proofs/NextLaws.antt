@@ -11,7 +11,7 @@ use Rattle.common_laws.proofs.Filters.{filter_agree, filter_none, filter_both}
 use Rattle.common_laws.proofs.Booleans.{first_off, first_on}
 use Rattle.index_model.specs.declared.shard.Span.{Span}
 use Rattle.index_model.specs.Walk.{Item, parent_of}
-use Rattle.index_model.specs.Program.{Walked, Located, items_of, scope_around}
+use Rattle.index_model.specs.Program.{Walked, items_of, scope_around}
 use Rattle.index_model.specs.ShardParts.{span_of}
 use Rattle.index_model.specs.LawsOrder.{IsInOrder, HasParent}
 use Rattle.index_model.proofs.ParentLaws.{Rise, rise_below}

@@ -1,6 +1,5 @@
 -- A state that stands for the passed items answers for the next one as the definitions do, and stands for it too behind it.
-use Rattle.std.proofs.Common.{◌≡◌, ℕ, zero, suc, ◌+◌, Bool, true, false, cond, eqb, ◌&&◌, List, [], ◌∷◌, ◌++◌, filter, Option, Some, None, option_map, is_some, refl, sym, ap, ◌∙◌, arith, ⊎_elim}
-use Rattle.std.specs.List.{last_or}
+use Rattle.std.proofs.Common.{◌≡◌, ℕ, zero, suc, ◌+◌, Bool, true, false, cond, eqb, ◌&&◌, List, [], ◌∷◌, ◌++◌, Option, Some, None, option_map, refl, sym, ap, ◌∙◌, arith, ⊎_elim}
 use Rattle.std.proofs.lemmas.Bool.{eq-eqb, ne_eqb, cases_eq}
 use Rattle.common_laws.proofs.Booleans.{first_off, first_on, second_off}
 use Rattle.index_model.specs.Walk.{Item}
@@ -10,7 +9,7 @@ use Rattle.gdb_entries.specs.declared.language.LanguageClass.{LanguageClass}
 use Rattle.gdb_entries.specs.declared.item.ItemFacts.{ItemFacts}
 use Rattle.gdb_entries.specs.Rules.{opens}
 use Rattle.gdb_entries.specs.Chains.{facts_of}
-use Rattle.gdb_entries.specs.Reached.{Reach, reach_under, reach_at, reach_of, is_seen, is_open, is_seen_from, is_open_from, below}
+use Rattle.gdb_entries.specs.Reached.{Reach, reach_under, reach_at, reach_of, is_seen, is_open}
 use Rattle.gdb_reach.specs.declared.state.Reached.{Reached}
 use Rattle.gdb_reach.specs.declared.state.Look.{Look}
 use Rattle.gdb_reach.specs.declared.way.Way.{Way}

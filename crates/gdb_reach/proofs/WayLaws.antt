@@ -1,5 +1,5 @@
 -- What is kept of a reach answers as the reach does.
-use Rattle.std.proofs.Common.{◌≡◌, ℕ, Bool, true, false, cond, eqb, not, ◌&&◌, ◌||◌, Option, Some, None, option_map, is_some, refl, sym, ap, ◌∙◌}
+use Rattle.std.proofs.Common.{◌≡◌, ℕ, Bool, true, false, cond, eqb, not, ◌&&◌, ◌||◌, Option, Some, None, option_map, is_some, refl, ap, ◌∙◌}
 use Rattle.index_model.specs.Tags.{subprogram}
 use Rattle.index_model.specs.Program.{Program, Located}
 use Rattle.gdb_entries.specs.declared.language.LanguageClass.{LanguageClass}

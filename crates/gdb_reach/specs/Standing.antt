@@ -1,5 +1,5 @@
 -- What a state on a walk over a unit stands for.
-use Rattle.std.specs.Prelude.{◌≡◌, ℕ, Bool, true, ◌&&◌, ◌==◌, List, ◌∷◌, ◌++◌, filter, is_some, Option, Some, None, Ok, option_map}
+use Rattle.std.specs.Prelude.{◌≡◌, ℕ, Bool, true, ◌&&◌, ◌==◌, List, ◌∷◌, ◌++◌, filter, is_some, Option, None, Ok, option_map}
 use Rattle.std.specs.List.{last_or}
 use Rattle.index_model.specs.declared.unit.Unit.{Unit as UnitHeader}
 use Rattle.index_model.specs.Sections.{Section}

@@ -5,7 +5,9 @@
 //! files.
 #![tactic(auto)]
 
+mod run;
 mod state;
 mod way;
 
+pub use run::{Answer, ToldItem, answers};
 pub use state::{Look, Reached};

@@ -1,4 +1,4 @@
-use Rattle.std.proofs.Common.{◌≡◌, refl}
+use Rattle.std.proofs.Common.{refl}
 use Rattle.gdb_reach.proofs.StandLaws.{answers, enters, passes}
 use Rattle.gdb_reach.proofs.state.Reached.enter.Goals as goal
 

@@ -1,4 +1,3 @@
-use Rattle.std.proofs.Common.{◌≡◌}
 use Rattle.gdb_reach.proofs.StandLaws.{looks}
 use Rattle.gdb_reach.proofs.state.Reached.look.Goals as goal
 
