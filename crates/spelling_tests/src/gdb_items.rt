@@ -11,6 +11,7 @@ use std::process::Abort;
 use std::test::Fail;
 
 const ENTRY_POINT: u64 = 0x03;
+
 const LEXICAL_BLOCK: u64 = 0x0b;
 
 // An item: its depth, its tag, and whether it has children and a name.
@@ -28,7 +29,10 @@ const ADA: &[(Row, Done)] = &[
     ((3, DW_TAG_variable, false, true), (false, Some(1), false)),
     ((3, DW_TAG_subprogram, false, true), (true, Some(1), false)),
     // An entry point is looked at in a subprogram, also in a type there that isn't.
-    ((2, DW_TAG_structure_type, true, true), (false, Some(1), false)),
+    (
+        (2, DW_TAG_structure_type, true, true),
+        (false, Some(1), false),
+    ),
     ((3, ENTRY_POINT, false, true), (true, Some(1), false)),
     // Behind the subprogram nothing is left of it.
     ((1, DW_TAG_variable, false, true), (true, None, false)),
@@ -45,7 +49,10 @@ const ADA: &[(Row, Done)] = &[
 const C: &[(Row, Done)] = &[
     ((0, DW_TAG_compile_unit, true, true), (false, None, false)),
     ((1, DW_TAG_structure_type, true, true), (true, None, false)),
-    ((2, DW_TAG_structure_type, false, true), (false, None, false)),
+    (
+        (2, DW_TAG_structure_type, false, true),
+        (false, None, false),
+    ),
     ((1, DW_TAG_subprogram, true, true), (true, None, false)),
     ((2, DW_TAG_subprogram, false, true), (false, None, false)),
     ((1, DW_TAG_variable, false, true), (true, None, false)),
