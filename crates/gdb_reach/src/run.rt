@@ -3,7 +3,7 @@
 ghost use Rattle.std.specs.Prelude.{◌≡◌, ◌++◌, ◌∷◌, [], List, map, filter, Bool, IfOk, OnOk};
 ghost use Rattle.index_model.specs.Walk.{Item};
 ghost use Rattle.index_model.specs.Program.{items_of};
-ghost use Rattle.gdb_reach.specs.Standing.{UnitRead, StandsFor, ComesBehind, IsOfAFile, in_unit};
+ghost use Rattle.gdb_reach.specs.Standing.{UnitRead, StandsFor, ComesBehind, IsOfAFile};
 ghost use Rattle.gdb_reach.specs.Runs.{IsToldOf, AreTold, KeepsParents, answer_of};
 
 use crate::state::{Look, Reached};

@@ -1,6 +1,6 @@
 //! A walk over the items of a unit.
 
-ghost use Rattle.std.specs.Prelude.{◌≡◌, ◌&&◌, ◌++◌, ◌∷◌, [], List, IfOk, OnOk, OnErr, ℕ};
+ghost use Rattle.std.specs.Prelude.{◌≡◌, ◌&&◌, ◌++◌, ◌∷◌, [], List, IfOk, OnOk, OnErr};
 ghost use Rattle.index_model.specs.Walk.{Item};
 ghost use Rattle.gdb_entries.specs.Reached.{is_open};
 ghost use Rattle.gdb_entries.specs.Rules.{opens};

@@ -1,6 +1,6 @@
 //! How gdb comes to an item (gdb/dwarf2/read.c, `index_dies`).
 
-ghost use Rattle.std.specs.Prelude.{◌≡◌, OnOk, OnErr, option_map, if◌then◌else◌, ◌==◌, ℕ};
+ghost use Rattle.std.specs.Prelude.{◌≡◌, OnOk, OnErr, if◌then◌else◌, ◌==◌, ℕ};
 ghost use Rattle.gdb_reach.specs.Ways.{is_looked_at, leads_inside, way_on, way_at};
 
 use dwarf_codes::tag::DW_TAG_subprogram;
