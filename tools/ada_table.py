@@ -1,5 +1,5 @@
 #!/usr/bin/env python3
-"""Names of Ada with the form in which gdb 13 lists them in an index that it writes (crates/spelling_tests/tables/ada_names.txt).
+"""Names of Ada with the form in which gdb 13 lists them in an index that it writes (crates/gdb_tests/tables/ada_names.txt).
 
     ada_table.py           compares the table with what ada_spelling makes of its names, and with what gdb does where it is gdb 13
     ada_table.py --write   makes the table anew, by gdb and by the rules as tools/reading has them, not by ada_spelling
@@ -24,7 +24,7 @@ from spelling.our_answers import other_spellings
 from spelling_table import is_gdb_13, lines_of, told
 
 TOOLS = os.path.dirname(os.path.abspath(__file__))
-TABLE = os.path.join(os.path.dirname(TOOLS), "crates", "spelling_tests", "tables", "ada_names.txt")
+TABLE = os.path.join(os.path.dirname(TOOLS), "crates", "gdb_tests", "tables", "ada_names.txt")
 RULES = os.path.join(TOOLS, "spelling", "ada_rule_names.txt")
 MADE, REAL = 1200, 300
 # What gdb has of a name that it takes for GNAT's coding of a wide character, as gdb 13 does, or of an operator: neither is in the definition.

@@ -1,5 +1,5 @@
 #!/usr/bin/env python3
-"""Names of C++ with the spelling that gdb 13 has for them in an index that it writes (crates/spelling_tests/tables/names.txt).
+"""Names of C++ with the spelling that gdb 13 has for them in an index that it writes (crates/gdb_tests/tables/names.txt).
 
     spelling_table.py           compares the table with what cxx_spelling makes of its names, and with what gdb does where it is gdb 13
     spelling_table.py --write   makes the table anew, by gdb alone
@@ -23,7 +23,7 @@ from spelling.made_names import made_names
 from spelling.our_answers import other_spellings
 
 TOOLS = os.path.dirname(os.path.abspath(__file__))
-TABLE = os.path.join(os.path.dirname(TOOLS), "crates", "spelling_tests", "tables", "names.txt")
+TABLE = os.path.join(os.path.dirname(TOOLS), "crates", "gdb_tests", "tables", "names.txt")
 RULES = os.path.join(TOOLS, "spelling", "rule_names.txt")
 PROGRAMS = os.path.join(TOOLS, "spelling", "programs")
 COMPILERS = [("g++", "-std=c++17"), ("g++", "-std=c++20"), ("clang++", "-std=c++17")]
