@@ -1,5 +1,7 @@
 #!/usr/bin/env python3
-"""typedefs.py OUT     makes the program of docs/SPEED.md whose 100 C units have 2,000,000 typedefs of 300,000 names"""
+"""typedefs.py OUT     makes the program of docs/SPEED.md whose 100 C units have 2,000,000 typedefs of 300,000 names
+
+clang compiles them, since gcc takes a time that grows with the square of the typedefs of one type."""
 import os
 import subprocess
 import sys
@@ -14,7 +16,7 @@ def compiled(room, unit):
     with open(source, "w", encoding="utf-8") as file:
         file.writelines(f"typedef int name_{(unit * EACH + at) % NAMES:06};\n" for at in range(EACH))
         file.write(f"int main_{unit}(void) {{ return {unit}; }}\n")
-    subprocess.run(["gcc", "-g", "-fno-eliminate-unused-debug-types", "-c", "-o", part, source], check=True)
+    subprocess.run(["clang", "-g", "-fno-eliminate-unused-debug-types", "-c", "-o", part, source], check=True)
     return part
 
 
