@@ -87,7 +87,8 @@ module _ (im : Image) (image : image_of im.file ≡ Ok im) (p : Program) (is : p
         ap (λ (u : UnitHeader). target_by p.sections (h.number, u) (as_next r)) unit_is
 
     module _ (own : h.bytes.now ≡ unit_bytes h.sections.now h.unit) (header : h.unit.body ≤ length h.bytes.now) (bytes : List ℕ) (same : bytes ≡ section_bytes im.sections (codes ".debug_abbrev")) (a : List Abbrev) (found : table bytes h.unit.«abbrev» ≡ Some a) where
-      walk_here : walk_by h a ≡ w
+      -- the walk by its own bytes is that of the file's unit
+      pub walk_here : walk_by h a ≡ w
       walk_here =
           let here : section_bytes h.sections.now (codes ".debug_abbrev") ≡ bytes = ap (λ (ss : List Section). section_bytes ss (codes ".debug_abbrev")) sections ∙ sym same in
           walk_is h.sections.now (h.number, h.unit) a h.bytes.now w own header (ap (λ (bs : List ℕ). table bs h.unit.«abbrev») here ∙ found) (scanned_walked h.sections.now (h.number, h.unit) w scan_here).0

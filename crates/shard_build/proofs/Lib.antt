@@ -5,25 +5,25 @@ mod SpanEnds
 mod SpanPlaces
 mod OpenLaws
 mod FrameLaws
-mod NodeLaws
+pub mod NodeLaws
 mod UnitLaws
 mod ImportLaws
 mod UnitEnd
 mod RunLaws
 mod RunEnds
 pub mod UnitPlaces
-mod OnePlace
+pub mod OnePlace
 mod FoundNodes
 mod FoundSpans
 mod FoundPoints
-mod UnitNumbers
+pub mod UnitNumbers
 mod FoundShards
-mod AgainLaws
-mod AgainUnits
+pub mod AgainLaws
+pub mod AgainUnits
 pub mod WholeFile
 mod TextLaws
 mod AboveLaws
-mod UnitNodes
+pub mod UnitNodes
 mod UnitRead
-mod MapLaws
+pub mod MapLaws
 mod UnkeptLaws

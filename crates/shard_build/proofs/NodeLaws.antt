@@ -18,7 +18,8 @@ place_of w None = refl
 place_of w (Some e) = refl
 
 module _ (ss : List Section) (w : Walked) (d : Item) (t : Texts) (is : texts_of ss (at_home w d) ≡ Ok t) where
-  texts_are : (t.name ≡ own_name ss (at_home w d)) × (t.linkage ≡ own_linkage_name ss (at_home w d))
+  -- its texts are those of the definitions
+  pub texts_are : (t.name ≡ own_name ss (at_home w d)) × (t.linkage ≡ own_linkage_name ss (at_home w d))
   unfolding texts_of own_name own_linkage_name
   texts_are =
       let a = bind_ok (text_in ss w (name_value d)) _ t is in

@@ -24,7 +24,12 @@ use std::alloc::Global;
 
 impl<'s, 'f> UnitInFile<'s, 'f> {
     /// The node of the entry at a joint offset in the span of its parent, None where no entry of the unit stands there.
-    pub fn node_within(&self, abbrevs: &Abbrevs, span: &Span, offset: u64) -> Option<Node<'f>>
+    pub(crate) fn node_within(
+        &self,
+        abbrevs: &Abbrevs,
+        span: &Span,
+        offset: u64,
+    ) -> Option<Node<'f>>
         requires own { self.now.bytes.now ≡ unit_bytes self.now.sections.now self.now.unit }
         requires header { self.now.unit.body ≤ length self.now.bytes.now }
         requires small { self.now.unit.start + length self.now.bytes.now < 2 ^ 63 }
@@ -40,7 +45,7 @@ impl<'s, 'f> UnitInFile<'s, 'f> {
     }
 
     /// The nodes of all entries of the unit, in section order.
-    pub fn nodes(
+    pub(crate) fn nodes(
         &self,
         alloc: Global,
         file: &'f [u8],
@@ -77,8 +82,8 @@ impl<'s, 'f> UnitInFile<'s, 'f> {
         }
     }
 
-    // Where the unit's part of `.debug_str_offsets` begins, as its root says.
-    fn str_offsets_base(&self, abbrevs: &Abbrevs) -> Option<u64>
+    /// Where the unit's part of `.debug_str_offsets` begins, as its root says (DWARF 5, section 7.26). None where it doesn't.
+    pub fn str_offsets_base(&self, abbrevs: &Abbrevs) -> Option<u64>
         requires header { self.now.unit.body ≤ length self.now.bytes.now }
         requires small { self.now.unit.start + length self.now.bytes.now < 2 ^ 63 }
         requires sound { IsSound self.now abbrevs.now }

@@ -1,7 +1,7 @@
 //! What an entry says of itself (DWARF 5, sections 2 to 5).
 
 ghost use Rattle.std.specs.Prelude.{◌≡◌, option_map, option_and_then};
-ghost use Rattle.index_model.specs.Attributes.{low_pc, high_pc, ranges_value, has_address, is_declaration, has_external, has_enum_class, says_main, signature_of, next_reference, import_of, language_value, read_as, as_offset};
+ghost use Rattle.index_model.specs.Attributes.{low_pc, high_pc, ranges_value, has_address, is_declaration, has_external, has_enum_class, says_main, signature_of, next_reference, import_of, language_value, read_as, as_offset, as_reference};
 ghost use Rattle.index_model.specs.Rules.{has_value};
 ghost use Rattle.index_model.specs.ShardParts.{raw_of, raw_of_high, as_next};
 
@@ -86,13 +86,21 @@ pub(crate) fn has_address(entry: &Item<'_>, version: u16) -> bool
         || forms::is_address(entry.value(DW_AT_entry_pc))
 }
 
+/// The reference that an entry has in an attribute (DWARF 5, section 7.5.5, reference). None where it has no such attribute, or
+/// one that is no reference into this file's units by an offset.
+pub fn reference(entry: &Item<'_>, attribute: u64) -> Option<Next>
+    ensures { result ≡ option_map as_next (read_as as_reference attribute entry.now) }
+{
+    forms::reference(entry.value(attribute))
+}
+
 /// The reference that its chain follows: its specification, or else its abstract origin.
 pub(crate) fn next(entry: &Item<'_>) -> Option<Next>
     ensures { result ≡ option_map as_next (next_reference entry.now) }
 {
-    match forms::reference(entry.value(DW_AT_specification)) {
+    match reference(entry, DW_AT_specification) {
         Some(next) => Some(next),
-        None => forms::reference(entry.value(DW_AT_abstract_origin)),
+        None => reference(entry, DW_AT_abstract_origin),
     }
 }
 
@@ -107,7 +115,7 @@ pub(crate) fn signature(entry: &Item<'_>) -> Option<u64>
 pub(crate) fn import(entry: &Item<'_>) -> Option<Next>
     ensures { result ≡ option_map as_next (import_of entry.now) }
 {
-    forms::reference(entry.value(DW_AT_import))
+    reference(entry, DW_AT_import)
 }
 
 /// Its language code. One above 65,535 counts as 0.

@@ -52,8 +52,8 @@ impl<'f> NodeOrSpan<'f> {
     }
 }
 
-/// The number of the unit in which the offset stands: the last that begins there or before it.
-pub(crate) fn unit_at(image: &Image<'_>, offset: u64) -> Option<u32>
+/// The number of the unit in which a joint offset stands: the last that begins there or before it. None before the first.
+pub fn unit_at(image: &Image<'_>, offset: u64) -> Option<u32>
     ensures { IsUnitAt image.now.file offset result }
 {
     let begun = image.units().partition_point(|unit| unit.start <= offset);

@@ -15,9 +15,9 @@ use entry_scan::Item;
 use file_image::{Image, Sections};
 use index_model::{Import, Next, Node, Span, Unit};
 
-/// A unit, its number in section order, its bytes, and the sections of its file.
+/// A unit, its number in section order, its bytes, and the sections of its file (DWARF 5, section 7.5.1).
 #[derive(Clone, Copy)]
-pub(crate) struct UnitInFile<'s, 'f> {
+pub struct UnitInFile<'s, 'f> {
     pub sections: &'s Sections<'f>,
     /// The unit's own bytes, from its first byte to its end.
     pub bytes: &'f [u8],
@@ -26,7 +26,8 @@ pub(crate) struct UnitInFile<'s, 'f> {
 }
 
 impl<'s, 'f> UnitInFile<'s, 'f> {
-    /// The unit with this number.
+    /// The unit of a file with this number, counted from 0 over `.debug_info` and then `.debug_types`. It has no error: an image
+    /// is opened only where the headers of all its units can be read.
     pub fn of(image: &'s Image<'f>, number: u32) -> UnitInFile<'s, 'f>
         requires { number < length image.now.units }
         ensures sections { result.sections.now ≡ image.now.sections }
@@ -48,7 +49,12 @@ impl<'s, 'f> UnitInFile<'s, 'f> {
     /// The node of an entry in this one, with these texts.
     #[inline(always)]
     #[tactic(auto, unfolding(crate::specs::Kept::node_by))]
-    pub fn node(&self, outer: Option<Open>, entry: &Item<'_>, texts: ItemTexts<'f>) -> Node<'f>
+    pub(crate) fn node(
+        &self,
+        outer: Option<Open>,
+        entry: &Item<'_>,
+        texts: ItemTexts<'f>,
+    ) -> Node<'f>
         ensures { node_seen result ≡ node_by self.now.sections.now (self.now.number, self.now.unit) outer entry.now (texts_seen texts.entry) }
     {
         self.node_under(outer.map(|open| open.at), entry, texts)
@@ -57,7 +63,7 @@ impl<'s, 'f> UnitInFile<'s, 'f> {
     /// The node of an entry whose parent has this joint offset, with these texts.
     #[inline(always)]
     #[tactic(auto, unfolding(crate::specs::Kept::node_under))]
-    pub fn node_under(
+    pub(crate) fn node_under(
         &self,
         parent: Option<u64>,
         entry: &Item<'_>,
@@ -88,7 +94,7 @@ impl<'s, 'f> UnitInFile<'s, 'f> {
     }
 
     /// The span of an entry, as long as no null ended it.
-    pub fn span(&self, item: &Item<'_>) -> Span
+    pub(crate) fn span(&self, item: &Item<'_>) -> Span
         requires { self.now.unit.start + self.now.unit.length < 2 ^ 63 }
         ensures { result ≡ span_from self.now.sections.now (self.now.number, self.now.unit) item.now }
     {
@@ -102,7 +108,7 @@ impl<'s, 'f> UnitInFile<'s, 'f> {
     }
 
     /// The import of an entry, if it is an imported unit that names a place.
-    pub fn import(&self, entry: &Item<'_>) -> Option<Import>
+    pub(crate) fn import(&self, entry: &Item<'_>) -> Option<Import>
         requires { self.now.unit.start + self.now.unit.length < 2 ^ 63 }
         ensures { option_to_list result ≡ imports_by self.now.sections.now (self.now.number, self.now.unit) entry.now }
     {
@@ -121,7 +127,8 @@ impl<'s, 'f> UnitInFile<'s, 'f> {
         }
     }
 
-    /// The joint offset that a reference names, if it lies in the unit or in `.debug_info`, as its form says.
+    /// The joint offset that a reference names, if it lies in the unit or in `.debug_info`, as its form says (DWARF 5, section
+    /// 7.5.5, reference). Nothing says that an entry begins there.
     pub fn target(&self, reference: Next) -> Option<u64>
         requires { self.now.unit.start + self.now.unit.length < 2 ^ 63 }
         ensures { result ≡ target_by self.now.sections.now (self.now.number, self.now.unit) reference }

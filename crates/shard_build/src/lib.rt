@@ -22,4 +22,9 @@ mod units_again;
 mod unkept;
 
 pub use entries::Entries;
+pub use facts::reference;
+pub use found::unit_at;
+pub use home::UnitInFile;
 pub use shard::scan;
+pub use tables::AbbrevTable;
+pub use texts::ItemTexts;

@@ -15,16 +15,16 @@ use ix_base::code::BAD_ABBREVIATION;
 use ix_base::{Fault, NoMemory, Stop};
 use std::alloc::Global;
 
-/// A table of abbreviations, and where it stands in `.debug_abbrev`.
+/// A table of abbreviations, and the offset at which it stands in `.debug_abbrev`.
 #[derive(Drop)]
-pub(crate) struct AbbrevTable {
+pub struct AbbrevTable {
     pub offset: u64,
     pub abbrevs: Abbrevs,
 }
 
 impl AbbrevTable {
     /// The table of a unit: the one at hand, if it stands at the same offset, else it is read.
-    pub fn of(
+    pub(crate) fn of(
         alloc: Global,
         bytes: &[u8],
         unit: &Unit,
@@ -45,7 +45,8 @@ impl AbbrevTable {
         }
     }
 
-    /// The same, where the table of the unit isn't damaged.
+    /// The table of a unit, where it isn't damaged: the one at hand, if it stands at the same offset, else it is read. `bytes` are
+    /// those of `.debug_abbrev`.
     pub fn of_sound(
         alloc: Global,
         bytes: &[u8],

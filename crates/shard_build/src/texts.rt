@@ -21,9 +21,10 @@ use ix_base::code::NAME_TOO_LONG;
 use ix_base::{Fault, MAX_STRING};
 use memchr::memmem;
 
-/// The texts of an entry, if it has them.
+/// The texts of an entry, if it has them: the bytes of its name and of its linkage name (DWARF 5, sections 2.15 and 2.22),
+/// without the zero that ends them. An empty one is none.
 #[derive(Clone, Copy)]
-pub(crate) struct ItemTexts<'f> {
+pub struct ItemTexts<'f> {
     pub name: Option<&'f [u8]>,
     pub linkage: Option<&'f [u8]>,
 }
@@ -63,7 +64,8 @@ impl TextOffsets {
 }
 
 impl<'s, 'f> UnitInFile<'s, 'f> {
-    /// The texts of an entry, which are borrowed from the file. The fault is the first of them, name before linkage name.
+    /// The texts of an entry, which are borrowed from the file; `base` is where the unit's part of `.debug_str_offsets` begins.
+    /// The fault is the first of them, name before linkage name, at the entry's joint offset.
     pub fn texts(&self, base: Option<u64>, entry: &Item<'_>) -> Result<ItemTexts<'f>, Fault>
         requires { HoldsTexts self.now.bytes.now self.now.unit entry.now }
         ensures { GivesAlways texts_seen result (at_place entry.now.at (texts_by self.now.sections.now base self.now.unit.wide entry.now)) }
@@ -73,7 +75,7 @@ impl<'s, 'f> UnitInFile<'s, 'f> {
 
     /// The same, where it is known how its texts are reached.
     #[inline(always)]
-    pub fn texts_at(
+    pub(crate) fn texts_at(
         &self,
         base: Option<u64>,
         entry: &Item<'_>,
@@ -178,7 +180,7 @@ impl<'s, 'f> UnitInFile<'s, 'f> {
     }
 
     /// Whether the texts of an entry are sound: the same as `texts`, where they aren't kept.
-    pub fn test(&self, base: Option<u64>, entry: &Item<'_>) -> Result<(), Fault>
+    pub(crate) fn test(&self, base: Option<u64>, entry: &Item<'_>) -> Result<(), Fault>
         ensures { GivesAlways (λ done. done) result (tested (at_place entry.now.at (texts_by self.now.sections.now base self.now.unit.wide entry.now))) }
     {
         match self.test_own(base, entry) {
