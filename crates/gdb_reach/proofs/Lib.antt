@@ -1,4 +1,5 @@
 pub mod WayLaws
+pub mod AroundLaws
 pub mod NextLaws
 pub mod StandLaws
 pub mod RunLaws

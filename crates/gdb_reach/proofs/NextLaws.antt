@@ -81,6 +81,9 @@ module _ (w : Walked) (passed : List Item) (d : Item) (h : ComesBehind w passed 
   pub parent : 0 < d.depth → HasParent ds d
   parent deep = order.parents d member deep
 
+  pub no_parent : d.depth ≡ 0 → scope_around (in_unit w d) ≡ None
+  no_parent is = ap (option_map (λ e. in_unit w e)) (order.root d member is).1
+
   -- its span is among those of the items with children
   parent_has_children : (deep : 0 < d.depth) → (parent deep).parent.children ≡ true
   unfolding span_of

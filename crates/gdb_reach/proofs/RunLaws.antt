@@ -1,5 +1,5 @@
 -- Behind each of the items that were told, the answers so far are those of the kept items so far.
-use Rattle.std.proofs.Common.{◌≡◌, ℕ, ◌+◌, ◌<◌, ◌≤◌, Bool, true, false, cond, List, [], ◌∷◌, ◌++◌, length, drop, map, filter, get_or, refl, sym, ap, subst, ◌∙◌, append_assoc, append-nil, drop-cons, add-one}
+use Rattle.std.proofs.Common.{◌≡◌, ℕ, ◌+◌, ◌<◌, ◌≤◌, Bool, true, false, cond, List, [], ◌∷◌, ◌++◌, length, drop, map, filter, get_or, Option, Some, option_map, refl, sym, ap, subst, ◌∙◌, append_assoc, append-nil, drop-cons, add-one}
 use Rattle.std.proofs.Math.ListN.{drop_of_length-le}
 use Rattle.std.proofs.lemmas.List.{map-append}
 use Rattle.std.proofs.lemmas.List.Elements.{filter-append}
@@ -11,14 +11,17 @@ use Rattle.gdb_reach.specs.declared.state.Look.{Look}
 use Rattle.gdb_reach.specs.declared.state.Reached.{Reached}
 use Rattle.gdb_reach.specs.declared.run.ToldItem.{ToldItem}
 use Rattle.gdb_reach.specs.declared.run.Answer.{Answer}
+use Rattle.gdb_reach.specs.Around.{open_by}
 use Rattle.gdb_reach.specs.Standing.{UnitRead, StandsFor, ComesBehind, IsOfAFile, in_unit, look_of}
 use Rattle.gdb_reach.specs.Runs.{IsToldOf, AreTold, KeepsParents, answer_of}
 
-abbrev made : Look → Bool → Answer
-made look opened = record { look = look; is_open = opened }
+abbrev made : Look → Bool → Option ℕ → Answer
+made look opened around = record { look = look; is_open = opened; open_around = around }
 
-pub answered : (r : UnitRead) (d : Item) (look : Look) (opened : Bool) → look ≡ look_of r d → opened ≡ is_open r.program r.class (in_unit r.unit d) → made look opened ≡ answer_of r d
-answered r d look opened seen is = ap (λ (l : Look). made l opened) seen ∙ ap (λ (o : Bool). made (look_of r d) o) is
+pub answered : (r : UnitRead) (d : Item) (look : Look) (opened : Bool) (around : Option ℕ) → look ≡ look_of r d → opened ≡ is_open r.program r.class (in_unit r.unit d) →
+    around ≡ option_map r.token (open_by r.program (Some r.class) (in_unit r.unit d)) → made look opened around ≡ answer_of r d
+answered r d look opened around seen is same =
+    ap (λ (l : Look). made l opened around) seen ∙ ap (λ (o : Bool). made (look_of r d) o around) is ∙ ap (λ (a : Option ℕ). made (look_of r d) (is_open r.program r.class (in_unit r.unit d)) a) same
 
 -- the first of the kept items, and what stands before and behind it
 pub record FirstKept (r : UnitRead) (keep : Item → Bool) (ds : List Item) (t : ToldItem) (ts : List ToldItem) : Type 0 where

@@ -1,9 +1,10 @@
 -- What gdb does of all items of a unit.
-use Rattle.std.specs.Prelude.{◌≡◌, Bool, true, List, [], ◌∷◌}
+use Rattle.std.specs.Prelude.{◌≡◌, Bool, true, List, [], ◌∷◌, Some, option_map}
 use Rattle.index_model.specs.Walk.{Item}
 use Rattle.gdb_entries.specs.Reached.{is_open}
 use Rattle.gdb_reach.specs.declared.run.ToldItem.{ToldItem}
 use Rattle.gdb_reach.specs.declared.run.Answer.{Answer}
+use Rattle.gdb_reach.specs.Around.{open_by}
 use Rattle.gdb_reach.specs.Standing.{UnitRead, IsTold, IsNameTold, in_unit, look_of}
 
 -- what is told of an item
@@ -25,4 +26,10 @@ KeepsParents keep = (d : Item) → d.children ≡ true → keep d ≡ true
 
 -- what gdb does of an item
 abbrev pub answer_of : UnitRead → Item → Answer
-answer_of r d = record { look = look_of r d; is_open = is_open r.program r.class (in_unit r.unit d) }
+answer_of r d =
+    let here = in_unit r.unit d in
+    record {
+      look = look_of r d;
+      is_open = is_open r.program r.class here;
+      open_around = option_map r.token (open_by r.program (Some r.class) here);
+    }

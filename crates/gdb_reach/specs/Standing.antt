@@ -1,5 +1,5 @@
 -- What a state on a walk over a unit stands for.
-use Rattle.std.specs.Prelude.{◌≡◌, ℕ, Bool, true, ◌&&◌, ◌==◌, List, ◌∷◌, ◌++◌, filter, is_some, Option, None, Ok, option_map}
+use Rattle.std.specs.Prelude.{◌≡◌, ℕ, Bool, true, ◌&&◌, ◌==◌, List, ◌∷◌, ◌++◌, filter, is_some, Option, Some, None, Ok, option_map}
 use Rattle.std.specs.List.{last_or}
 use Rattle.index_model.specs.declared.unit.Unit.{Unit as UnitHeader}
 use Rattle.index_model.specs.Sections.{Section}
@@ -12,7 +12,10 @@ use Rattle.gdb_entries.specs.Reached.{Reach, reach_under, reach_of, is_seen}
 use Rattle.gdb_entries.specs.Scopes.{around_in}
 use Rattle.gdb_reach.specs.declared.state.Look.{Look}
 use Rattle.gdb_reach.specs.declared.state.Reached.{Reached}
-use Rattle.gdb_reach.specs.Ways.{way_of, way_at}
+use Rattle.gdb_reach.specs.declared.parents.ParentItem.{ParentItem}
+use Rattle.gdb_reach.specs.Ways.{way_of}
+use Rattle.gdb_reach.specs.Around.{innermost_open, open_by}
+use Rattle.gdb_reach.specs.Parents.{parent_at}
 
 -- a unit of a program, the class by which it is read, and the token that each item has with the one who walks
 pub record UnitRead : Type 0 where
@@ -29,14 +32,28 @@ in_unit w d = record { home = w; item = d }
 abbrev pub last_parent : List Item → ℕ → Option Item
 last_parent passed depth = last_or None (filter (λ e. e.children && e.depth == depth) passed)
 
--- how gdb comes to the children of that one
-abbrev pub reach_behind : UnitRead → List Item → ℕ → Option Reach
-reach_behind r passed depth = reach_under r.program r.class (option_map (in_unit r.unit) (last_parent passed depth)) (reach_of r.program r.class)
+-- how gdb comes to what stands in an item
+abbrev pub reach_in : UnitRead → Option Located → Option Reach
+reach_in r e = reach_under r.program r.class e (reach_of r.program r.class)
 
--- The state keeps how gdb comes to the children of the last of the passed items at each depth.
+-- the innermost open item around what stands in an item
+abbrev pub open_in : UnitRead → Option Located → Option Located
+open_in r e = innermost_open r.program (Some r.class) e (open_by r.program (Some r.class))
+
+-- an item with children, as what stands in it knows it
+abbrev pub parent_as : UnitRead → Item → ParentItem
+parent_as r e =
+    let here = in_unit r.unit e in
+    record {
+      token = r.token here;
+      way = way_of r.token (reach_in r (Some here));
+      innermost = option_map r.token (open_in r (Some here));
+    }
+
+-- The state keeps of each depth the last of the passed items that has children.
 pub record StandsFor (r : UnitRead) (passed : List Item) (state : Reached) : Type 0 where
   pub class : state.class ≡ r.class
-  pub ways : (depth : ℕ) → way_at state.ways.items depth ≡ way_of r.token (reach_behind r passed depth)
+  pub parents : (depth : ℕ) → parent_at state.parents.items depth ≡ option_map (parent_as r) (last_parent passed depth)
 
 -- the unit is one of some file
 pub record IsOfAFile (w : Walked) : Type 0 where

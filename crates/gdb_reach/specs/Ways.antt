@@ -1,5 +1,5 @@
 -- How gdb comes to an item, as it is kept: of an open item its token and its tag.
-use Rattle.std.specs.Prelude.{ℕ, zero, suc, Bool, false, not, ◌&&◌, ◌||◌, ◌==◌, if◌then◌else◌, List, get_or, Option, Some, None, option_map}
+use Rattle.std.specs.Prelude.{ℕ, Bool, false, not, ◌&&◌, ◌||◌, ◌==◌, if◌then◌else◌, Option, Some, None, option_map}
 use Rattle.index_model.specs.Tags.{subprogram}
 use Rattle.index_model.specs.Program.{Located}
 use Rattle.gdb_entries.specs.declared.item.ItemFacts.{ItemFacts}
@@ -42,14 +42,3 @@ way_on way item is_open token =
 -- the way to the children of an item of this depth; those of a root are come to
 abbrev pub way_below : ℕ → Option Way → ItemFacts → Bool → ℕ → Option Way
 way_below depth way item is_open token = if depth == 0 then Some (record { around = None; inside = false }) else way_on way item is_open token
-
--- ---- a way for each depth
-
--- the way at a depth, if one is kept there
-abbrev pub way_at : List (Option Way) → ℕ → Option Way
-way_at ways depth = get_or ways depth None
-
--- the way to an item of this depth: that below the depth before
-abbrev pub way_to : List (Option Way) → ℕ → Option Way
-way_to ways zero = None
-way_to ways (suc above) = way_at ways above

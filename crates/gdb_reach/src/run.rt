@@ -26,6 +26,8 @@ pub struct ToldItem {
 pub struct Answer {
     pub look: Look,
     pub is_open: bool,
+    /// The token of the innermost open item around it, whether or not gdb comes to it.
+    pub open_around: Option<u64>,
 }
 
 /// What gdb does of the items of a unit that is read by this class, in their order. Those without children may be left out.
@@ -50,6 +52,11 @@ fn answer_to(reached: &mut Reached, item: &ToldItem) -> Result<Answer, NoMemory>
     ensures stands { (r : UnitRead) (passed : List Item) (d : Item) → StandsFor r passed reached.old → ComesBehind r.unit passed d → IsToldOf r d item.now → OnOk result (StandsFor r (passed ++ d ∷ []) reached.new) }
 {
     let look = reached.look(item.depth, &item.facts);
+    let open_around = reached.open_around(item.depth);
     let is_open = reached.enter(item.depth, &item.facts, item.has_name, item.token)?;
-    Ok(Answer { look, is_open })
+    Ok(Answer {
+        look,
+        is_open,
+        open_around,
+    })
 }

@@ -1,13 +1,19 @@
 //! A walk over the items of a unit.
 
-ghost use Rattle.std.specs.Prelude.{◌≡◌, ◌&&◌, ◌++◌, ◌∷◌, [], List, IfOk, OnOk, OnErr};
+ghost use Rattle.std.specs.Prelude.{◌≡◌, ◌&&◌, ◌++◌, ◌∷◌, [], List, Some, option_map, IfOk, OnOk, OnErr};
 ghost use Rattle.index_model.specs.Walk.{Item};
+ghost use Rattle.index_model.specs.Program.{scope_around};
+ghost use Rattle.gdb_entries.specs.Owners.{class_read};
 ghost use Rattle.gdb_entries.specs.Reached.{is_open};
 ghost use Rattle.gdb_entries.specs.Rules.{opens};
-ghost use Rattle.gdb_reach.specs.Ways.{is_looked_at, way_to, way_below, token_around};
+ghost use Rattle.gdb_entries.specs.Scopes.{open_around};
+ghost use Rattle.gdb_reach.specs.Ways.{is_looked_at};
+ghost use Rattle.gdb_reach.specs.Parents.{parent_to};
+ghost use Rattle.gdb_reach.specs.Around.{open_by};
 ghost use Rattle.gdb_reach.specs.Standing.{UnitRead, StandsFor, ComesBehind, IsTold, IsNameTold, in_unit, look_of};
 
-use crate::way::{Way, is_looked_at, set_way, way_on};
+use crate::parents::{ParentItem, innermost_in, parent_in, set_parent, token_in, way_in};
+use crate::way::{Way, is_looked_at, token_around};
 use gdb_entries::{ItemFacts, LanguageClass, opens};
 use ix_base::NoMemory;
 use std::alloc::Global;
@@ -17,7 +23,7 @@ use std::alloc::Global;
 pub struct Look {
     /// Whether gdb looks at it: it is listed, but where it gives its name to what stands in it alone.
     pub is_seen: bool,
-    /// The token of the innermost open item around it.
+    /// The token of the innermost open item around it, if gdb comes to it.
     pub around: Option<u64>,
 }
 
@@ -27,8 +33,8 @@ pub struct Look {
 #[derive(Drop)]
 pub struct Reached {
     class: LanguageClass,
-    // How gdb comes to the children of the last item of each depth that has children.
-    ways: Vec<Option<Way>>,
+    // The last item of each depth that has children.
+    parents: Vec<Option<ParentItem>>,
 }
 
 impl Reached {
@@ -38,7 +44,7 @@ impl Reached {
     {
         Reached {
             class,
-            ways: Vec::new(alloc),
+            parents: Vec::new(alloc),
         }
     }
 
@@ -46,11 +52,26 @@ impl Reached {
     pub fn look(&self, depth: u32, item: &ItemFacts) -> Look
         ensures { (r : UnitRead) (passed : List Item) (d : Item) → StandsFor r passed self.now → ComesBehind r.unit passed d → IsTold d depth item.now → result ≡ look_of r d }
     {
-        let way = self.way_to(depth);
+        let way = way_in(self.parent_to(depth));
         Look {
             is_seen: is_looked_at(way, item),
             around: token_around(way),
         }
+    }
+
+    /// The token of the innermost open item around the next item, which has this depth, whether or not gdb comes to it.
+    pub fn open_around(&self, depth: u32) -> Option<u64>
+        ensures by_class { (r : UnitRead) (passed : List Item) (d : Item) → StandsFor r passed self.now → ComesBehind r.unit passed d → depth ≡ d.depth → result ≡ option_map r.token (open_by r.program (Some r.class) (in_unit r.unit d)) }
+        ensures as_read { (r : UnitRead) (passed : List Item) (d : Item) → StandsFor r passed self.now → ComesBehind r.unit passed d → depth ≡ d.depth → class_read r.program r.unit ≡ Some r.class → result ≡ option_map r.token (open_around r.program (in_unit r.unit d)) }
+    {
+        innermost_in(self.parent_to(depth))
+    }
+
+    /// The token of the lexical parent of the next item, which has this depth. A root has none.
+    pub fn parent(&self, depth: u32) -> Option<u64>
+        ensures { (r : UnitRead) (passed : List Item) (d : Item) → StandsFor r passed self.now → ComesBehind r.unit passed d → depth ≡ d.depth → result ≡ option_map r.token (scope_around (in_unit r.unit d)) }
+    {
+        token_in(self.parent_to(depth))
     }
 
     /// Enters the next item, which has this token for what stands in it, and says whether it is open. Whether it has a name
@@ -66,11 +87,11 @@ impl Reached {
         ensures ok { (r : UnitRead) (passed : List Item) (d : Item) → StandsFor r passed self.old → ComesBehind r.unit passed d → IsTold d depth item.now → IsNameTold r d has_name → token ≡ r.token (in_unit r.unit d) → OnOk result (StandsFor r (passed ++ d ∷ []) self.new) }
         ensures err { (r : UnitRead) (passed : List Item) → StandsFor r passed self.old → OnErr result (StandsFor r passed self.new) }
     {
-        let way = self.way_to(depth);
-        let is_open = self.is_open_by(way, item, has_name);
+        let above = self.parent_to(depth);
+        let is_open = self.is_open_by(way_in(above), item, has_name);
         if item.children {
-            let below = way_below(depth, way, item, is_open, token);
-            set_way(&mut self.ways, depth, below)?;
+            let parent = parent_in(above, depth, item, is_open, token);
+            set_parent(&mut self.parents, depth, parent)?;
         }
         Ok(is_open)
     }
@@ -82,41 +103,11 @@ impl Reached {
         is_looked_at(way, item) && opens(self.class, item.tag, item.children, has_name)
     }
 
-    // How gdb comes to an item of this depth. To a root it doesn't.
-    fn way_to(&self, depth: u32) -> Option<Way>
-        ensures { result ≡ way_to self.now.ways.items depth }
+    // The parent of an item of this depth. A root has none.
+    fn parent_to(&self, depth: u32) -> Option<ParentItem>
+        ensures { result ≡ parent_to self.now.parents.items depth }
     {
         let above = depth.checked_sub(1)?;
-        *self.ways.get(above as usize)?
-    }
-}
-
-// How gdb comes to the children of an item of this depth. To those of a root it always does.
-fn way_below(
-    depth: u32,
-    way: Option<Way>,
-    item: &ItemFacts,
-    is_open: bool,
-    token: u64,
-) -> Option<Way>
-    ensures { result ≡ way_below depth way item.now is_open token }
-{
-    if depth == 0 {
-        Some(Way {
-            around: None,
-            inside: false,
-        })
-    } else {
-        way_on(way, item, is_open, token)
-    }
-}
-
-// The token of the innermost open item around what gdb comes to so.
-fn token_around(way: Option<Way>) -> Option<u64>
-    ensures { result ≡ token_around way }
-{
-    match way {
-        Some(way) => way.around.map(|open_item| open_item.token),
-        None => None,
+        *self.parents.get(above as usize)?
     }
 }

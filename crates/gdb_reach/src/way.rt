@@ -1,11 +1,10 @@
 //! How gdb comes to an item (gdb/dwarf2/read.c, `index_dies`).
 
-ghost use Rattle.std.specs.Prelude.{◌≡◌, OnOk, OnErr, if◌then◌else◌, ◌==◌, ℕ};
-ghost use Rattle.gdb_reach.specs.Ways.{is_looked_at, leads_inside, way_on, way_at};
+ghost use Rattle.std.specs.Prelude.{◌≡◌};
+ghost use Rattle.gdb_reach.specs.Ways.{is_looked_at, leads_inside, way_on, way_below, token_around};
 
 use dwarf_codes::tag::DW_TAG_subprogram;
 use gdb_entries::{ItemFacts, counts, is_allowed_in};
-use ix_base::NoMemory;
 
 /// An open item, as the items in it know it.
 #[derive(Clone, Copy)]
@@ -44,8 +43,8 @@ fn leads_inside(way: Option<Way>) -> bool
     }
 }
 
-/// How gdb comes to the children of an item to which it comes so. In a subprogram what isn't looked at is gone through.
-pub(crate) fn way_on(way: Option<Way>, item: &ItemFacts, is_open: bool, token: u64) -> Option<Way>
+// How gdb comes to the children of an item to which it comes so. In a subprogram what isn't looked at is gone through.
+fn way_on(way: Option<Way>, item: &ItemFacts, is_open: bool, token: u64) -> Option<Way>
     ensures { result ≡ way_on way item.now is_open token }
 {
     let inside = leads_inside(way);
@@ -64,19 +63,32 @@ pub(crate) fn way_on(way: Option<Way>, item: &ItemFacts, is_open: bool, token: u
     }
 }
 
-/// Keeps a way at a depth.
-pub(crate) fn set_way(
-    ways: &mut Vec<Option<Way>>,
+/// How gdb comes to the children of an item of this depth, to which it comes so. To those of a root it always does.
+pub(crate) fn way_below(
     depth: u32,
     way: Option<Way>,
-) -> Result<(), NoMemory>
-    ensures ok { OnOk result ((other : ℕ) → way_at ways.new.items other ≡ (if other == depth then way else way_at ways.old.items other)) }
-    ensures err { OnErr result (ways.new.items ≡ ways.old.items) }
+    item: &ItemFacts,
+    is_open: bool,
+    token: u64,
+) -> Option<Way>
+    ensures { result ≡ way_below depth way item.now is_open token }
 {
-    let depth = depth as usize;
-    if ways.len() <= depth {
-        ways.resize(depth + 1, None)?;
+    if depth == 0 {
+        Some(Way {
+            around: None,
+            inside: false,
+        })
+    } else {
+        way_on(way, item, is_open, token)
     }
-    ways[depth] = way;
-    Ok(())
+}
+
+/// The token of the innermost open item around what gdb comes to so.
+pub(crate) fn token_around(way: Option<Way>) -> Option<u64>
+    ensures { result ≡ token_around way }
+{
+    match way {
+        Some(way) => way.around.map(|open_item| open_item.token),
+        None => None,
+    }
 }

@@ -17,7 +17,7 @@ const LEXICAL_BLOCK: u64 = 0x0b;
 // An item: its depth, its tag, and whether it has children and a name.
 type Row = (u32, u64, bool, bool);
 
-// Whether it is looked at, the index of the innermost open item around it, and whether it is open.
+// Whether it is looked at, the index of the innermost open item around it, if gdb comes to it, and whether it is open.
 type Done = (bool, Option<u64>, bool);
 
 const ADA: &[(Row, Done)] = &[
@@ -59,6 +59,33 @@ const C: &[(Row, Done)] = &[
     ((1, DW_TAG_variable, false, false), (false, None, false)),
 ];
 
+// In C subprograms aren't open, and what stands in them isn't come to: the innermost open item around it is the namespace all the same,
+// and behind the namespace there is none.
+const NAMESPACE: &[(Row, Done)] = &[
+    ((0, DW_TAG_compile_unit, true, true), (false, None, false)),
+    ((1, DW_TAG_namespace, true, true), (true, None, true)),
+    ((2, DW_TAG_subprogram, true, true), (true, Some(1), false)),
+    ((3, LEXICAL_BLOCK, true, false), (false, None, false)),
+    ((4, DW_TAG_variable, false, true), (false, None, false)),
+    ((2, DW_TAG_variable, false, true), (true, Some(1), false)),
+    ((1, DW_TAG_subprogram, true, true), (true, None, false)),
+    ((2, LEXICAL_BLOCK, true, false), (false, None, false)),
+    ((3, DW_TAG_variable, false, true), (false, None, false)),
+];
+
+// Of each of these the index of the innermost open item around it, come to or not, and that of its lexical parent.
+const AROUND_IN_NAMESPACE: &[(Option<u64>, Option<u64>)] = &[
+    (None, None),
+    (None, Some(0)),
+    (Some(1), Some(1)),
+    (Some(1), Some(2)),
+    (Some(1), Some(3)),
+    (Some(1), Some(1)),
+    (None, Some(0)),
+    (None, Some(6)),
+    (None, Some(7)),
+];
+
 fn facts(row: &Row) -> ItemFacts {
     ItemFacts {
         tag: row.1,
@@ -83,6 +110,14 @@ fn told(alloc: Global, rows: &[(Row, Done)]) -> Result<Vec<ToldItem>, Fail> {
     Ok(told)
 }
 
+fn look_in(row: &(Row, Done)) -> Look {
+    Look {
+        is_seen: row.1.0,
+        around: row.1.1,
+    }
+}
+
+// All items around are come to, so that the innermost open one is the same.
 fn are_answered(
     rt: &impl Abort,
     alloc: Global,
@@ -93,11 +128,8 @@ fn are_answered(
     let found = answers(alloc, class, items.as_slice())?;
     assert_eq!(rt; found.len(), rows.len());
     for (answer, row) in found.iter().zip(rows.iter()) {
-        let look = Look {
-            is_seen: row.1.0,
-            around: row.1.1,
-        };
-        assert_eq!(rt; *answer, Answer { look, is_open: row.1.2 });
+        let look = look_in(row);
+        assert_eq!(rt; *answer, Answer { look, is_open: row.1.2, open_around: row.1.1 });
     }
     Ok(())
 }
@@ -122,5 +154,33 @@ fn items_with_children_alone(rt: HostRuntime) -> Result<(), Fail> {
     let look = reached.look(3, &facts(&ADA[5].0));
     assert!(rt; look.is_seen);
     assert_eq!(rt; look.around, Some(1));
+    Ok(())
+}
+
+#[test]
+fn open_items_around_what_is_not_come_to(rt: HostRuntime) -> Result<(), Fail> {
+    let items = told(rt.alloc(), NAMESPACE)?;
+    let found = answers(rt.alloc(), LanguageClass::C, items.as_slice())?;
+    assert_eq!(rt; found.len(), AROUND_IN_NAMESPACE.len());
+    let rows = NAMESPACE.iter().zip(AROUND_IN_NAMESPACE.iter());
+    for (answer, (row, around)) in found.iter().zip(rows) {
+        let look = look_in(row);
+        assert_eq!(rt; *answer, Answer { look, is_open: row.1.2, open_around: around.0 });
+    }
+    Ok(())
+}
+
+// What has no children is left out.
+#[test]
+fn open_items_and_parents_around_items(rt: HostRuntime) -> Result<(), Fail> {
+    let mut reached = Reached::new(rt.alloc(), LanguageClass::C);
+    let rows = NAMESPACE.iter().zip(AROUND_IN_NAMESPACE.iter());
+    for (index, (row, around)) in rows.enumerate() {
+        assert_eq!(rt; reached.open_around(row.0.0), around.0);
+        assert_eq!(rt; reached.parent(row.0.0), around.1);
+        if row.0.2 {
+            let _is_open = reached.enter(row.0.0, &facts(&row.0), row.0.3, index as u64)?;
+        }
+    }
     Ok(())
 }
