@@ -38,7 +38,7 @@ module _ (r : UnitRead) (passed : List Item) (d : Item) where
   abbrev kept : ℕ → Option Way → Option ℕ → ParentItem
   kept token way innermost = record { token = token; way = way; innermost = innermost }
 
-  -- what an item with children tells, if there is one
+  -- an item of the unit, if there is one
   abbrev located_in : Option Item → Option Located
   located_in o = option_map (in_unit r.unit) o
 

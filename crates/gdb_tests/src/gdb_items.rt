@@ -117,7 +117,7 @@ fn look_in(row: &(Row, Done)) -> Look {
     }
 }
 
-// All items around are come to, so that the innermost open one is the same.
+// Around what isn't come to no item of these is open, so that the innermost open one is the same.
 fn are_answered(
     rt: &impl Abort,
     alloc: Global,
