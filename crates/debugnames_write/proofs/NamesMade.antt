@@ -7,7 +7,7 @@ use Rattle.index_model.specs.Layout.{ended}
 use Rattle.index_model.specs.Ordered.{bytes_lt}
 use Rattle.debugnames_write.specs.declared.groups.NameEntries.{NameEntries}
 use Rattle.debugnames_write.specs.declared.name.Name.{Name}
-use Rattle.debugnames_write.specs.Groups.{group_names}
+use Rattle.debugnames_write.specs.Groups.{group_hashes, group_names}
 use Rattle.debugnames_write.specs.Names.{kept_of_name, kept_of_group, IsNameOf}
 use Rattle.index_model.specs.Order.{Rises}
 use Rattle.debugnames_write.proofs.NameLaws.{string_is}
@@ -25,6 +25,10 @@ module _ (gs : List NameEntries) (k : ℕ) (d : NameEntries) (lt : k < length gs
 
   within : k < length (group_names gs)
   within = omega (arith, many)
+
+  -- the hash of the name, as it is read with any number for none
+  pub hash_read : (hashes : List ℕ) (e : ℕ) → hashes ≡ group_hashes gs → get_or hashes k e ≡ name_hash (get_or gs k d).name.now
+  hash_read hashes e are = ap (λ (w : List ℕ). get_or w k e) are ∙ get_or-map (λ (g : NameEntries). name_hash g.name.now) gs k d e lt
 
   pub name_right : Rises bytes_lt (group_names gs) → (old end : ℕ) (n : Name) → n.text.now ≡ (get_or gs k d).name.now → n.hash ≡ name_hash (get_or gs k d).name.now → n.bucket ≡ n.hash % length gs → n.string ≡ end
       → end ≡ old + length (flat_map ended (take k (group_names gs))) → IsNameOf (group_names gs) old n

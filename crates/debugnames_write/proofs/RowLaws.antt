@@ -1,17 +1,17 @@
 -- The rows of the abbreviations, and the place of a row among them.
-use Rattle.std.proofs.Common.{◌≡◌, ◌≢◌, ℕ, zero, suc, ◌+◌, ◌<◌, ◌≤◌, Bool, true, false, eqb, eq-eqb, List, [], ◌∷◌, ◌++◌, length, get_or, take, drop, map, Option, refl, sym, ap, ◌∙◌, subst, inl, inr, arith}
+use Rattle.std.proofs.Common.{◌≡◌, ◌≢◌, ℕ, zero, suc, ◌+◌, ◌-◌, ◌<◌, ◌≤◌, Bool, true, false, eqb, eq-eqb, List, [], ◌∷◌, ◌++◌, length, get_or, take, drop, map, Option, refl, sym, ap, ◌∙◌, subst, inl, inr, arith}
 use mathlib.Core.Bool.{not, ◌&&◌, beq, true≢false}
 use Rattle.std.specs.Prelude.{Contains, position, unwrap_or, insert}
 use Rattle.std.specs.List.Sorted.{IsPartitionedBy, IsPartitionPoint}
 use Rattle.std.proofs.lemmas.Bool.{cases_lt, and_right}
 use Rattle.std.proofs.lemmas.List.{get_or-map, length-map, length-take-le, map-append, take-map, drop-map, get_or-take, take_more, take_all, get_or_default}
-use Rattle.std.proofs.lemmas.List.Elements.{Contains-push, Contains-push_cases, Contains-append_left}
+use Rattle.std.proofs.lemmas.List.Elements.{Contains-get_or, Contains-push, Contains-push_cases, Contains-append_left}
 use Rattle.index_model.specs.NameIndex.{Row as IndexRow, row_lt, row_eq, rows_of, row_of}
 use Rattle.index_model.specs.Ordered.{with_item, ascending, place_of}
 use Rattle.debugnames_write.specs.declared.item.IndexEntry.{IndexEntry}
 use Rattle.debugnames_write.specs.declared.item.Row.{Row}
 use Rattle.index_model.specs.Order.{Rises, Adds}
-use Rattle.debugnames_write.specs.Rows.{row_seen}
+use Rattle.debugnames_write.specs.Rows.{KeepsRowAt, row_seen}
 use Rattle.debugnames_write.specs.Seen.{item_seen, items_seen}
 use Rattle.debugnames_write.proofs.Lists.{around, position_at, map-map}
 use Rattle.index_model.proofs.Orders.{IsOrder, pairs_from_rises, with_adds, with_rises, ascending_is}
@@ -169,6 +169,26 @@ rows_all items i rows le h =
 -- the same with the entry as it is read
 pub rows_next : (items : List IndexEntry) (i : ℕ) (d : IndexEntry) (rows new : List Row) → i < length items → AreRowsOf (take i items) rows → Rises row_lt (map row_seen new) → Adds (row_seen (get_or items i d).row) (map row_seen rows) (map row_seen new) → AreRowsOf (take (i + 1) items) new
 rows_next items i d rows new lt h rises adds = rows_more items i (get_or items i d) rows new lt (get_or_default items i d (get_or items i d) lt) h rises adds
+
+-- the row of the entry before is among them already
+keep_row : (items : List IndexEntry) (i : ℕ) (d : IndexEntry) (rows : List Row) → i < length items → KeepsRowAt items i → AreRowsOf (take i items) rows → AreRowsOf (take (i + 1) items) rows
+keep_row items i d rows lt keeps h =
+    let all : List IndexRow = map row_in items in
+    let row : IndexRow = row_seen (get_or items i d).row in
+    let many : length all ≡ length items = length-map items row_in in
+    let size : length (take i all) ≡ i = length-take-le i all (omega (arith, many)) in
+    let at : get_or (take i all) (i - 1) (0, false) ≡ row =
+    get_or-take i all (i - 1) (0, false) (omega (arith, keeps.some)) ∙ sym keeps.same ∙ get_or-map row_in items i d (0, false) lt in
+    let stands : Contains (take i all) row = subst (λ (w : IndexRow). Contains (take i all) w) at (Contains-get_or (take i all) (i - 1) (0, false) (omega (arith, size, keeps.some))) in
+    rows_next items i d rows rows lt h h.rises (record {
+      own = h.has row (subst (λ (w : List IndexRow). Contains w row) (take-map row_in i items) stands);
+      kept = λ r c. c;
+      only = λ r c. inl c;
+    })
+
+pub rows_keep : (items : List IndexEntry) (i : ℕ) (rows : List Row) → i < length items → KeepsRowAt items i → AreRowsOf (take i items) rows → AreRowsOf (take (i + 1) items) rows
+rows_keep [] i rows lt keeps h = absurd (omega arith)
+rows_keep (x ∷ xs) i rows lt keeps h = keep_row (x ∷ xs) i x rows lt keeps h
 
 -- ---- a row that isn't at its place
 

@@ -1,5 +1,6 @@
 -- Entries by their names.
 use Rattle.std.specs.Prelude.{◌≡◌, ℕ, ◌+◌, ◌-◌, ◌≤◌, ◌<◌, Bool, List, [], length, map, filter, bytes_eq, All, slice_index_or, MatchBool}
+use Rattle.index_model.specs.Hashes.{name_hash}
 use Rattle.index_model.specs.NameIndex.{Indexed, names_in}
 use Rattle.query_engine.specs.Pairs.{ComesBefore}
 use Rattle.debugnames_write.specs.declared.groups.NameEntries.{NameEntries}
@@ -43,6 +44,10 @@ IsGroupOf es g = items_seen g.items.now ≡ entries_named g.name.now es
 -- the names of groups
 abbrev pub group_names : List NameEntries → List (List ℕ)
 group_names gs = map (λ g. g.name.now) gs
+
+-- the hashes of their names
+abbrev pub group_hashes : List NameEntries → List ℕ
+group_hashes gs = map (λ g. name_hash g.name.now) gs
 
 -- the groups of all names, in byte order
 pub record AreGroupsOf (es : List Indexed) (gs : List NameEntries) : Type 0 where

@@ -1,5 +1,5 @@
 -- The bytes of an index over names in their order.
-use Rattle.std.specs.Prelude.{ℕ, ◌+◌, ◌*◌, true, false, List, [], ◌∷◌, ◌++◌, length, map, flat_map}
+use Rattle.std.specs.Prelude.{ℕ, ◌+◌, ◌-◌, ◌*◌, ◌^◌, min, true, false, List, [], ◌∷◌, ◌++◌, length, map, flat_map}
 use Rattle.index_model.specs.declared.unit.Unit.{Unit as UnitHeader}
 use Rattle.index_model.specs.Layout.{below, u16_bytes, u32_bytes, ended, start_of}
 use Rattle.index_model.specs.NameIndex.{Row as IndexRow, unit_offsets, bucket, abbreviation_table, entry_bytes, counts_of}
@@ -15,6 +15,10 @@ entries_bytes rows items = ended (flat_map (entry_bytes rows) (items_seen items)
 -- the entries of each name
 abbrev pub groups_bytes : List IndexRow → List Name → List (List ℕ)
 groups_bytes rows names = map (λ n. entries_bytes rows n.items.now) names
+
+-- how many bytes they have, where 2 ^ 64 - 1 stands for all greater numbers
+abbrev pub group_sizes : List IndexRow → List Name → List ℕ
+group_sizes rows names = map (λ g. min (length g) (2 ^ 64 - 1)) (groups_bytes rows names)
 
 -- all entries
 abbrev pub pool_bytes : List IndexRow → List Name → List ℕ

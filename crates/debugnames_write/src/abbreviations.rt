@@ -1,12 +1,12 @@
 //! The abbreviations of the index (DWARF 5, section 6.1.1.4.7).
 
-ghost use Rattle.std.specs.Prelude.{◌≡◌, ◌+◌, ◌≤◌, ◌<◌, ◌++◌, true, false, length, map, Contains, IfOk, OnOk};
+ghost use Rattle.std.specs.Prelude.{◌≡◌, ◌+◌, ◌≤◌, ◌<◌, ◌++◌, true, false, length, map, Contains, IsTrue, IfOk, OnOk};
 ghost use Rattle.std.specs.List.Sorted.{IsPartitionPoint};
 ghost use Rattle.index_model.specs.NameIndex.{rows_of, row_lt, row_eq, abbreviation_table, abbreviation_bytes};
 ghost use Rattle.index_model.specs.Ordered.{place_of};
 ghost use Rattle.debugnames_write.specs.Answers.{Answers};
 ghost use Rattle.index_model.specs.Order.{Rises, Adds};
-ghost use Rattle.debugnames_write.specs.Rows.{row_seen};
+ghost use Rattle.debugnames_write.specs.Rows.{KeepsRowAt, row_seen};
 ghost use Rattle.debugnames_write.specs.Seen.{items_seen};
 
 use crate::item::{IndexEntry, Row};
@@ -57,8 +57,11 @@ impl Abbreviations {
         ensures { IfOk result (λ a. a ≡ rows_of (items_seen items.now)) }
     {
         let mut rows = Vec::new(alloc);
-        for item in items {
-            add(&mut rows, item.row)?;
+        for (place, item) in items.iter().enumerate() {
+            // Most entries of one name have one row.
+            if !keeps_row(items, place) {
+                add(&mut rows, item.row)?;
+            }
         }
         Ok(Abbreviations { rows })
     }
@@ -93,6 +96,14 @@ impl Abbreviations {
         out.push(0)?;
         Ok(())
     }
+}
+
+// Whether the entry at the index has the row of the one before it.
+fn keeps_row(items: &[IndexEntry<'_>], index: usize) -> bool
+    requires { index < length items.now }
+    ensures { IsTrue result → KeepsRowAt items.now index }
+{
+    0 < index && items[index].row == items[index - 1].row
 }
 
 // The place of the first row that doesn't come before this one.

@@ -5,6 +5,7 @@ ghost use Rattle.debugnames_write.specs.Groups.{AreSorted, AreGroupsOf, GoesOnAt
 ghost use Rattle.debugnames_write.specs.Seen.{items_seen};
 
 use crate::item::IndexEntry;
+use crate::threads::threads_for;
 use std::alloc::{AllocError, Global};
 use std::thread::{Threads, for_each_mut};
 
@@ -15,18 +16,17 @@ pub(crate) struct NameEntries<'r> {
     pub items: &'r [IndexEntry<'r>],
 }
 
-/// The groups of sorted entries, one for each name, in byte order. So many threads compare their names.
+/// The groups of sorted entries, one for each name, in byte order. The entries are halved so often for threads.
 pub(crate) fn groups_of<'r, R: Threads + Sync>(
     rt: &R,
     alloc: Global,
-    threads: usize,
+    halvings: u32,
     items: &'r [IndexEntry<'r>],
 ) -> Result<Vec<NameEntries<'r>>, AllocError>
-    requires sorted { AreSorted items.now }
-    requires threads { 0 < threads }
+    requires { AreSorted items.now }
     ensures { IfOk result (λ v. AreGroupsOf (items_seen items.now) v.items) }
 {
-    let goes_on = names_that_go_on(rt, alloc, threads, items)?;
+    let goes_on = names_that_go_on(rt, alloc, halvings, items)?;
     groups_by(alloc, items, &goes_on)
 }
 
@@ -34,17 +34,16 @@ pub(crate) fn groups_of<'r, R: Threads + Sync>(
 fn names_that_go_on<R: Threads + Sync>(
     rt: &R,
     alloc: Global,
-    threads: usize,
+    halvings: u32,
     items: &[IndexEntry<'_>],
 ) -> Result<Vec<bool>, AllocError>
-    requires { 0 < threads }
     ensures { IfOk result (λ v. SayGoingOn items.now v.items) }
 {
     let mut goes_on = vec![in alloc; false; items.len()]?;
     for_each_mut(
         rt,
         goes_on.as_mut_slice(),
-        threads,
+        threads_for(halvings, items.len()),
         &|place: usize, own: &mut bool| { *own = goes_on_at(items, place + 1) },
     );
     Ok(goes_on)

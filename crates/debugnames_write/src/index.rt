@@ -54,7 +54,7 @@ pub(crate) fn index_bytes<R: Threads + Sync>(
     ensures { Answers result (λ v. (v.items ≡ laid_out units.now abbreviations.now names.now) × (length v.items ≤ 4294967283)) (4294967283 < length (laid_out units.now abbreviations.now names.now)) }
 {
     let table_size = abbreviations.size()?;
-    let pool = pool_places(alloc, abbreviations, names)?;
+    let pool = pool_places(rt, alloc, halvings, abbreviations, names)?;
     let count = names.len() as u32;
     let size = index_size(places, count, table_size, pool.size)?;
     let mut out = Vec::with_capacity(alloc, size as usize)?;

@@ -19,6 +19,7 @@ mod numbers;
 mod pool;
 mod pool_halves;
 mod strings;
+mod threads;
 mod units;
 mod writer;
 

@@ -6,18 +6,19 @@ ghost use Rattle.std.specs.Cmp.{partial_equiv_from_equiv, on_per, on_equiv, on_p
 ghost use Rattle.std.specs.Cmp.Lexicographic.{pointwise, slice_cmp, nat_list_eq_equiv, nat_list_cmp_total, texts_ties, texts_po};
 ghost use Rattle.index_model.specs.Ordered.{bytes_lt};
 ghost use Rattle.debugnames_write.specs.Answers.{Answers};
-ghost use Rattle.debugnames_write.specs.Groups.{group_names};
+ghost use Rattle.debugnames_write.specs.Groups.{group_hashes, group_names};
 ghost use Rattle.debugnames_write.specs.Names.{AreNamesOf, AreSortedNamesOf, StringsPass};
 ghost use Rattle.index_model.specs.Order.{Rises};
 ghost use Rattle.debugnames_write.specs.Seen.{name_key};
 
 use crate::groups::NameEntries;
-use crate::hash::name_hash;
+use crate::hash::hashes_of;
 use crate::item::IndexEntry;
 use crate::limits::{MAX_STRINGS, grown};
 use crate::writer::WriteStop;
 use std::alloc::{AllocError, Global};
 use std::cmp::Ordering;
+use std::thread::Threads;
 
 /// A name of the index. Names are ordered by bucket, then by hash, then by bytes.
 #[derive(Drop)]
@@ -80,31 +81,37 @@ pub(crate) struct NameTable<'r> {
     pub strings_end: u64,
 }
 
-/// The names of these groups in the order of the index. Their strings follow the bytes that `.debug_str` has.
-pub(crate) fn sorted_names<'r>(
+/// The names of these groups in the order of the index. Their strings follow the bytes that `.debug_str` has. The groups are
+/// halved so often for threads.
+pub(crate) fn sorted_names<'r, R: Threads + Sync>(
+    rt: &R,
     alloc: Global,
+    halvings: u32,
     groups: &[NameEntries<'r>],
     old_strings: u64,
 ) -> Result<NameTable<'r>, WriteStop>
     requires { Rises bytes_lt (group_names groups.now) }
     ensures { Answers result (AreSortedNamesOf groups.now old_strings) (StringsPass groups.now old_strings) }
 {
-    let mut named = names_of(alloc, groups, old_strings)?;
+    let hashes = hashes_of(rt, alloc, halvings, groups)?;
+    let mut named = names_of(alloc, groups, &hashes, old_strings)?;
     sort_names(&mut named.names)?;
     Ok(named)
 }
 
-// The names of these groups in byte order.
+// The names of these groups in byte order, with these hashes.
 fn names_of<'r>(
     alloc: Global,
     groups: &[NameEntries<'r>],
+    hashes: &[u32],
     old_strings: u64,
 ) -> Result<NameTable<'r>, WriteStop>
-    requires { Rises bytes_lt (group_names groups.now) }
+    requires rises { Rises bytes_lt (group_names groups.now) }
+    requires hashes { hashes.now ≡ group_hashes groups.now }
     ensures { Answers result (AreNamesOf groups.now old_strings) (StringsPass groups.now old_strings) }
 {
     let mut names = Vec::with_capacity(alloc, groups.len())?;
-    let strings_end = push_names(&mut names, groups, old_strings)?;
+    let strings_end = push_names(&mut names, groups, hashes, old_strings)?;
     Ok(NameTable { names, strings_end })
 }
 
@@ -112,15 +119,17 @@ fn names_of<'r>(
 fn push_names<'r>(
     names: &mut Vec<Name<'r>>,
     groups: &[NameEntries<'r>],
+    hashes: &[u32],
     old_strings: u64,
 ) -> Result<u64, WriteStop>
     requires rises { Rises bytes_lt (group_names groups.now) }
+    requires hashes { hashes.now ≡ group_hashes groups.now }
     requires none { names.now.items ≡ [] }
     ensures { Answers result (λ end. AreNamesOf groups.now old_strings (record { names = names.new; strings_end = end })) (StringsPass groups.now old_strings) }
 {
     let mut end = grown(old_strings, 0, MAX_STRINGS)?;
-    for group in groups {
-        let hash = name_hash(group.name);
+    for (place, group) in groups.iter().enumerate() {
+        let hash = hashes[place];
         names.push(Name {
             bucket: (hash as usize % groups.len()) as u32,
             hash,

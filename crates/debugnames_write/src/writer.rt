@@ -22,9 +22,6 @@ use query_engine::Table;
 use std::alloc::{AllocError, AllocFailed, Global};
 use std::thread::Threads;
 
-// Tables aren't halved more often.
-const MOST_HALVINGS: u32 = 8;
-
 /// The bytes of a `.debug_names`, and the strings that are appended to `.debug_str`.
 #[derive(Drop)]
 pub struct NameBytes {
@@ -126,8 +123,8 @@ fn name_bytes<R: Threads + Sync>(
     ensures fits { (entries : List Entry) → AreMadeOf units.now abbreviations.now items.now entries → OnOk result (Fits units.now old_strings entries) }
     ensures too_large { (entries : List Entry) → AreMadeOf units.now abbreviations.now items.now entries → IfErr result (λ stop. stop ≡ stops.TooLarge → ¬ Fits units.now old_strings entries) }
 {
-    let groups = groups_of(rt, alloc, threads_for(halvings), items)?;
-    let named = sorted_names(alloc, &groups, old_strings)?;
+    let groups = groups_of(rt, alloc, halvings, items)?;
+    let named = sorted_names(rt, alloc, halvings, &groups, old_strings)?;
     let names = index_bytes(
         rt,
         alloc,
@@ -142,11 +139,4 @@ fn name_bytes<R: Threads + Sync>(
         names: List::of(names),
         strings: List::of(strings),
     })
-}
-
-// How many threads share work that is halved so often.
-fn threads_for(halvings: u32) -> usize
-    ensures { 0 < result }
-{
-    1 << halvings.min(MOST_HALVINGS)
 }

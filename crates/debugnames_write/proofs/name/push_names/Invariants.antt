@@ -5,10 +5,10 @@ use Rattle.debugnames_write.specs.Groups.{group_names}
 use Rattle.debugnames_write.specs.Names.{kept_of_name, kept_of_group, IsNameOf}
 use Rattle.debugnames_write.proofs.name.push_names.Given as goal
 
-abbrev pub invariant-loop-group : goal.invariant-loop-group
-invariant-loop-group l = record {
-  kept : map kept_of_name l.names.items ≡ map kept_of_group (take l.group-index l.groups);
+abbrev pub invariant-loop-place : goal.invariant-loop-place
+invariant-loop-place l = record {
+  kept : map kept_of_name l.names.items ≡ map kept_of_group (take l.place l.groups);
   each : All (IsNameOf (group_names l.groups) l.old_strings) l.names.items;
-  end : l.end ≡ l.old_strings + length (flat_map ended (take l.group-index (group_names l.groups)));
+  end : l.end ≡ l.old_strings + length (flat_map ended (take l.place (group_names l.groups)));
   fits : l.end ≤ 4294967295;
 }

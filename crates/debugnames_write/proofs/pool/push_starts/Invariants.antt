@@ -1,13 +1,12 @@
-use Rattle.std.proofs.Common.{◌≡◌, ◌≤◌, length, take, map}
-use Rattle.std.specs.Prelude.{flat_map}
-use Rattle.index_model.specs.Layout.{below, start_of}
-use Rattle.debugnames_write.specs.Laid.{groups_bytes}
-use Rattle.debugnames_write.proofs.PoolLaws.{name_bytes}
+use Rattle.std.proofs.Common.{◌≡◌, ◌≤◌, List}
+use Rattle.index_model.specs.NameIndex.{Row as IndexRow}
+use Rattle.debugnames_write.specs.declared.name.Name.{Name}
+use Rattle.debugnames_write.specs.Laid.{group_sizes}
+use Rattle.debugnames_write.proofs.PoolLaws.{AreStartsTo}
 use Rattle.debugnames_write.proofs.pool.push_starts.Given as goal
 
-abbrev pub invariant-loop-name : goal.invariant-loop-name
-invariant-loop-name l = record {
-  starts : l.starts.items ≡ map (start_of (groups_bytes l.abbreviations l.names)) (below l.name-index);
-  size : l.size ≡ length (flat_map (name_bytes l.abbreviations) (take l.name-index l.names));
-  fits : l.size ≤ 4294967283;
+abbrev pub invariant-loop-size : goal.invariant-loop-size
+invariant-loop-size l = record {
+  made : (rows : List IndexRow) (names : List Name) → l.sizes ≡ group_sizes rows names → AreStartsTo rows names l.size-index l.starts.items l.end;
+  small : l.end ≤ 4294967283;
 }

@@ -10,7 +10,7 @@ pub sorted_names-requires : goal.sorted_names-requires
 sorted_names-requires g c =
     let entries = c.requires.made.0 in
     let made = c.requires.made.1 in
-    rw c.deref.ensures.value (strings_rise c.args.units.now c.args.old_strings entries made.in_order c.args.items.now c.in_ok-groups.groups.items made.all made.same c.in_ok-groups.ensures)
+    (c.type_bounds.sync-R, rw c.deref.ensures.value (strings_rise c.args.units.now c.args.old_strings entries made.in_order c.args.items.now c.in_ok-groups.groups.items made.all made.same c.in_ok-groups.ensures))
 
 pub returns-in_err-named-clause-too_large : goal.returns-in_err-named-clause-too_large
 returns-in_err-named-clause-too_large g c = λ entries made.
