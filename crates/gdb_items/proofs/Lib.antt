@@ -1,0 +1,4 @@
+mod NamingLaws
+mod ItemLaws
+mod ReadLaws
+mod UnitLaws

@@ -1,0 +1,14 @@
+//! The items of a program file, as gdb's rules ask of them (gdb/dwarf2/read.c, `index_dies` and `scan_attributes`).
+//!
+//! The definitions of gdb_entries speak of any item of a file. Here those of a unit are read from its bytes, all or the few that may be
+//! listed or lead to what is listed, each with what it says of itself.
+#![tactic(auto)]
+
+mod facts;
+mod item;
+mod unit;
+mod which;
+
+pub use item::UnitItem;
+pub use unit::{unit_items, unit_items_with};
+pub use which::Which;
