@@ -2,3 +2,4 @@ mod NamingLaws
 mod ItemLaws
 mod ReadLaws
 mod UnitLaws
+mod PlaceLaws

@@ -1,14 +1,17 @@
 //! The items of a program file, as gdb's rules ask of them (gdb/dwarf2/read.c, `index_dies` and `scan_attributes`).
 //!
 //! The definitions of gdb_entries speak of any item of a file. Here those of a unit are read from its bytes, all or the few that may be
-//! listed or lead to what is listed, each with what it says of itself.
+//! listed or lead to what is listed, each with what it says of itself. `FileItems` finds an item of any unit by its joint offset.
 #![tactic(auto)]
 
 mod facts;
+mod file;
 mod item;
+mod read_unit;
 mod unit;
 mod which;
 
+pub use file::FileItems;
 pub use item::UnitItem;
 pub use unit::{unit_items, unit_items_with};
 pub use which::Which;

@@ -1,0 +1,24 @@
+use Rattle.std.proofs.Common.{◌≡◌, ◌<◌, length, Some, Ok, refl, sym, ap, subst, ◌∙◌}
+use Rattle.file_image.specs.Images.{Image}
+use Rattle.index_model.specs.Faults.{program_of}
+use Rattle.shard_build.specs.Found.{IsUnitAt}
+use Rattle.gdb_items.specs.declared.which.Which.TheVariants.{All}
+use Rattle.gdb_items.specs.Items.{AreItemsOf}
+use Rattle.gdb_items.proofs.PlaceLaws.{offsets_rise, all_there}
+use Rattle.gdb_items.proofs.UnitLaws.{unit_with}
+use Rattle.gdb_items.proofs.file.FileItems.read_all.Goals as goal
+
+pub returns-clause-value : goal.returns-clause-value
+returns-clause-value c p given =
+    let im = c.self.inside.image.now in
+    let file = ap (λ (e : Image). e.file) c.self.view_is in
+    let is : program_of im.file ≡ Ok p = ap program_of file ∙ given in
+    let unit = c.args.unit in
+    let o = c.args.offset in
+    let within : unit < length im.units = subst (λ (e : Image). unit < length e.units) (sym c.self.view_is) c.requires.within in
+    let items = c.in_ok-items.items.items in
+    let are : AreItemsOf im.file unit All items = c.in_ok-items.ensures.items in
+    let w = unit_with im c.units-units.ensures.of_file p is unit within in
+    let rise = offsets_rise im.file p is All items w.0 w.1 (are p is w.0 w.1 w.2) in
+    let at = subst (λ f. IsUnitAt f o (Some unit)) (sym file) c.requires.unit in
+    all_there im.file p is All items o unit at are (λ d. refl) w.0 w.1 w.2 c.at-found.result (c.at-found.ensures rise)

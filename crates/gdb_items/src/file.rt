@@ -1,0 +1,158 @@
+//! The items of a file by their joint offsets.
+//!
+//! A unit is read once there is need of it, and what may be listed of it is kept. Where an offset is that of something else, or of no
+//! item, the unit is read once more, and all its items are kept from then on.
+
+ghost use Rattle.std.specs.Prelude.{◌≡◌, ◌<◌, length, IfOk, IfSome, Some};
+ghost use Rattle.index_model.specs.Program.{item_with_offset};
+ghost use Rattle.shard_build.specs.Found.{IsUnitAt};
+ghost use Rattle.gdb_items.specs.Files.{ForProgram, HasProgram, IsItemIn};
+
+use crate::item::UnitItem;
+use crate::read_unit::ReadUnit;
+use crate::unit::unit_items_with;
+use crate::which::Which;
+use file_image::Image;
+use indexmap::IndexMap;
+use ix_base::NoMemory;
+use shard_build::{AbbrevTable, unit_at};
+use std::alloc::Global;
+use std::marker::Model;
+
+/// The items of a file without a fault. Contracts see the image of the file.
+#[derive(Drop)]
+pub struct FileItems<'s, 'f> {
+    image: &'s Image<'f>,
+    at_hand: Option<AbbrevTable>,
+    // What was read of units, by their numbers.
+    units: IndexMap<u32, ReadUnit<'f>>,
+}
+
+impl<'s, 'f> Model for FileItems<'s, 'f> {
+    ghost use Rattle.std.specs.Prelude.{codes};
+    ghost use Rattle.std.specs.Option.{ForSome};
+    ghost use Rattle.file_image.specs.Images.{Image as ImageOf};
+    ghost use Rattle.index_model.specs.Sections.{section_bytes};
+    ghost use Rattle.shard_build.specs.Runs.{IsAtOffset};
+    ghost use Rattle.gdb_items.specs.Files.{AreUnitsOf, HasProgram};
+
+    ghost Value = { ImageOf };
+
+    ghost view = { λ e. e.image.now };
+
+    ghost invariant = { λ e. HasProgram e.image.now.file × ForSome e.at_hand (IsAtOffset (section_bytes e.image.now.sections (codes ".debug_abbrev"))) × AreUnitsOf e.image.now.file e.units };
+}
+
+impl<'s, 'f> FileItems<'s, 'f> {
+    /// The items of a file without a fault, of which no unit is read yet.
+    pub fn new(alloc: Global, image: &'s Image<'f>) -> FileItems<'s, 'f>
+        requires { HasProgram image.now.file }
+        ensures { result ≡ image.now }
+    {
+        FileItems {
+            image,
+            at_hand: None,
+            units: IndexMap::new(alloc),
+        }
+    }
+
+    /// The item at a joint offset, of any unit. None where none begins there.
+    pub fn at(&mut self, alloc: Global, offset: u64) -> Result<Option<UnitItem<'f>>, NoMemory>
+        ensures value { ForProgram self.old.file (λ p. IfOk result (λ i. IsItemIn p.sections i (item_with_offset p offset))) }
+        ensures kept { self.new ≡ self.old }
+    {
+        match self.unit_of(offset) {
+            Some(unit) => self.within(alloc, unit, offset),
+            None => Ok(None),
+        }
+    }
+
+    // The number of the unit in which an offset stands, if the file has it.
+    fn unit_of(&self, offset: u64) -> Option<u32>
+        ensures unit { IsUnitAt self.now.file offset result }
+        ensures within { IfSome result (λ unit. unit < length self.now.units) }
+    {
+        let count = self.image.units().len();
+        match unit_at(self.image, offset) {
+            Some(unit) => if (unit as usize) < count {
+                Some(unit)
+            } else {
+                None
+            },
+            None => None,
+        }
+    }
+
+    // The item at an offset of a unit.
+    fn within(
+        &mut self,
+        alloc: Global,
+        unit: u32,
+        offset: u64,
+    ) -> Result<Option<UnitItem<'f>>, NoMemory>
+        requires unit { IsUnitAt self.old.file offset (Some unit) }
+        requires within { unit < length self.old.units }
+        ensures value { ForProgram self.old.file (λ p. IfOk result (λ i. IsItemIn p.sections i (item_with_offset p offset))) }
+        ensures kept { self.new ≡ self.old }
+    {
+        self.read_listed(alloc, unit)?;
+        match self.known(unit, offset) {
+            Some(found) => Ok(found),
+            None => self.read_all(alloc, unit, offset),
+        }
+    }
+
+    // Reads what may be listed of a unit, if nothing was read of it yet.
+    fn read_listed(&mut self, alloc: Global, unit: u32) -> Result<(), NoMemory>
+        requires { unit < length self.old.units }
+        ensures { self.new ≡ self.old }
+    {
+        if self.units.contains_key(&unit) {
+            return Ok(());
+        }
+        let which = Which::Listed;
+        let items = unit_items_with(alloc, self.image, unit, which, &mut self.at_hand)?;
+        self.units.insert(unit, ReadUnit { which, items })?;
+        Ok(())
+    }
+
+    // What is known of the item at an offset of a unit: nothing where what was read of the unit doesn't tell.
+    fn known(&self, unit: u32, offset: u64) -> Option<Option<UnitItem<'f>>>
+        requires unit { IsUnitAt self.now.file offset (Some unit) }
+        requires within { unit < length self.now.units }
+        ensures { IfSome result (λ found. ForProgram self.now.file (λ p. IsItemIn p.sections found (item_with_offset p offset))) }
+    {
+        // The units are those of the image's file.
+        let _units = self.image.units();
+        let read = self.units.get(&unit)?;
+        match read.at(offset) {
+            Some(item) => Some(Some(item)),
+            None => match read.which {
+                Which::All => Some(None),
+                Which::Listed => None,
+            },
+        }
+    }
+
+    // The item at an offset of a unit, which is read whole and kept so.
+    fn read_all(
+        &mut self,
+        alloc: Global,
+        unit: u32,
+        offset: u64,
+    ) -> Result<Option<UnitItem<'f>>, NoMemory>
+        requires unit { IsUnitAt self.old.file offset (Some unit) }
+        requires within { unit < length self.old.units }
+        ensures value { ForProgram self.old.file (λ p. IfOk result (λ i. IsItemIn p.sections i (item_with_offset p offset))) }
+        ensures kept { self.new ≡ self.old }
+    {
+        // The units are those of the image's file.
+        let _units = self.image.units();
+        let which = Which::All;
+        let items = unit_items_with(alloc, self.image, unit, which, &mut self.at_hand)?;
+        let read = ReadUnit { which, items };
+        let found = read.at(offset);
+        self.units.insert(unit, read)?;
+        Ok(found)
+    }
+}
