@@ -3,3 +3,4 @@ mod ItemLaws
 mod ReadLaws
 mod UnitLaws
 mod PlaceLaws
+mod ChainLaws
