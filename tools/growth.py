@@ -13,21 +13,13 @@ import time
 TOP = os.path.dirname(os.path.dirname(os.path.abspath(__file__)))
 UNITS = (12, 34, 96, 271, 542, 1085, 2170)
 WORKERS = (1, 4)
-SOURCE = """#include <algorithm>
-#include <functional>
-#include <iostream>
-#include <map>
-#include <memory>
-#include <regex>
+SOURCE = """#include <map>
 #include <string>
-#include <thread>
 #include <vector>
 int main(int count, char **words) {
     std::map<std::string, std::vector<int>> found;
     for (int i = 0; i < count; i++) found[words[i]].push_back(i);
-    std::regex pattern("a.*");
-    for (auto &pair : found) if (std::regex_match(pair.first, pattern)) std::cout << pair.first << std::endl;
-    return 0;
+    return found.size();
 }
 """
 
