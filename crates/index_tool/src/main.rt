@@ -1,20 +1,11 @@
 //! `gdbix`: the symbol index of a program with DWARF, on the command line.
 #![tactic(auto)]
 
-mod lines;
-mod said;
-mod section;
-mod streams;
-mod words;
-
 use fault_words::help_for;
 use index_cmd::run;
-use lines::Remembering;
 use outside::{FileShelf, NoGate, StreamSink, StreamSource};
-use said::{answer, say_end, stop};
 use std::process::ExitCode;
-use streams::take_closed;
-use words::{NotBegun, checked_words};
+use tool_base::{NotBegun, Remembering, answer, checked_words, say_end, stop, take_closed};
 
 fn main(rt: HostRuntime) -> ExitCode {
     let _closed = take_closed(&rt);

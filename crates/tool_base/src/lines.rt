@@ -4,13 +4,14 @@ ghost use Rattle.std.specs.Prelude.{◌≡◌, ◌≤◌};
 
 use memchr::{memchr, memrchr};
 use outside::{Failed, Sink};
+use std::marker::Model;
 
 /// More bytes than a line has that names a fault.
 const KEPT: usize = 64;
 
 /// An output that hands all on to another, and keeps the first and the last bytes that it took.
 #[derive(Drop)]
-pub(crate) struct Remembering<K> {
+pub struct Remembering<K> {
     to: K,
     first: [u8; KEPT],
     first_len: usize,
@@ -20,9 +21,16 @@ pub(crate) struct Remembering<K> {
     ghost within: { len ≤ 64 },
 }
 
+impl<K> Model for Remembering<K> {
+    ghost Value = { K };
+
+    ghost view = { λ s. s.to };
+}
+
 impl<K: Sink> Remembering<K> {
-    pub(crate) fn over(to: K) -> Self
-        ensures { result.to ≡ to }
+    /// An output over another, of which nothing was taken yet.
+    pub fn over(to: K) -> Self
+        ensures { result ≡ to }
     {
         Remembering {
             to,
@@ -34,14 +42,14 @@ impl<K: Sink> Remembering<K> {
     }
 
     /// The output that takes all.
-    pub(crate) fn inner(&self) -> &K
-        ensures { result.now ≡ self.now.to }
+    pub fn inner(&self) -> &K
+        ensures { result.now ≡ self.now }
     {
         &self.to
     }
 
     /// The first line that was written, or the front of it.
-    pub(crate) fn first_line(&self) -> &[u8] {
+    pub fn first_line(&self) -> &[u8] {
         let text = &self.first[..self.first_len];
         match memchr(b'\n', text) {
             Some(at) => &text[..at],
@@ -50,7 +58,7 @@ impl<K: Sink> Remembering<K> {
     }
 
     /// The last line that was written, or the end of it.
-    pub(crate) fn last_line(&self) -> &[u8] {
+    pub fn last_line(&self) -> &[u8] {
         let text = &self.last[..self.len];
         let text = text.strip_suffix(b"\n").unwrap_or(text);
         match memrchr(b'\n', text) {
@@ -61,7 +69,7 @@ impl<K: Sink> Remembering<K> {
 
     // Keeps the front of these bytes, as far as there is room behind what was kept.
     fn keep_first(&mut self, piece: &[u8])
-        ensures { self.new.to ≡ self.old.to }
+        ensures { self.new ≡ self.old }
     {
         let count = piece.len().min(KEPT - self.first_len);
         self.first[self.first_len..self.first_len + count].copy_from_slice(&piece[..count]);
@@ -70,7 +78,7 @@ impl<K: Sink> Remembering<K> {
 
     // Keeps the end of what was kept and of these bytes.
     fn keep_last(&mut self, piece: &[u8])
-        ensures { self.new.to ≡ self.old.to }
+        ensures { self.new ≡ self.old }
     {
         let fresh = &piece[piece.len() - piece.len().min(KEPT)..];
         let old = self.len.min(KEPT - fresh.len());
@@ -81,9 +89,9 @@ impl<K: Sink> Remembering<K> {
 }
 
 impl<K: Sink> Sink for Remembering<K> {
-    ghost write_faults = { λ s. K.write_faults s.to };
+    ghost write_faults = { λ s. K.write_faults s };
 
-    ghost written = { λ s. K.written s.to };
+    ghost written = { λ s. K.written s };
 
     fn write(&mut self, piece: &[u8]) -> Result<usize, Failed> {
         let count = self.to.write(piece)?;

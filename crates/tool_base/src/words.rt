@@ -10,7 +10,7 @@ use std::rt::{Env, Files};
 
 /// Why a command doesn't begin.
 #[derive(Clone, Copy)]
-pub(crate) enum NotBegun {
+pub enum NotBegun {
     /// A word isn't UTF-8, so it is none of the grammar.
     NotUtf8,
     /// An index would take the place of the program that it is made of.
@@ -41,7 +41,7 @@ impl From<io::Error> for NotBegun {
 }
 
 /// The words behind the program's name, by which nothing is stored over the file that it is made of.
-pub(crate) fn checked_words<R: Env + Files + AllocGlobal>(rt: &R) -> Result<Vec<String>, NotBegun> {
+pub fn checked_words<R: Env + Files + AllocGlobal>(rt: &R) -> Result<Vec<String>, NotBegun> {
     let words = words(rt)?;
     if stores_over_its_file(rt, &words)? {
         return Err(NotBegun::OverItsFile);

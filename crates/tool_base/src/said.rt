@@ -12,7 +12,7 @@ use std::io::{self, Eprint, Read, Write};
 use std::rt::Files;
 
 /// Ends a command that doesn't begin, with its line and its status.
-pub(crate) fn stop<R: Eprint, K: Sink>(rt: &R, why: NotBegun, out: &mut K) -> u8 {
+pub fn stop<R: Eprint, K: Sink>(rt: &R, why: NotBegun, out: &mut K) -> u8 {
     let (status, line) = match why {
         NotBegun::NotUtf8 => {
             let _ = eprintln!(rt; "gdbix: usage: a word isn't UTF-8");
@@ -35,7 +35,7 @@ pub(crate) fn stop<R: Eprint, K: Sink>(rt: &R, why: NotBegun, out: &mut K) -> u8
 }
 
 /// Writes a text that was asked for.
-pub(crate) fn answer<K: Sink>(text: &str, out: &mut K) -> u8 {
+pub fn answer<K: Sink>(text: &str, out: &mut K) -> u8 {
     write(out, text, Status::Answered)
 }
 
@@ -48,7 +48,7 @@ fn write<K: Sink>(out: &mut K, text: &str, status: Status) -> u8 {
 
 /// Says why a command ended with this status: in the system's words, where a call on what lies outside failed, else by the last line
 /// that it wrote. Of a kept index that couldn't be used it says why, whatever the status is.
-pub(crate) fn say_end<R: Eprint, F: Files + Drop, T: Read + Drop, W: Write + Drop>(
+pub fn say_end<R: Eprint, F: Files + Drop, T: Read + Drop, W: Write + Drop>(
     rt: &R,
     status: u8,
     words: &[String],

@@ -7,7 +7,7 @@ use std::rt::Files;
 /// Takes the places of the standard streams that are closed, so that no file that is opened later stands there and is read as the
 /// input or written to as the output. What stands there can't be read as an input, nor written to as an output. The places are taken
 /// for as long as the result is there.
-pub(crate) fn take_closed<R: Files<File = File>>(rt: &R) -> [Option<File>; 3] {
+pub fn take_closed<R: Files<File = File>>(rt: &R) -> [Option<File>; 3] {
     let (mut unreadable, mut unwritable) = (OpenOptions::new(), OpenOptions::new());
     unreadable.write(true);
     unwritable.read(true);
