@@ -10,7 +10,7 @@ use Rattle.command_base.specs.declared.file.ReadStop.TheVariants as stops
 use Rattle.command_base.specs.declared.status.Status.{Status}
 use Rattle.command_base.specs.declared.status.Status.TheVariants.{Answered, Refused, Usage, ReadFault, StoreFault, WriteFault, NoMemory, IndexRefused, TableRefused, IndexTooLarge, FileTooBig, AlreadyIndexed, TooManySections, InputFault, InputTooLong, Stopped}
 use Rattle.command_base.proofs.ReplyLaws.{wrote_weaker}
-use Rattle.session_commands.specs.RaceEnds.{CausesOfRace}
+use Rattle.race_command.specs.RaceEnds.{CausesOfRace}
 use Rattle.index_cmd.specs.Doings.{CausesBeside, SaysBeside}
 
 -- what is said of its bytes

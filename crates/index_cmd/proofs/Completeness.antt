@@ -14,13 +14,13 @@ use Rattle.query_text.specs.Questions.{Question}
 use Rattle.index_model.proofs.Meanings.{same_ok}
 use Rattle.index_model.specs.Sections.{Section}
 use Rattle.outside.specs.Files.{Files, Stored}
-use Rattle.session_commands.specs.declared.script.TheConstants.{MAX_SCRIPT_BYTES}
+use Rattle.race_command.specs.declared.script.TheConstants.{MAX_SCRIPT_BYTES}
 use Rattle.index_cmd.specs.Requests.{Request, TheHelp, TheVersion, OfFile, OfIndex, OfAdd, OfGdb, OfNames, OfServe, OfRace, OfDrill, OfAranges, OfFiles, OfCached, AsksFile, AsksProgram, AsksIndex}
 use Rattle.drill_command.specs.Drills.{HasTooLarge, IsSummaryOf}
 use Rattle.command_base.specs.FilesRead.{HoldsMore}
-use Rattle.session_commands.specs.Heard.{Heard}
+use Rattle.session_base.specs.Heard.{Heard}
 use Rattle.index_cmd.specs.Results.{Says, Completes}
-use Rattle.session_commands.specs.SessionResults.{IsServeMeant}
+use Rattle.serve_command.specs.SessionResults.{IsServeMeant}
 use Rattle.drill_command.specs.DrillResults.{IsDrillMeant}
 use Rattle.aranges_command.specs.Comparisons.{sets_of}
 use Rattle.files_command.specs.Listings.{found_by}

@@ -17,11 +17,11 @@ use Rattle.command_base.specs.declared.status.Status.{Status}
 use Rattle.command_base.specs.declared.status.Status.TheVariants.{Answered, Refused, Usage, ReadFault, StoreFault, WriteFault, NoMemory, IndexRefused, TableRefused, IndexTooLarge, FileTooBig, AlreadyIndexed, TooManySections, InputFault, InputTooLong, Stopped}
 use Rattle.command_base.proofs.FileReads.{same_more, same_whole}
 use Rattle.command_base.proofs.ReplyLaws.{wrote_weaker}
-use Rattle.session_commands.specs.declared.script.TheConstants.{MAX_SCRIPT_BYTES}
-use Rattle.session_commands.specs.Heard.{Heard}
-use Rattle.session_commands.specs.Listens.{CausesOfSession}
-use Rattle.session_commands.specs.Races.{SaysRace}
-use Rattle.session_commands.specs.SessionResults.{SaysServe}
+use Rattle.race_command.specs.declared.script.TheConstants.{MAX_SCRIPT_BYTES}
+use Rattle.session_base.specs.Heard.{Heard}
+use Rattle.serve_command.specs.Listens.{CausesOfSession}
+use Rattle.race_command.specs.Races.{SaysRace}
+use Rattle.serve_command.specs.SessionResults.{SaysServe}
 use Rattle.command_base.specs.GdbLooks.{SaysGdb}
 use Rattle.index_commands.specs.Indexes.{CausesOfIndex, LeavesIndex, SaysIndex}
 use Rattle.index_cmd.specs.declared.task.Racing.{Racing}

@@ -12,7 +12,7 @@ use Rattle.command_base.specs.declared.file.ReadStop.{ReadStop}
 use Rattle.command_base.specs.declared.file.ReadStop.TheVariants as stops
 use Rattle.command_base.specs.declared.status.Status.{Status}
 use Rattle.command_base.specs.declared.status.Status.TheVariants.{Answered, Refused, Usage, ReadFault, StoreFault, WriteFault, NoMemory, IndexRefused, TableRefused, IndexTooLarge, FileTooBig, AlreadyIndexed, TooManySections, InputFault, InputTooLong, Stopped}
-use Rattle.session_commands.specs.Heard.{Heard}
+use Rattle.session_base.specs.Heard.{Heard}
 use Rattle.drill_command.specs.DrillResults.{CausesOfDrill, SaysDrill}
 use Rattle.index_cmd.specs.Doings.{Does}
 use Rattle.index_cmd.specs.Replies.{Causes, IsAnswer}

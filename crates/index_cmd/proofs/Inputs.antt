@@ -2,7 +2,7 @@
 use Rattle.std.proofs.Common.{ℕ, List, Option, Some}
 use Rattle.command_base.specs.declared.status.Status.{Status}
 use Rattle.command_base.specs.declared.status.Status.TheVariants.{Answered, Refused, Usage, ReadFault, StoreFault, WriteFault, NoMemory, IndexRefused, TableRefused, IndexTooLarge, FileTooBig, AlreadyIndexed, TooManySections, InputFault, InputTooLong, Stopped}
-use Rattle.session_commands.specs.Listens.{CausesOfSession}
+use Rattle.serve_command.specs.Listens.{CausesOfSession}
 use Rattle.index_cmd.specs.Replies.{Ends, without_line, with_line, cut}
 use Rattle.index_cmd.specs.Requests.{Request, OfServe, ReadsNoInput}
 use Rattle.index_cmd.specs.Runs.{LeavesInput}

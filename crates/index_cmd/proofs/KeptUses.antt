@@ -13,7 +13,7 @@ use Rattle.command_base.specs.declared.file.ReadStop.{ReadStop}
 use Rattle.command_base.specs.declared.file.ReadStop.TheVariants as stops
 use Rattle.command_base.specs.declared.status.Status.{Status}
 use Rattle.command_base.specs.declared.status.Status.TheVariants.{Answered, Refused, Usage, ReadFault, StoreFault, WriteFault, NoMemory, IndexRefused, TableRefused, IndexTooLarge, FileTooBig, AlreadyIndexed, TooManySections, InputFault, InputTooLong, Stopped}
-use Rattle.session_commands.specs.Heard.{Heard}
+use Rattle.session_base.specs.Heard.{Heard}
 use Rattle.cached_command.specs.Cached.{LooksFirst, SaysTied}
 use Rattle.cached_command.specs.Caches.{IsCached}
 use Rattle.index_cmd.specs.Caching.{UsesKept, IsCutShort, in_result, in_line}

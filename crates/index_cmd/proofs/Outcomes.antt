@@ -8,7 +8,7 @@ use Rattle.outside.specs.Files.{Files}
 use Rattle.outside.specs.Written.{Appends, AppendsPrefix}
 use Rattle.outside.proofs.WrittenLaws.{appends_more, appends_more_prefix}
 use Rattle.command_words.specs.Words.{Wanted, command_of}
-use Rattle.session_commands.specs.Heard.{Heard}
+use Rattle.session_base.specs.Heard.{Heard}
 use Rattle.index_cmd.specs.Requests.{Request, TheHelp, TheVersion, OfFile, OfIndex, OfAdd, OfGdb, OfNames, OfServe, OfRace, OfDrill, OfAranges, OfFiles, OfCached, AsksIndex, requested, request_of}
 use Rattle.index_cmd.specs.Replies.{Causes, Ends, without_line, with_line, cut, IsAnswer, IsRefusal, IsIndexRefusal, IsTableRefusal, SaysRequest}
 use Rattle.command_base.specs.Replies.{Wrote, Writes, line_of}

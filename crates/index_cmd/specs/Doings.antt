@@ -7,7 +7,7 @@ use Rattle.command_base.specs.FilesRead.{Holds, HoldsMore}
 use Rattle.command_base.specs.Replies.{OfBytesUpTo, Wrote}
 use Rattle.command_base.specs.declared.status.Status.{Status}
 use Rattle.command_base.specs.declared.status.Status.TheVariants.{Answered, Refused, ReadFault, WriteFault, NoMemory, IndexRefused, FileTooBig, InputTooLong, Stopped}
-use Rattle.session_commands.specs.Heard.{Heard}
+use Rattle.session_base.specs.Heard.{Heard}
 use Rattle.index_cmd.specs.Caching.{UsesKept}
 use Rattle.index_cmd.specs.Replies.{Causes}
 use Rattle.index_cmd.specs.Requests.{Request}

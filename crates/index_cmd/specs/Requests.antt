@@ -8,7 +8,7 @@ use Rattle.index_commands.specs.declared.names.NamesLook.{NamesLook}
 use Rattle.index_cmd.specs.declared.task.Racing.{Racing}
 use Rattle.index_cmd.specs.declared.task.Serving.{Serving}
 use Rattle.ix_base.specs.declared.limits.TheConstants.{MAX_FILE_BYTES}
-use Rattle.session_commands.specs.declared.script.TheConstants.{MAX_SCRIPT_BYTES}
+use Rattle.race_command.specs.declared.script.TheConstants.{MAX_SCRIPT_BYTES}
 use Rattle.command_base.specs.GdbLooks.{offer_gdb}
 use Rattle.command_words.specs.DrillWords.{Drilled}
 use Rattle.command_words.specs.SessionWords.{Raced, Served}

@@ -7,10 +7,10 @@ use Rattle.outside.specs.Files.{Files}
 use Rattle.outside.specs.Written.{AppendsPrefix}
 use Rattle.command_base.specs.Replies.{OfBytesUpTo, OfFileBytes, OfWholeFile, line_of}
 use Rattle.command_base.specs.declared.status.Status.{Status}
-use Rattle.session_commands.specs.declared.script.TheConstants.{MAX_SCRIPT_BYTES}
-use Rattle.session_commands.specs.Heard.{Heard}
-use Rattle.session_commands.specs.Races.{SaysRace}
-use Rattle.session_commands.specs.SessionResults.{SaysServe, IsServeMeant}
+use Rattle.race_command.specs.declared.script.TheConstants.{MAX_SCRIPT_BYTES}
+use Rattle.session_base.specs.Heard.{Heard}
+use Rattle.race_command.specs.Races.{SaysRace}
+use Rattle.serve_command.specs.SessionResults.{SaysServe, IsServeMeant}
 use Rattle.drill_command.specs.DrillResults.{SaysDrill, IsDrillMeant}
 use Rattle.index_cmd.specs.Replies.{IsComplete, SaysRequest}
 use Rattle.index_cmd.specs.Requests.{Request, OfServe, OfRace, OfDrill}

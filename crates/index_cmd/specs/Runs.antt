@@ -10,7 +10,7 @@ use Rattle.command_base.specs.Replies.{Writes, line_of}
 use Rattle.command_base.specs.Statuses.{status_code}
 use Rattle.command_base.specs.declared.status.Status.{Status}
 use Rattle.command_base.specs.declared.status.Status.TheVariants.{Usage, ReadFault, WriteFault, NoMemory, FileTooBig, Stopped}
-use Rattle.session_commands.specs.Heard.{Heard, heard}
+use Rattle.session_base.specs.Heard.{Heard, heard}
 use Rattle.index_cmd.specs.Caching.{UsesKept}
 use Rattle.index_cmd.specs.Replies.{Causes}
 use Rattle.index_cmd.specs.Requests.{Request, ReadsNoInput, StoresNothing}

@@ -1,6 +1,6 @@
 use Rattle.std.proofs.Common.{Some, refl, sym, subst}
 use Rattle.outside.specs.Counts.{Rose}
-use Rattle.session_commands.specs.Heard.{heard}
+use Rattle.session_base.specs.Heard.{heard}
 use Rattle.index_cmd.specs.Doings.{Did}
 use Rattle.index_cmd.specs.Requests.{TheHelp, TheVersion}
 use Rattle.index_cmd.specs.Runs.{ran}

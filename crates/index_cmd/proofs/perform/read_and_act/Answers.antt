@@ -2,7 +2,7 @@ use Rattle.std.proofs.Common.{length, Err, Some, refl, sym, ap, subst, arith}
 use Rattle.outside.specs.Counts.{Rose}
 use Rattle.command_base.specs.FilesRead.{Holds}
 use Rattle.command_base.specs.declared.status.Status.{Status}
-use Rattle.session_commands.specs.Heard.{heard}
+use Rattle.session_base.specs.Heard.{heard}
 use Rattle.index_cmd.specs.Doings.{Did}
 use Rattle.index_cmd.specs.Runs.{ran}
 use Rattle.index_cmd.specs.Tasks.{request_on}

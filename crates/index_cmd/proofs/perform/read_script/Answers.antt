@@ -1,10 +1,10 @@
 use Rattle.std.proofs.Common.{length, Err, sym, ap, subst, arith}
-use Rattle.session_commands.specs.declared.script.TheConstants.{MAX_SCRIPT_BYTES}
+use Rattle.race_command.specs.declared.script.TheConstants.{MAX_SCRIPT_BYTES}
 use Rattle.outside.specs.Counts.{Rose}
 use Rattle.command_base.specs.FilesRead.{Holds}
 use Rattle.command_base.specs.Replies.{Wrote}
 use Rattle.command_base.specs.declared.status.Status.{Status}
-use Rattle.session_commands.specs.Races.{SaysRace}
+use Rattle.race_command.specs.Races.{SaysRace}
 use Rattle.index_cmd.specs.Doings.{CausesBeside, SaysBeside}
 use Rattle.index_cmd.proofs.Beside.{causes_raced, causes_stopped, wrote_beside, wrote_stopped}
 use Rattle.index_cmd.proofs.perform.read_script.Goals as goal

@@ -1,0 +1,3 @@
+mod Crossing
+mod RunnerLaws
+mod RaceLaws

@@ -1,0 +1,4 @@
+pub mod Transcripts
+pub mod Races
+pub mod Runners
+pub mod RaceEnds

@@ -1,0 +1,2 @@
+mod ListenLaws
+mod Crossing

@@ -1,0 +1,2 @@
+pub mod SessionResults
+pub mod Listens

@@ -1,0 +1,3 @@
+pub mod SessionTexts
+pub mod SessionBoards
+pub mod Crossing

@@ -1,5 +1,0 @@
-mod SessionTexts
-mod ListenLaws
-mod Crossing
-mod RunnerLaws
-mod RaceLaws

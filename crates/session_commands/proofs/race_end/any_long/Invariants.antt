@@ -1,8 +1,0 @@
-use Rattle.std.proofs.Common.{◌≡◌, drop}
-use Rattle.std.specs.List.{list_any}
-use Rattle.session_commands.specs.RaceEnds.{has_long}
-use Rattle.session_commands.proofs.race_end.any_long.Given as goal
-
--- so far no line was too long
-abbrev pub invariant-loop-runner : goal.invariant-loop-runner
-invariant-loop-runner l = list_any has_long (drop l.runner-index l.runners) ≡ list_any has_long l.runners

@@ -1,9 +1,0 @@
-use Rattle.std.proofs.Common.{◌≡◌, ◌+◌, ◌-◌, ◌^◌, flat_map, length, min, take}
-use Rattle.session_commands.specs.Runners.{round_bytes}
-use Rattle.session_commands.specs.declared.runner.Round.TheVariants.{During, After}
-use Rattle.session_commands.proofs.race_end.are_too_long.Given as goal
-
--- the bytes of the readers so far
-abbrev pub invariant-loop-runner : goal.invariant-loop-runner
-invariant-loop-runner l =
-    l.total ≡ min (length (flat_map (round_bytes During) (take l.runner-index l.runners)) + length (flat_map (round_bytes After) (take l.runner-index l.runners))) (2 ^ 64 - 1)

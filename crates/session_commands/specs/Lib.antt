@@ -1,9 +1,0 @@
-pub mod Heard
-pub mod Transcripts
-pub mod Floors
-pub mod Sessions
-pub mod Races
-pub mod SessionResults
-pub mod Listens
-pub mod Runners
-pub mod RaceEnds
