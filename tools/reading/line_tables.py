@@ -105,7 +105,8 @@ class Table:
         if form == UDATA:
             return self._uleb()
         if form == BLOCK:
-            self.at = numbers.skip(self.at, self.end, self._uleb())
+            count = self._uleb()
+            self.at = numbers.skip(self.at, self.end, count)
             return None
         offset = self._number(numbers.offset_size(self.wide))
         return self._text(STRING_SECTIONS[form], offset) if content == PATH else None

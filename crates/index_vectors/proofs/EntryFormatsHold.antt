@@ -3,7 +3,7 @@
 use Rattle.std.proofs.Common.{refl}
 use Rattle.std.specs.Prelude.{codes}
 use Rattle.index_vectors.specs.Says.{ListsFiles}
-use Rattle.index_vectors.specs.EntryFormats.{file_0, file_1, file_2, file_3, file_4, file_5, file_6, file_7, file_8, file_9, file_10}
+use Rattle.index_vectors.specs.EntryFormats.{file_0, file_1, file_2, file_3, file_4, file_5, file_6, file_7, file_8, file_9, file_10, file_11}
 use Rattle.index_vectors.proofs.Opened.{all_defs}
 
 pub files_directory_before_path : ListsFiles file_0 (codes "two.h") 0 (codes "found 1\n0 0 128 two.h\n")
@@ -26,26 +26,30 @@ pub files_other_contents_are_skipped : ListsFiles file_4 (codes "two.h") 0 (code
 unfolding all_defs file_4
 files_other_contents_are_skipped = refl
 
-pub files_path_in_a_directory_table : ListsFiles file_5 (codes "two.h") 0 (codes "found 1\n0 0 0 two.h\n")
+pub files_behind_blocks : ListsFiles file_5 (codes "two.h") 0 (codes "found 2\n0 0 0 two.h\n0 1 0 two.h\n")
 unfolding all_defs file_5
+files_behind_blocks = refl
+
+pub files_path_in_a_directory_table : ListsFiles file_6 (codes "two.h") 0 (codes "found 1\n0 0 0 two.h\n")
+unfolding all_defs file_6
 files_path_in_a_directory_table = refl
 
-pub files_path_in_debug_line_str : ListsFiles file_6 (codes "four.h") 0 (codes "found 1\n0 1 0 /d/four.h\n")
-unfolding all_defs file_6
+pub files_path_in_debug_line_str : ListsFiles file_7 (codes "four.h") 0 (codes "found 1\n0 1 0 /d/four.h\n")
+unfolding all_defs file_7
 files_path_in_debug_line_str = refl
 
-pub files_path_in_debug_str : ListsFiles file_7 (codes "two.h") 0 (codes "found 1\n0 1 0 dir/two.h\n")
-unfolding all_defs file_7
+pub files_path_in_debug_str : ListsFiles file_8 (codes "two.h") 0 (codes "found 1\n0 1 0 dir/two.h\n")
+unfolding all_defs file_8
 files_path_in_debug_str = refl
 
-pub files_path_is_missing : ListsFiles file_8 (codes "two.h") 0 (codes "found 0\n")
-unfolding all_defs file_8
+pub files_path_is_missing : ListsFiles file_9 (codes "two.h") 0 (codes "found 0\n")
+unfolding all_defs file_9
 files_path_is_missing = refl
 
-pub files_second_directory_is_skipped : ListsFiles file_9 (codes "two.h") 0 (codes "found 1\n0 0 5 two.h\n")
-unfolding all_defs file_9
+pub files_second_directory_is_skipped : ListsFiles file_10 (codes "two.h") 0 (codes "found 1\n0 0 5 two.h\n")
+unfolding all_defs file_10
 files_second_directory_is_skipped = refl
 
-pub files_second_path_is_skipped : ListsFiles file_10 (codes "two.h") 0 (codes "found 1\n0 0 0 two.h\n")
-unfolding all_defs file_10
+pub files_second_path_is_skipped : ListsFiles file_11 (codes "two.h") 0 (codes "found 1\n0 0 0 two.h\n")
+unfolding all_defs file_11
 files_second_path_is_skipped = refl

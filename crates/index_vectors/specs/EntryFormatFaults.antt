@@ -2,47 +2,47 @@
 -- Forms that entries may not have, and paths that pass their section.
 use Rattle.std.specs.Prelude.{ℕ, List, [], ◌∷◌, ◌++◌, codes}
 use Rattle.index_vectors.specs.Parts1.{part_4, part_19, part_24}
-use Rattle.index_vectors.specs.Parts6.{part_261, part_262, part_263}
+use Rattle.index_vectors.specs.Parts7.{part_267, part_268, part_269}
 use Rattle.index_vectors.specs.Says.{ListsFiles}
 
 unfoldable pub file_0 : List ℕ
 file_0 =
-    part_261 ++
+    part_267 ++
     (0 ∷ 1 ∷ 1 ∷ 1 ∷ 251 ∷ 14 ∷ 1 ∷ 0 ∷ 0 ∷ 1 ∷ 2 ∷ 30 ∷ 0 ∷ 111 ∷ 110 ∷ 101 ∷ 46 ∷ 99 ∷ 0 ∷ 100 ∷ 105 ∷ 114 ∷ 47 ∷ 116 ∷
     []) ++
     part_19
 
 unfoldable pub file_1 : List ℕ
 file_1 =
-    part_261 ++
+    part_267 ++
     (0 ∷ 1 ∷ 1 ∷ 1 ∷ 251 ∷ 14 ∷ 1 ∷ 0 ∷ 0 ∷ 1 ∷ 2 ∷ 8 ∷ 0 ∷ 111 ∷ 110 ∷ 101 ∷ 46 ∷ 99 ∷ 0 ∷ 100 ∷ 105 ∷ 114 ∷ 47 ∷ 116 ∷
     []) ++
     part_19
 
 unfoldable pub file_2 : List ℕ
 file_2 =
-    part_261 ++
+    part_267 ++
     (0 ∷ 1 ∷ 1 ∷ 1 ∷ 251 ∷ 14 ∷ 1 ∷ 0 ∷ 0 ∷ 1 ∷ 4 ∷ 23 ∷ 0 ∷ 111 ∷ 110 ∷ 101 ∷ 46 ∷ 99 ∷ 0 ∷ 100 ∷ 105 ∷ 114 ∷ 47 ∷ 116 ∷
     []) ++
     part_19
 
 unfoldable pub file_3 : List ℕ
 file_3 =
-    part_261 ++
+    part_267 ++
     (0 ∷ 1 ∷ 1 ∷ 1 ∷ 251 ∷ 14 ∷ 1 ∷ 0 ∷ 0 ∷ 1 ∷ 1 ∷ 37 ∷ 0 ∷ 111 ∷ 110 ∷ 101 ∷ 46 ∷ 99 ∷ 0 ∷ 100 ∷ 105 ∷ 114 ∷ 47 ∷ 116 ∷
     []) ++
     part_19
 
 unfoldable pub file_4 : List ℕ
 file_4 =
-    part_262 ++
+    part_268 ++
     (0 ∷ 1 ∷ 1 ∷ 1 ∷ 251 ∷ 14 ∷ 1 ∷ 0 ∷ 0 ∷ 1 ∷ 1 ∷ 14 ∷ 1 ∷ 16 ∷ 0 ∷ 0 ∷ 0 ∷ 111 ∷ 110 ∷ 101 ∷ 46 ∷ 99 ∷ 0 ∷ 100 ∷
     []) ++
     part_24
 
 unfoldable pub file_5 : List ℕ
 file_5 =
-    part_263 ++
+    part_269 ++
     (97 ∷ 46 ∷ 99 ∷ 0 ∷ 12 ∷ 0 ∷ 0 ∷ 0 ∷ 0 ∷ 2 ∷ 116 ∷ 0 ∷ 0 ∷ 26 ∷ 0 ∷ 0 ∷ 0 ∷ 5 ∷ 0 ∷ 8 ∷ 0 ∷ 0 ∷ 0 ∷ 0 ∷
     0 ∷ 1 ∷ 1 ∷ 1 ∷ 251 ∷ 14 ∷ 1 ∷ 1 ∷ 1 ∷ 14 ∷ 1 ∷ 17 ∷ 0 ∷ 0 ∷ 0 ∷ 1 ∷ 1 ∷ 8 ∷ 0 ∷ 111 ∷ 110 ∷ 101 ∷ 46 ∷ 99 ∷
     []) ++
@@ -61,14 +61,14 @@ file_5 =
 
 unfoldable pub file_6 : List ℕ
 file_6 =
-    part_261 ++
+    part_267 ++
     (0 ∷ 1 ∷ 1 ∷ 1 ∷ 251 ∷ 14 ∷ 1 ∷ 0 ∷ 0 ∷ 1 ∷ 1 ∷ 11 ∷ 0 ∷ 111 ∷ 110 ∷ 101 ∷ 46 ∷ 99 ∷ 0 ∷ 100 ∷ 105 ∷ 114 ∷ 47 ∷ 116 ∷
     []) ++
     part_19
 
 unfoldable pub file_7 : List ℕ
 file_7 =
-    part_262 ++
+    part_268 ++
     (0 ∷ 1 ∷ 1 ∷ 1 ∷ 251 ∷ 14 ∷ 1 ∷ 0 ∷ 0 ∷ 1 ∷ 1 ∷ 14 ∷ 1 ∷ 17 ∷ 0 ∷ 0 ∷ 0 ∷ 111 ∷ 110 ∷ 101 ∷ 46 ∷ 99 ∷ 0 ∷ 100 ∷
     []) ++
     part_24

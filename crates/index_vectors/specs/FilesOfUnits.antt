@@ -1,30 +1,30 @@
 -- Written by tools/gen_vectors.py; not to be changed by hand.
 -- Files of more than one unit, and the first unit whose table has a fault.
 use Rattle.std.specs.Prelude.{ℕ, List, [], ◌∷◌, ◌++◌, codes}
-use Rattle.index_vectors.specs.Parts3.{part_85}
-use Rattle.index_vectors.specs.Parts6.{part_221}
-use Rattle.index_vectors.specs.Parts7.{part_309}
+use Rattle.index_vectors.specs.Parts3.{part_89}
+use Rattle.index_vectors.specs.Parts6.{part_227}
+use Rattle.index_vectors.specs.Parts7.{part_314}
 use Rattle.index_vectors.specs.Says.{ListsFiles}
 
 unfoldable pub file_0 : List ℕ
 file_0 =
-    part_221 ++
+    part_227 ++
     (0 ∷ 0 ∷ 0 ∷ 0 ∷ 32 ∷ 0 ∷ 0 ∷ 0 ∷ 0 ∷ 0 ∷ 0 ∷ 0 ∷ 2 ∷ 109 ∷ 97 ∷ 105 ∷ 110 ∷ 0 ∷ 0 ∷ 32 ∷ 0 ∷ 0 ∷ 0 ∷ 0 ∷
     []) ++
-    part_309 ++
+    part_314 ++
     (0 ∷ 0 ∷ 0 ∷ 5 ∷ 0 ∷ 8 ∷ 0 ∷ 0 ∷ 0 ∷ 0 ∷ 0 ∷ 1 ∷ 1 ∷ 1 ∷ 251 ∷ 14 ∷ 1 ∷ 1 ∷ 1 ∷ 8 ∷ 2 ∷ 47 ∷ 116 ∷ 0 ∷
     []) ++
-    part_85
+    part_89
 
 unfoldable pub file_1 : List ℕ
 file_1 =
-    part_221 ++
+    part_227 ++
     (0 ∷ 0 ∷ 0 ∷ 0 ∷ 32 ∷ 0 ∷ 0 ∷ 0 ∷ 232 ∷ 3 ∷ 0 ∷ 0 ∷ 2 ∷ 109 ∷ 97 ∷ 105 ∷ 110 ∷ 0 ∷ 0 ∷ 32 ∷ 0 ∷ 0 ∷ 0 ∷ 0 ∷
     []) ++
-    part_309 ++
+    part_314 ++
     (0 ∷ 0 ∷ 0 ∷ 6 ∷ 0 ∷ 8 ∷ 0 ∷ 0 ∷ 0 ∷ 0 ∷ 0 ∷ 1 ∷ 1 ∷ 1 ∷ 251 ∷ 14 ∷ 1 ∷ 1 ∷ 1 ∷ 8 ∷ 2 ∷ 47 ∷ 116 ∷ 0 ∷
     []) ++
-    part_85
+    part_89
 
 -- what each row says
 abbrev pub FilesOfUnits : Type 0

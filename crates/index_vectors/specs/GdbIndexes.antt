@@ -2,22 +2,22 @@
 -- The bytes of `.gdb_index` of small files, versions 8 and 9.
 use Rattle.std.specs.Prelude.{ℕ, List, [], ◌∷◌}
 use Rattle.index_vectors.specs.Parts1.{part_30}
-use Rattle.index_vectors.specs.Parts2.{part_52, part_61}
-use Rattle.index_vectors.specs.Parts6.{part_256}
-use Rattle.index_vectors.specs.Parts7.{part_302}
+use Rattle.index_vectors.specs.Parts2.{part_56, part_65}
+use Rattle.index_vectors.specs.Parts6.{part_262}
+use Rattle.index_vectors.specs.Parts7.{part_308}
 use Rattle.index_vectors.specs.Says.{WritesGdb8, WritesGdb9}
 
 unfoldable pub file_0 : List ℕ
 file_0 =
-    part_52
+    part_56
 
 unfoldable pub file_1 : List ℕ
 file_1 =
-    part_302
+    part_308
 
 unfoldable pub file_2 : List ℕ
 file_2 =
-    part_61
+    part_65
 
 unfoldable pub file_3 : List ℕ
 file_3 =
@@ -44,7 +44,7 @@ file_5 =
 
 unfoldable pub file_6 : List ℕ
 file_6 =
-    part_256
+    part_262
 
 unfoldable pub file_7 : List ℕ
 file_7 =

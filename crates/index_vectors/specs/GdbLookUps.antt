@@ -1,17 +1,17 @@
 -- Written by tools/gen_vectors.py; not to be changed by hand.
 -- Look-ups in a `.gdb_index`.
 use Rattle.std.specs.Prelude.{ℕ, List, [], ◌∷◌, codes}
-use Rattle.index_vectors.specs.Parts6.{part_256}
-use Rattle.index_vectors.specs.Parts7.{part_302}
+use Rattle.index_vectors.specs.Parts6.{part_262}
+use Rattle.index_vectors.specs.Parts7.{part_308}
 use Rattle.index_vectors.specs.Says.{GdbOffersNot, GdbPrints}
 
 unfoldable pub file_0 : List ℕ
 file_0 =
-    part_302
+    part_308
 
 unfoldable pub file_1 : List ℕ
 file_1 =
-    part_256
+    part_262
 
 unfoldable pub file_2 : List ℕ
 file_2 =

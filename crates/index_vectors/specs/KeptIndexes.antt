@@ -1,23 +1,23 @@
 -- Written by tools/gen_vectors.py; not to be changed by hand.
 -- The index that is kept for a small program by its build-id, and what was kept, opened with it.
 use Rattle.std.specs.Prelude.{ℕ, List, [], ◌∷◌, ◌++◌, codes}
-use Rattle.index_vectors.specs.Parts2.{part_52, part_74}
-use Rattle.index_vectors.specs.Parts4.{part_167}
-use Rattle.index_vectors.specs.Parts7.{part_303, part_304}
+use Rattle.index_vectors.specs.Parts2.{part_56, part_78}
+use Rattle.index_vectors.specs.Parts5.{part_171}
+use Rattle.index_vectors.specs.Parts7.{part_309, part_310}
 use Rattle.index_vectors.specs.Says.{IsStale, Keeps, KeepsNothing, KeptPrints, Prints}
 
 unfoldable pub file_0 : List ℕ
 file_0 =
-    part_303 ++
+    part_309 ++
     (0 ∷ 1 ∷ 8 ∷ 0 ∷ 0 ∷ 0 ∷ 0 ∷ 1 ∷ 97 ∷ 46 ∷ 99 ∷ 0 ∷ 12 ∷ 0 ∷ 16 ∷ 0 ∷ 0 ∷ 0 ∷ 0 ∷ 0 ∷ 0 ∷ 32 ∷ 0 ∷ 0 ∷
     []) ++
-    part_74
+    part_78
 
 unfoldable pub file_1 : List ℕ
 file_1 =
     (71 ∷ 68 ∷ 66 ∷ 73 ∷ 88 ∷ 67 ∷ 49 ∷ 0 ∷ 2 ∷ 0 ∷ 0 ∷ 0 ∷ 171 ∷ 1 ∷ 9 ∷ 0 ∷ 0 ∷ 0 ∷ 28 ∷ 0 ∷ 0 ∷ 0 ∷ 44 ∷ 0 ∷
     []) ++
-    part_304
+    part_310
 
 unfoldable pub file_2 : List ℕ
 file_2 =
@@ -32,20 +32,20 @@ file_3 =
 
 unfoldable pub file_4 : List ℕ
 file_4 =
-    part_52
+    part_56
 
 unfoldable pub file_5 : List ℕ
 file_5 =
-    part_303 ++
+    part_309 ++
     (0 ∷ 1 ∷ 8 ∷ 0 ∷ 0 ∷ 0 ∷ 0 ∷ 3 ∷ 97 ∷ 46 ∷ 99 ∷ 0 ∷ 12 ∷ 0 ∷ 16 ∷ 0 ∷ 0 ∷ 0 ∷ 0 ∷ 0 ∷ 0 ∷ 32 ∷ 0 ∷ 0 ∷
     []) ++
-    part_74
+    part_78
 
 unfoldable pub file_6 : List ℕ
 file_6 =
     (71 ∷ 68 ∷ 66 ∷ 73 ∷ 88 ∷ 67 ∷ 49 ∷ 0 ∷ 2 ∷ 0 ∷ 0 ∷ 0 ∷ 172 ∷ 1 ∷ 9 ∷ 0 ∷ 0 ∷ 0 ∷ 28 ∷ 0 ∷ 0 ∷ 0 ∷ 44 ∷ 0 ∷
     []) ++
-    part_304
+    part_310
 
 unfoldable pub file_7 : List ℕ
 file_7 =
@@ -57,7 +57,7 @@ file_7 =
     98 ∷ 98 ∷ 114 ∷ 101 ∷ 118 ∷ 0 ∷ 46 ∷ 100 ∷ 101 ∷ 98 ∷ 117 ∷ 103 ∷ 95 ∷ 105 ∷ 110 ∷ 102 ∷ 111 ∷ 0 ∷ 46 ∷ 110 ∷ 111 ∷ 116 ∷ 101 ∷ 46 ∷
     103 ∷ 110 ∷ 117 ∷ 46 ∷ 98 ∷ 117 ∷ 105 ∷ 108 ∷ 100 ∷ 45 ∷ 105 ∷ 100 ∷ 0 ∷ 46 ∷ 115 ∷ 104 ∷ 115 ∷ 116 ∷ 114 ∷ 116 ∷ 97 ∷ 98 ∷ 0 ∷ 0 ∷
     []) ++
-    part_167 ++
+    part_171 ++
     (0 ∷ 0 ∷ 0 ∷ 0 ∷ 0 ∷ 0 ∷ 0 ∷ 0 ∷ 91 ∷ 0 ∷ 0 ∷ 0 ∷ 0 ∷ 0 ∷ 0 ∷ 0 ∷ 0 ∷ 0 ∷ 0 ∷ 0 ∷ 0 ∷ 0 ∷ 0 ∷ 0 ∷
     0 ∷ 0 ∷ 0 ∷ 0 ∷ 0 ∷ 0 ∷ 0 ∷ 0 ∷ 1 ∷ 0 ∷ 0 ∷ 0 ∷ 0 ∷ 0 ∷ 0 ∷ 0 ∷ 0 ∷ 0 ∷ 0 ∷ 0 ∷ 0 ∷ 0 ∷ 0 ∷ 0 ∷
     27 ∷ 0 ∷ 0 ∷ 0 ∷ 1 ∷ 0 ∷ 0 ∷ 0 ∷ 0 ∷ 0 ∷ 0 ∷ 0 ∷ 0 ∷ 0 ∷ 0 ∷ 0 ∷ 0 ∷ 0 ∷ 0 ∷ 0 ∷ 0 ∷ 0 ∷ 0 ∷ 0 ∷

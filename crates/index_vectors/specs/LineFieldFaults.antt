@@ -1,17 +1,25 @@
 -- Written by tools/gen_vectors.py; not to be changed by hand.
 -- Line tables whose fields or entries pass their end.
 use Rattle.std.specs.Prelude.{ℕ, List, [], ◌∷◌, ◌++◌, codes}
-use Rattle.index_vectors.specs.Parts1.{part_7, part_14, part_17, part_21, part_22, part_23}
-use Rattle.index_vectors.specs.Parts3.{part_82}
-use Rattle.index_vectors.specs.Parts4.{part_162}
-use Rattle.index_vectors.specs.Parts5.{part_193}
-use Rattle.index_vectors.specs.Parts6.{part_258, part_259, part_260, part_263}
-use Rattle.index_vectors.specs.Parts7.{part_306}
+use Rattle.index_vectors.specs.Parts1.{part_7, part_14, part_17, part_21, part_22, part_23, part_32, part_33}
+use Rattle.index_vectors.specs.Parts3.{part_86}
+use Rattle.index_vectors.specs.Parts4.{part_166}
+use Rattle.index_vectors.specs.Parts5.{part_197, part_209}
+use Rattle.index_vectors.specs.Parts6.{part_264, part_265, part_266}
+use Rattle.index_vectors.specs.Parts7.{part_269, part_311}
 use Rattle.index_vectors.specs.Says.{ListsFiles}
 
 unfoldable pub file_0 : List ℕ
 file_0 =
-    part_259 ++
+    part_32 ++
+    (255 ∷ 255 ∷ 3 ∷ 170 ∷ 187 ∷ 111 ∷ 110 ∷ 101 ∷ 46 ∷ 99 ∷ 0 ∷ 100 ∷ 105 ∷ 114 ∷ 47 ∷ 116 ∷ 119 ∷ 111 ∷ 46 ∷ 104 ∷ 0 ∷ 116 ∷ 104 ∷ 114 ∷
+    []) ++
+    part_33 ++
+    part_209
+
+unfoldable pub file_1 : List ℕ
+file_1 =
+    part_265 ++
     (97 ∷ 46 ∷ 99 ∷ 0 ∷ 12 ∷ 0 ∷ 0 ∷ 0 ∷ 0 ∷ 2 ∷ 116 ∷ 0 ∷ 0 ∷ 19 ∷ 0 ∷ 0 ∷ 0 ∷ 5 ∷ 0 ∷ 8 ∷ 0 ∷ 0 ∷ 0 ∷ 0 ∷
     0 ∷ 1 ∷ 1 ∷ 1 ∷ 251 ∷ 14 ∷ 1 ∷ 0 ∷ 0 ∷ 1 ∷ 1 ∷ 8 ∷ 111 ∷ 110 ∷ 101 ∷ 46 ∷ 99 ∷ 0 ∷ 100 ∷ 105 ∷ 114 ∷ 47 ∷ 116 ∷ 119 ∷
     111 ∷ 46 ∷ 104 ∷ 0 ∷ 116 ∷ 104 ∷ 114 ∷ 101 ∷ 101 ∷ 46 ∷ 104 ∷ 0 ∷ 47 ∷ 100 ∷ 47 ∷ 102 ∷ 111 ∷ 117 ∷ 114 ∷ 46 ∷ 104 ∷ 0 ∷ 0 ∷ 46 ∷
@@ -33,25 +41,25 @@ file_0 =
     0 ∷ 0 ∷ 0 ∷ 0 ∷ 0 ∷ 0 ∷ 0 ∷ 0 ∷ 1 ∷ 0 ∷ 0 ∷ 0 ∷ 0 ∷ 0 ∷ 0 ∷ 0 ∷ 0 ∷ 0 ∷ 0 ∷ 0 ∷ 0 ∷ 0 ∷ 0 ∷ 0 ∷
     [])
 
-unfoldable pub file_1 : List ℕ
-file_1 =
-    part_258 ++
+unfoldable pub file_2 : List ℕ
+file_2 =
+    part_264 ++
     (0 ∷ 0 ∷ 0 ∷ 0 ∷ 0 ∷ 0 ∷ 0 ∷ 2 ∷ 109 ∷ 97 ∷ 105 ∷ 110 ∷ 0 ∷ 0 ∷ 16 ∷ 0 ∷ 0 ∷ 0 ∷ 0 ∷ 0 ∷ 0 ∷ 32 ∷ 0 ∷ 0 ∷
     0 ∷ 0 ∷ 30 ∷ 0 ∷ 0 ∷ 0 ∷ 4 ∷ 0 ∷ 25 ∷ 0 ∷ 0 ∷ 0 ∷ 1 ∷ 1 ∷ 1 ∷ 251 ∷ 14 ∷ 1 ∷ 47 ∷ 116 ∷ 0 ∷ 0 ∷ 97 ∷ 46 ∷
     99 ∷ 0 ∷ 0 ∷ 0 ∷ 0 ∷ 104 ∷ 46 ∷ 104 ∷ 0 ∷ 1 ∷ 0 ∷ 0 ∷ 0 ∷ 46 ∷ 100 ∷ 101 ∷ 98 ∷ 117 ∷ 103 ∷ 95 ∷ 97 ∷ 98 ∷ 98 ∷ 114 ∷
     101 ∷ 118 ∷ 0 ∷ 46 ∷ 100 ∷ 101 ∷ 98 ∷ 117 ∷ 103 ∷ 95 ∷ 105 ∷ 110 ∷ 102 ∷ 111 ∷ 0 ∷ 46 ∷ 100 ∷ 101 ∷ 98 ∷ 117 ∷ 103 ∷ 95 ∷ 108 ∷ 105 ∷
     110 ∷ 101 ∷ 0 ∷ 46 ∷ 115 ∷ 104 ∷ 115 ∷ 116 ∷ 114 ∷ 116 ∷ 97 ∷ 98 ∷ 0 ∷ 0 ∷ 0 ∷ 0 ∷ 0 ∷ 0 ∷ 0 ∷ 0 ∷ 0 ∷ 0 ∷ 0 ∷ 0 ∷
     []) ++
-    part_82 ++
+    part_86 ++
     (34 ∷ 0 ∷ 0 ∷ 0 ∷ 0 ∷ 0 ∷ 0 ∷ 0 ∷ 0 ∷ 0 ∷ 0 ∷ 0 ∷ 0 ∷ 0 ∷ 0 ∷ 0 ∷ 1 ∷ 0 ∷ 0 ∷ 0 ∷ 0 ∷ 0 ∷ 0 ∷ 0 ∷
     0 ∷ 0 ∷ 0 ∷ 0 ∷ 0 ∷ 0 ∷ 0 ∷ 0 ∷ 39 ∷ 0 ∷ 0 ∷ 0 ∷ 3 ∷ 0 ∷ 0 ∷ 0 ∷ 0 ∷ 0 ∷ 0 ∷ 0 ∷ 0 ∷ 0 ∷ 0 ∷ 0 ∷
     0 ∷ 0 ∷ 0 ∷ 0 ∷ 0 ∷ 0 ∷ 0 ∷ 0 ∷ 180 ∷ 0 ∷ 0 ∷ 0 ∷ 0 ∷ 0 ∷ 0 ∷ 0 ∷ 49 ∷ 0 ∷ 0 ∷ 0 ∷ 0 ∷ 0 ∷ 0 ∷ 0 ∷
     0 ∷ 0 ∷ 0 ∷ 0 ∷ 0 ∷ 0 ∷ 0 ∷ 0 ∷ 1 ∷ 0 ∷ 0 ∷ 0 ∷ 0 ∷ 0 ∷ 0 ∷ 0 ∷ 0 ∷ 0 ∷ 0 ∷ 0 ∷ 0 ∷ 0 ∷ 0 ∷ 0 ∷
     [])
 
-unfoldable pub file_2 : List ℕ
-file_2 =
-    part_306 ++
+unfoldable pub file_3 : List ℕ
+file_3 =
+    part_311 ++
     (97 ∷ 46 ∷ 99 ∷ 0 ∷ 12 ∷ 0 ∷ 0 ∷ 0 ∷ 0 ∷ 2 ∷ 116 ∷ 0 ∷ 0 ∷ 14 ∷ 0 ∷ 0 ∷ 0 ∷ 2 ∷ 0 ∷ 0 ∷ 0 ∷ 0 ∷ 0 ∷ 1 ∷
     1 ∷ 251 ∷ 14 ∷ 1 ∷ 100 ∷ 49 ∷ 0 ∷ 111 ∷ 110 ∷ 101 ∷ 46 ∷ 99 ∷ 0 ∷ 100 ∷ 105 ∷ 114 ∷ 47 ∷ 116 ∷ 119 ∷ 111 ∷ 46 ∷ 104 ∷ 0 ∷ 116 ∷
     104 ∷ 114 ∷ 101 ∷ 101 ∷ 46 ∷ 104 ∷ 0 ∷ 47 ∷ 100 ∷ 47 ∷ 102 ∷ 111 ∷ 117 ∷ 114 ∷ 46 ∷ 104 ∷ 0 ∷ 0 ∷ 46 ∷ 100 ∷ 101 ∷ 98 ∷ 117 ∷ 103 ∷
@@ -72,9 +80,9 @@ file_2 =
     1 ∷ 0 ∷ 0 ∷ 0 ∷ 0 ∷ 0 ∷ 0 ∷ 0 ∷ 0 ∷ 0 ∷ 0 ∷ 0 ∷ 0 ∷ 0 ∷ 0 ∷ 0 ∷
     [])
 
-unfoldable pub file_3 : List ℕ
-file_3 =
-    part_263 ++
+unfoldable pub file_4 : List ℕ
+file_4 =
+    part_269 ++
     (97 ∷ 46 ∷ 99 ∷ 0 ∷ 12 ∷ 0 ∷ 0 ∷ 0 ∷ 0 ∷ 2 ∷ 116 ∷ 0 ∷ 0 ∷ 31 ∷ 0 ∷ 0 ∷ 0 ∷ 2 ∷ 0 ∷ 0 ∷ 0 ∷ 0 ∷ 0 ∷ 1 ∷
     1 ∷ 251 ∷ 14 ∷ 1 ∷ 0 ∷ 116 ∷ 119 ∷ 111 ∷ 46 ∷ 104 ∷ 0 ∷ 255 ∷ 255 ∷ 255 ∷ 255 ∷ 255 ∷ 255 ∷ 255 ∷ 255 ∷ 255 ∷ 2 ∷ 0 ∷ 0 ∷ 0 ∷
     111 ∷ 110 ∷ 101 ∷ 46 ∷ 99 ∷ 0 ∷ 100 ∷ 105 ∷ 114 ∷ 47 ∷ 116 ∷ 119 ∷ 111 ∷ 46 ∷ 104 ∷ 0 ∷ 116 ∷ 104 ∷ 114 ∷ 101 ∷ 101 ∷ 46 ∷ 104 ∷ 0 ∷
@@ -96,23 +104,23 @@ file_3 =
     0 ∷ 0 ∷ 0 ∷ 0 ∷ 0 ∷ 0 ∷ 0 ∷ 0 ∷
     [])
 
-unfoldable pub file_4 : List ℕ
-file_4 =
-    part_259 ++
+unfoldable pub file_5 : List ℕ
+file_5 =
+    part_265 ++
     (97 ∷ 46 ∷ 99 ∷ 0 ∷ 12 ∷ 0 ∷ 0 ∷ 0 ∷ 0 ∷ 2 ∷ 116 ∷ 0 ∷ 0 ∷ 22 ∷ 0 ∷ 0 ∷ 0 ∷ 5 ∷ 0 ∷ 8 ∷ 0 ∷ 0 ∷ 0 ∷ 0 ∷
     0 ∷ 1 ∷ 1 ∷ 1 ∷ 251 ∷ 14 ∷ 1 ∷ 0 ∷ 0 ∷ 1 ∷ 1 ∷ 8 ∷ 2 ∷ 97 ∷ 0 ∷ 111 ∷ 110 ∷ 101 ∷ 46 ∷ 99 ∷ 0 ∷ 100 ∷ 105 ∷ 114 ∷
     []) ++
     part_21
 
-unfoldable pub file_5 : List ℕ
-file_5 =
+unfoldable pub file_6 : List ℕ
+file_6 =
     (127 ∷ 69 ∷ 76 ∷ 70 ∷ 2 ∷ 1 ∷ 1 ∷ 0 ∷ 0 ∷ 0 ∷ 0 ∷ 0 ∷ 0 ∷ 0 ∷ 0 ∷ 0 ∷ 2 ∷ 0 ∷ 62 ∷ 0 ∷ 1 ∷ 0 ∷ 0 ∷ 0 ∷
     0 ∷ 0 ∷ 0 ∷ 0 ∷ 0 ∷ 0 ∷ 0 ∷ 0 ∷ 0 ∷ 0 ∷ 0 ∷ 0 ∷ 0 ∷ 0 ∷ 0 ∷ 0 ∷ 232 ∷ 0 ∷ 0 ∷ 0 ∷ 0 ∷ 0 ∷ 0 ∷ 0 ∷
     0 ∷ 0 ∷ 0 ∷ 0 ∷ 64 ∷ 0 ∷ 0 ∷ 0 ∷ 0 ∷ 0 ∷ 64 ∷ 0 ∷ 7 ∷ 0 ∷ 6 ∷ 0 ∷ 1 ∷ 17 ∷ 1 ∷ 3 ∷ 8 ∷ 19 ∷ 11 ∷ 16 ∷
     23 ∷ 0 ∷ 0 ∷ 2 ∷ 22 ∷ 0 ∷ 3 ∷ 8 ∷ 0 ∷ 0 ∷ 0 ∷ 22 ∷ 0 ∷ 0 ∷ 0 ∷ 5 ∷ 0 ∷ 1 ∷ 8 ∷ 0 ∷ 0 ∷ 0 ∷ 0 ∷ 1 ∷
     97 ∷ 46 ∷ 99 ∷ 0 ∷ 12 ∷ 0 ∷ 0 ∷ 0 ∷ 0 ∷ 2 ∷ 116 ∷ 0 ∷ 0 ∷ 5 ∷ 0 ∷ 0 ∷ 0 ∷ 2 ∷ 0 ∷ 0 ∷ 0 ∷ 0 ∷ 111 ∷ 110 ∷
     []) ++
-    part_162 ++
+    part_166 ++
     (9 ∷ 0 ∷ 0 ∷ 0 ∷ 0 ∷ 0 ∷ 0 ∷ 0 ∷ 0 ∷ 0 ∷ 0 ∷ 0 ∷ 0 ∷ 0 ∷ 0 ∷ 0 ∷ 1 ∷ 0 ∷ 0 ∷ 0 ∷ 0 ∷ 0 ∷ 0 ∷ 0 ∷
     0 ∷ 0 ∷ 0 ∷ 0 ∷ 0 ∷ 0 ∷ 0 ∷ 0 ∷ 39 ∷ 0 ∷ 0 ∷ 0 ∷ 1 ∷ 0 ∷ 0 ∷ 0 ∷ 0 ∷ 0 ∷ 0 ∷ 0 ∷ 0 ∷ 0 ∷ 0 ∷ 0 ∷
     0 ∷ 0 ∷ 0 ∷ 0 ∷ 0 ∷ 0 ∷ 0 ∷ 0 ∷ 118 ∷ 0 ∷ 0 ∷ 0 ∷ 0 ∷ 0 ∷ 0 ∷ 0 ∷ 16 ∷ 0 ∷ 0 ∷ 0 ∷ 0 ∷ 0 ∷ 0 ∷ 0 ∷
@@ -125,35 +133,35 @@ file_5 =
     0 ∷ 0 ∷ 0 ∷ 0 ∷ 0 ∷ 0 ∷ 0 ∷ 0 ∷
     [])
 
-unfoldable pub file_6 : List ℕ
-file_6 =
-    part_260 ++
-    (0 ∷ 1 ∷ 1 ∷ 1 ∷ 251 ∷ 14 ∷ 1 ∷ 0 ∷ 0 ∷ 1 ∷ 1 ∷ 111 ∷ 110 ∷ 101 ∷ 46 ∷ 99 ∷ 0 ∷ 100 ∷ 105 ∷ 114 ∷ 47 ∷ 116 ∷ 119 ∷ 111 ∷
-    []) ++
-    part_23
-
 unfoldable pub file_7 : List ℕ
 file_7 =
-    part_260 ++
-    (0 ∷ 1 ∷ 1 ∷ 1 ∷ 251 ∷ 14 ∷ 1 ∷ 0 ∷ 0 ∷ 0 ∷ 1 ∷ 111 ∷ 110 ∷ 101 ∷ 46 ∷ 99 ∷ 0 ∷ 100 ∷ 105 ∷ 114 ∷ 47 ∷ 116 ∷ 119 ∷ 111 ∷
+    part_266 ++
+    (0 ∷ 1 ∷ 1 ∷ 1 ∷ 251 ∷ 14 ∷ 1 ∷ 0 ∷ 0 ∷ 1 ∷ 1 ∷ 111 ∷ 110 ∷ 101 ∷ 46 ∷ 99 ∷ 0 ∷ 100 ∷ 105 ∷ 114 ∷ 47 ∷ 116 ∷ 119 ∷ 111 ∷
     []) ++
     part_23
 
 unfoldable pub file_8 : List ℕ
 file_8 =
-    part_306 ++
+    part_266 ++
+    (0 ∷ 1 ∷ 1 ∷ 1 ∷ 251 ∷ 14 ∷ 1 ∷ 0 ∷ 0 ∷ 0 ∷ 1 ∷ 111 ∷ 110 ∷ 101 ∷ 46 ∷ 99 ∷ 0 ∷ 100 ∷ 105 ∷ 114 ∷ 47 ∷ 116 ∷ 119 ∷ 111 ∷
+    []) ++
+    part_23
+
+unfoldable pub file_9 : List ℕ
+file_9 =
+    part_311 ++
     (97 ∷ 46 ∷ 99 ∷ 0 ∷ 12 ∷ 0 ∷ 0 ∷ 0 ∷ 0 ∷ 2 ∷ 116 ∷ 0 ∷ 0 ∷ 13 ∷ 0 ∷ 0 ∷ 0 ∷ 2 ∷ 0 ∷ 0 ∷ 0 ∷ 0 ∷ 0 ∷ 1 ∷
     1 ∷ 251 ∷ 14 ∷ 255 ∷ 0 ∷ 0 ∷ 111 ∷ 110 ∷ 101 ∷ 46 ∷ 99 ∷ 0 ∷ 100 ∷ 105 ∷ 114 ∷ 47 ∷ 116 ∷ 119 ∷ 111 ∷ 46 ∷ 104 ∷ 0 ∷ 116 ∷ 104 ∷
     []) ++
     part_22
 
-unfoldable pub file_9 : List ℕ
-file_9 =
-    part_259 ++
+unfoldable pub file_10 : List ℕ
+file_10 =
+    part_265 ++
     (97 ∷ 46 ∷ 99 ∷ 0 ∷ 12 ∷ 0 ∷ 0 ∷ 0 ∷ 0 ∷ 2 ∷ 116 ∷ 0 ∷ 0 ∷ 23 ∷ 0 ∷ 0 ∷ 0 ∷ 5 ∷ 0 ∷ 8 ∷ 0 ∷ 0 ∷ 0 ∷ 0 ∷
     0 ∷ 1 ∷ 1 ∷ 1 ∷ 251 ∷ 14 ∷ 1 ∷ 0 ∷ 0 ∷ 1 ∷ 1 ∷ 14 ∷ 1 ∷ 17 ∷ 0 ∷ 0 ∷ 111 ∷ 110 ∷ 101 ∷ 46 ∷ 99 ∷ 0 ∷ 100 ∷ 105 ∷
     []) ++
-    part_193 ++
+    part_197 ++
     (0 ∷ 0 ∷ 0 ∷ 0 ∷ 0 ∷ 0 ∷ 0 ∷ 0 ∷ 109 ∷ 0 ∷ 0 ∷ 0 ∷ 0 ∷ 0 ∷ 0 ∷ 0 ∷ 27 ∷ 0 ∷ 0 ∷ 0 ∷ 0 ∷ 0 ∷ 0 ∷ 0 ∷
     0 ∷ 0 ∷ 0 ∷ 0 ∷ 0 ∷ 0 ∷ 0 ∷ 0 ∷ 1 ∷ 0 ∷ 0 ∷ 0 ∷ 0 ∷ 0 ∷ 0 ∷ 0 ∷ 0 ∷ 0 ∷ 0 ∷ 0 ∷ 0 ∷ 0 ∷ 0 ∷ 0 ∷
     39 ∷ 0 ∷ 0 ∷ 0 ∷ 1 ∷ 0 ∷ 0 ∷ 0 ∷ 0 ∷ 0 ∷ 0 ∷ 0 ∷ 0 ∷ 0 ∷ 0 ∷ 0 ∷ 0 ∷ 0 ∷ 0 ∷ 0 ∷ 0 ∷ 0 ∷ 0 ∷ 0 ∷
@@ -166,9 +174,9 @@ file_9 =
     0 ∷ 0 ∷ 0 ∷ 0 ∷ 0 ∷ 0 ∷ 0 ∷ 0 ∷ 1 ∷ 0 ∷ 0 ∷ 0 ∷ 0 ∷ 0 ∷ 0 ∷ 0 ∷ 0 ∷ 0 ∷ 0 ∷ 0 ∷ 0 ∷ 0 ∷ 0 ∷ 0 ∷
     [])
 
-unfoldable pub file_10 : List ℕ
-file_10 =
-    part_259 ++
+unfoldable pub file_11 : List ℕ
+file_11 =
+    part_265 ++
     (97 ∷ 46 ∷ 99 ∷ 0 ∷ 12 ∷ 0 ∷ 0 ∷ 0 ∷ 0 ∷ 2 ∷ 116 ∷ 0 ∷ 0 ∷ 22 ∷ 0 ∷ 0 ∷ 0 ∷ 5 ∷ 0 ∷ 8 ∷ 0 ∷ 0 ∷ 0 ∷ 0 ∷
     0 ∷ 1 ∷ 1 ∷ 1 ∷ 251 ∷ 14 ∷ 1 ∷ 0 ∷ 0 ∷ 1 ∷ 1 ∷ 8 ∷ 1 ∷ 97 ∷ 98 ∷ 111 ∷ 110 ∷ 101 ∷ 46 ∷ 99 ∷ 0 ∷ 100 ∷ 105 ∷ 114 ∷
     []) ++
@@ -177,15 +185,16 @@ file_10 =
 -- what each row says
 abbrev pub LineFieldFaults : Type 0
 LineFieldFaults = record {
-  files_count_cut : ListsFiles file_0 (codes "two.h") 15 (codes "files refused 72 0\n");
-  files_cut_table : ListsFiles file_1 (codes "h.h") 15 (codes "files refused 72 0\n");
-  files_directories_without_an_end : ListsFiles file_2 (codes "two.h") 15 (codes "files refused 72 0\n");
-  files_directory_leb_too_large : ListsFiles file_3 (codes "two.h") 15 (codes "files refused 72 0\n");
-  files_entries_cut : ListsFiles file_4 (codes "two.h") 15 (codes "files refused 72 0\n");
-  files_fields_cut : ListsFiles file_5 (codes "two.h") 15 (codes "files refused 72 0\n");
-  files_form_cut : ListsFiles file_6 (codes "two.h") 15 (codes "files refused 72 0\n");
-  files_no_formats_and_an_entry : ListsFiles file_7 (codes "two.h") 15 (codes "files refused 72 0\n");
-  files_opcode_lengths_past_the_table : ListsFiles file_8 (codes "two.h") 15 (codes "files refused 72 0\n");
-  files_path_cut_before_its_place_counts : ListsFiles file_9 (codes "two.h") 15 (codes "files refused 72 0\n");
-  files_string_without_an_end : ListsFiles file_10 (codes "two.h") 15 (codes "files refused 72 0\n");
+  files_block_past_the_table : ListsFiles file_0 (codes "two.h") 15 (codes "files refused 72 0\n");
+  files_count_cut : ListsFiles file_1 (codes "two.h") 15 (codes "files refused 72 0\n");
+  files_cut_table : ListsFiles file_2 (codes "h.h") 15 (codes "files refused 72 0\n");
+  files_directories_without_an_end : ListsFiles file_3 (codes "two.h") 15 (codes "files refused 72 0\n");
+  files_directory_leb_too_large : ListsFiles file_4 (codes "two.h") 15 (codes "files refused 72 0\n");
+  files_entries_cut : ListsFiles file_5 (codes "two.h") 15 (codes "files refused 72 0\n");
+  files_fields_cut : ListsFiles file_6 (codes "two.h") 15 (codes "files refused 72 0\n");
+  files_form_cut : ListsFiles file_7 (codes "two.h") 15 (codes "files refused 72 0\n");
+  files_no_formats_and_an_entry : ListsFiles file_8 (codes "two.h") 15 (codes "files refused 72 0\n");
+  files_opcode_lengths_past_the_table : ListsFiles file_9 (codes "two.h") 15 (codes "files refused 72 0\n");
+  files_path_cut_before_its_place_counts : ListsFiles file_10 (codes "two.h") 15 (codes "files refused 72 0\n");
+  files_string_without_an_end : ListsFiles file_11 (codes "two.h") 15 (codes "files refused 72 0\n");
 }

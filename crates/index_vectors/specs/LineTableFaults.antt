@@ -2,18 +2,18 @@
 -- Line tables that pass their section, and those of other versions.
 use Rattle.std.specs.Prelude.{ℕ, List, [], ◌∷◌, ◌++◌, codes}
 use Rattle.index_vectors.specs.Parts1.{part_9, part_17, part_18, part_20}
-use Rattle.index_vectors.specs.Parts3.{part_83}
-use Rattle.index_vectors.specs.Parts5.{part_193}
-use Rattle.index_vectors.specs.Parts6.{part_258, part_259, part_263}
-use Rattle.index_vectors.specs.Parts7.{part_308}
+use Rattle.index_vectors.specs.Parts3.{part_87}
+use Rattle.index_vectors.specs.Parts5.{part_197}
+use Rattle.index_vectors.specs.Parts6.{part_264, part_265}
+use Rattle.index_vectors.specs.Parts7.{part_269, part_313}
 use Rattle.index_vectors.specs.Says.{ListsFiles}
 
 unfoldable pub file_0 : List ℕ
 file_0 =
-    part_308 ++
+    part_313 ++
     (97 ∷ 46 ∷ 99 ∷ 0 ∷ 12 ∷ 0 ∷ 0 ∷ 0 ∷ 0 ∷ 2 ∷ 116 ∷ 0 ∷ 0 ∷ 32 ∷ 0 ∷ 0 ∷ 111 ∷ 110 ∷ 101 ∷ 46 ∷ 99 ∷ 0 ∷ 100 ∷ 105 ∷
     []) ++
-    part_193 ++
+    part_197 ++
     (0 ∷ 0 ∷ 0 ∷ 0 ∷ 0 ∷ 0 ∷ 0 ∷ 0 ∷ 109 ∷ 0 ∷ 0 ∷ 0 ∷ 0 ∷ 0 ∷ 0 ∷ 0 ∷ 3 ∷ 0 ∷ 0 ∷ 0 ∷ 0 ∷ 0 ∷ 0 ∷ 0 ∷
     0 ∷ 0 ∷ 0 ∷ 0 ∷ 0 ∷ 0 ∷ 0 ∷ 0 ∷ 1 ∷ 0 ∷ 0 ∷ 0 ∷ 0 ∷ 0 ∷ 0 ∷ 0 ∷ 0 ∷ 0 ∷ 0 ∷ 0 ∷ 0 ∷ 0 ∷ 0 ∷ 0 ∷
     39 ∷ 0 ∷ 0 ∷ 0 ∷ 1 ∷ 0 ∷ 0 ∷ 0 ∷ 0 ∷ 0 ∷ 0 ∷ 0 ∷ 0 ∷ 0 ∷ 0 ∷ 0 ∷ 0 ∷ 0 ∷ 0 ∷ 0 ∷ 0 ∷ 0 ∷ 0 ∷ 0 ∷
@@ -28,42 +28,42 @@ file_0 =
 
 unfoldable pub file_1 : List ℕ
 file_1 =
-    part_259 ++
+    part_265 ++
     (97 ∷ 46 ∷ 99 ∷ 0 ∷ 12 ∷ 0 ∷ 0 ∷ 0 ∷ 0 ∷ 2 ∷ 116 ∷ 0 ∷ 0 ∷ 32 ∷ 0 ∷ 0 ∷ 0 ∷ 0 ∷ 0 ∷ 0 ∷ 0 ∷ 0 ∷ 0 ∷ 0 ∷
     []) ++
     part_20
 
 unfoldable pub file_2 : List ℕ
 file_2 =
-    part_259 ++
+    part_265 ++
     (97 ∷ 46 ∷ 99 ∷ 0 ∷ 12 ∷ 0 ∷ 0 ∷ 0 ∷ 0 ∷ 2 ∷ 116 ∷ 0 ∷ 0 ∷ 240 ∷ 255 ∷ 255 ∷ 255 ∷ 0 ∷ 0 ∷ 0 ∷ 0 ∷ 0 ∷ 0 ∷ 0 ∷
     []) ++
     part_20
 
 unfoldable pub file_3 : List ℕ
 file_3 =
-    part_258 ++
+    part_264 ++
     (0 ∷ 0 ∷ 0 ∷ 64 ∷ 0 ∷ 0 ∷ 0 ∷ 2 ∷ 109 ∷ 97 ∷ 105 ∷ 110 ∷ 0 ∷ 0 ∷ 16 ∷ 0 ∷ 0 ∷ 0 ∷ 0 ∷ 0 ∷ 0 ∷ 32 ∷ 0 ∷ 0 ∷
     []) ++
-    part_83
+    part_87
 
 unfoldable pub file_4 : List ℕ
 file_4 =
-    part_263 ++
+    part_269 ++
     (97 ∷ 46 ∷ 99 ∷ 0 ∷ 12 ∷ 0 ∷ 0 ∷ 0 ∷ 0 ∷ 2 ∷ 116 ∷ 0 ∷ 0 ∷ 32 ∷ 0 ∷ 0 ∷ 0 ∷ 1 ∷ 0 ∷ 0 ∷ 0 ∷ 0 ∷ 0 ∷ 0 ∷
     []) ++
     part_9
 
 unfoldable pub file_5 : List ℕ
 file_5 =
-    part_263 ++
+    part_269 ++
     (97 ∷ 46 ∷ 99 ∷ 0 ∷ 12 ∷ 0 ∷ 0 ∷ 0 ∷ 0 ∷ 2 ∷ 116 ∷ 0 ∷ 0 ∷ 32 ∷ 0 ∷ 0 ∷ 0 ∷ 6 ∷ 0 ∷ 0 ∷ 0 ∷ 0 ∷ 0 ∷ 0 ∷
     []) ++
     part_9
 
 unfoldable pub file_6 : List ℕ
 file_6 =
-    part_308 ++
+    part_313 ++
     (97 ∷ 46 ∷ 99 ∷ 0 ∷ 12 ∷ 0 ∷ 0 ∷ 0 ∷ 0 ∷ 2 ∷ 116 ∷ 0 ∷ 0 ∷ 1 ∷ 0 ∷ 0 ∷ 0 ∷ 2 ∷ 111 ∷ 110 ∷ 101 ∷ 46 ∷ 99 ∷ 0 ∷
     100 ∷ 105 ∷ 114 ∷ 47 ∷ 116 ∷ 119 ∷ 111 ∷ 46 ∷ 104 ∷ 0 ∷ 116 ∷ 104 ∷ 114 ∷ 101 ∷ 101 ∷ 46 ∷ 104 ∷ 0 ∷ 47 ∷ 100 ∷ 47 ∷ 102 ∷ 111 ∷ 117 ∷
     114 ∷ 46 ∷ 104 ∷ 0 ∷ 0 ∷ 46 ∷ 100 ∷ 101 ∷ 98 ∷ 117 ∷ 103 ∷ 95 ∷ 97 ∷ 98 ∷ 98 ∷ 114 ∷ 101 ∷ 118 ∷ 0 ∷ 46 ∷ 100 ∷ 101 ∷ 98 ∷ 117 ∷
@@ -86,7 +86,7 @@ file_6 =
 
 unfoldable pub file_7 : List ℕ
 file_7 =
-    part_308 ++
+    part_313 ++
     (97 ∷ 46 ∷ 99 ∷ 0 ∷ 12 ∷ 0 ∷ 0 ∷ 0 ∷ 0 ∷ 2 ∷ 116 ∷ 0 ∷ 0 ∷ 111 ∷ 110 ∷ 101 ∷ 46 ∷ 99 ∷ 0 ∷ 100 ∷ 105 ∷ 114 ∷ 47 ∷ 116 ∷
     []) ++
     part_18 ++

@@ -1,12 +1,12 @@
 -- Written by tools/gen_vectors.py; not to be changed by hand.
 -- The bytes of `.debug_names` of small files, and the strings that it adds.
 use Rattle.std.specs.Prelude.{ℕ, List, [], ◌∷◌}
-use Rattle.index_vectors.specs.Parts2.{part_52, part_61}
+use Rattle.index_vectors.specs.Parts2.{part_56, part_65}
 use Rattle.index_vectors.specs.Says.{WritesNames}
 
 unfoldable pub file_0 : List ℕ
 file_0 =
-    part_52
+    part_56
 
 unfoldable pub file_1 : List ℕ
 file_1 =
@@ -22,7 +22,7 @@ file_2 =
 
 unfoldable pub file_3 : List ℕ
 file_3 =
-    part_61
+    part_65
 
 unfoldable pub file_4 : List ℕ
 file_4 =

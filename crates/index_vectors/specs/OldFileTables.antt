@@ -1,23 +1,23 @@
 -- Written by tools/gen_vectors.py; not to be changed by hand.
 -- Files of line tables up to version 4, and of units that name no table.
 use Rattle.std.specs.Prelude.{ℕ, List, [], ◌∷◌, ◌++◌, codes}
-use Rattle.index_vectors.specs.Parts1.{part_3, part_5, part_6, part_7, part_10, part_14, part_21, part_22}
-use Rattle.index_vectors.specs.Parts2.{part_52}
-use Rattle.index_vectors.specs.Parts3.{part_83}
-use Rattle.index_vectors.specs.Parts6.{part_258, part_259}
-use Rattle.index_vectors.specs.Parts7.{part_305, part_306, part_307}
+use Rattle.index_vectors.specs.Parts1.{part_3, part_5, part_6, part_7, part_10, part_14, part_21, part_22, part_31}
+use Rattle.index_vectors.specs.Parts2.{part_56}
+use Rattle.index_vectors.specs.Parts3.{part_87}
+use Rattle.index_vectors.specs.Parts6.{part_264, part_265}
+use Rattle.index_vectors.specs.Parts7.{part_311, part_312}
 use Rattle.index_vectors.specs.Says.{ListsFiles}
 
 unfoldable pub file_0 : List ℕ
 file_0 =
-    part_258 ++
+    part_264 ++
     (0 ∷ 0 ∷ 0 ∷ 0 ∷ 0 ∷ 0 ∷ 0 ∷ 2 ∷ 109 ∷ 97 ∷ 105 ∷ 110 ∷ 0 ∷ 0 ∷ 16 ∷ 0 ∷ 0 ∷ 0 ∷ 0 ∷ 0 ∷ 0 ∷ 32 ∷ 0 ∷ 0 ∷
     []) ++
-    part_83
+    part_87
 
 unfoldable pub file_1 : List ℕ
 file_1 =
-    part_305 ++
+    part_31 ++
     (97 ∷ 46 ∷ 99 ∷ 0 ∷ 12 ∷ 0 ∷ 0 ∷ 0 ∷ 0 ∷ 2 ∷ 116 ∷ 0 ∷ 0 ∷ 59 ∷ 0 ∷ 0 ∷ 0 ∷ 2 ∷ 0 ∷ 0 ∷ 0 ∷ 0 ∷ 0 ∷ 1 ∷
     1 ∷ 251 ∷ 14 ∷ 1 ∷ 100 ∷ 49 ∷ 0 ∷ 100 ∷ 50 ∷ 0 ∷ 0 ∷ 120 ∷ 47 ∷ 116 ∷ 119 ∷ 111 ∷ 46 ∷ 104 ∷ 0 ∷ 2 ∷ 0 ∷ 0 ∷ 116 ∷ 119 ∷
     111 ∷ 46 ∷ 104 ∷ 0 ∷ 1 ∷ 128 ∷ 1 ∷ 0 ∷ 120 ∷ 116 ∷ 119 ∷ 111 ∷ 46 ∷ 104 ∷ 0 ∷ 0 ∷ 0 ∷ 0 ∷ 0 ∷ 255 ∷ 255 ∷ 255 ∷ 255 ∷ 255 ∷
@@ -42,7 +42,7 @@ file_1 =
 
 unfoldable pub file_2 : List ℕ
 file_2 =
-    part_259 ++
+    part_265 ++
     (97 ∷ 46 ∷ 99 ∷ 0 ∷ 12 ∷ 0 ∷ 0 ∷ 0 ∷ 0 ∷ 2 ∷ 116 ∷ 0 ∷ 0 ∷ 22 ∷ 0 ∷ 0 ∷ 0 ∷ 2 ∷ 0 ∷ 0 ∷ 0 ∷ 0 ∷ 0 ∷ 1 ∷
     1 ∷ 251 ∷ 14 ∷ 1 ∷ 0 ∷ 116 ∷ 119 ∷ 111 ∷ 46 ∷ 104 ∷ 0 ∷ 0 ∷ 0 ∷ 0 ∷ 0 ∷ 111 ∷ 110 ∷ 101 ∷ 46 ∷ 99 ∷ 0 ∷ 100 ∷ 105 ∷ 114 ∷
     []) ++
@@ -50,7 +50,7 @@ file_2 =
 
 unfoldable pub file_3 : List ℕ
 file_3 =
-    part_306 ++
+    part_311 ++
     (97 ∷ 46 ∷ 99 ∷ 0 ∷ 12 ∷ 0 ∷ 0 ∷ 0 ∷ 0 ∷ 2 ∷ 116 ∷ 0 ∷ 0 ∷ 13 ∷ 0 ∷ 0 ∷ 0 ∷ 2 ∷ 0 ∷ 0 ∷ 0 ∷ 0 ∷ 0 ∷ 1 ∷
     1 ∷ 251 ∷ 14 ∷ 1 ∷ 0 ∷ 0 ∷ 111 ∷ 110 ∷ 101 ∷ 46 ∷ 99 ∷ 0 ∷ 100 ∷ 105 ∷ 114 ∷ 47 ∷ 116 ∷ 119 ∷ 111 ∷ 46 ∷ 104 ∷ 0 ∷ 116 ∷ 104 ∷
     []) ++
@@ -58,7 +58,7 @@ file_3 =
 
 unfoldable pub file_4 : List ℕ
 file_4 =
-    part_305 ++
+    part_31 ++
     (97 ∷ 46 ∷ 99 ∷ 0 ∷ 12 ∷ 0 ∷ 0 ∷ 0 ∷ 0 ∷ 2 ∷ 116 ∷ 0 ∷ 0 ∷ 255 ∷ 255 ∷ 255 ∷ 255 ∷ 55 ∷ 0 ∷ 0 ∷ 0 ∷ 0 ∷ 0 ∷ 0 ∷
     0 ∷ 4 ∷ 0 ∷ 0 ∷ 0 ∷ 0 ∷ 0 ∷ 0 ∷ 0 ∷ 0 ∷ 0 ∷ 1 ∷ 1 ∷ 1 ∷ 251 ∷ 14 ∷ 1 ∷ 100 ∷ 49 ∷ 0 ∷ 100 ∷ 50 ∷ 0 ∷ 0 ∷
     120 ∷ 47 ∷ 116 ∷ 119 ∷ 111 ∷ 46 ∷ 104 ∷ 0 ∷ 2 ∷ 0 ∷ 0 ∷ 116 ∷ 119 ∷ 111 ∷ 46 ∷ 104 ∷ 0 ∷ 1 ∷ 128 ∷ 1 ∷ 0 ∷ 120 ∷ 116 ∷ 119 ∷
@@ -83,21 +83,21 @@ file_4 =
 
 unfoldable pub file_5 : List ℕ
 file_5 =
-    part_307 ++
+    part_312 ++
     (97 ∷ 46 ∷ 99 ∷ 0 ∷ 12 ∷ 0 ∷ 0 ∷ 0 ∷ 0 ∷ 2 ∷ 116 ∷ 0 ∷ 0 ∷ 50 ∷ 0 ∷ 0 ∷ 0 ∷ 2 ∷ 0 ∷ 0 ∷ 0 ∷ 0 ∷ 0 ∷ 1 ∷
     []) ++
     part_6
 
 unfoldable pub file_6 : List ℕ
 file_6 =
-    part_307 ++
+    part_312 ++
     (97 ∷ 46 ∷ 99 ∷ 0 ∷ 12 ∷ 0 ∷ 0 ∷ 0 ∷ 0 ∷ 2 ∷ 116 ∷ 0 ∷ 0 ∷ 50 ∷ 0 ∷ 0 ∷ 0 ∷ 3 ∷ 0 ∷ 0 ∷ 0 ∷ 0 ∷ 0 ∷ 1 ∷
     []) ++
     part_6
 
 unfoldable pub file_7 : List ℕ
 file_7 =
-    part_307 ++
+    part_312 ++
     (97 ∷ 46 ∷ 99 ∷ 0 ∷ 12 ∷ 0 ∷ 0 ∷ 0 ∷ 0 ∷ 2 ∷ 116 ∷ 0 ∷ 0 ∷ 51 ∷ 0 ∷ 0 ∷ 0 ∷ 4 ∷ 0 ∷ 0 ∷ 0 ∷ 0 ∷ 0 ∷ 1 ∷
     1 ∷ 1 ∷ 251 ∷ 14 ∷ 1 ∷ 100 ∷ 49 ∷ 0 ∷ 100 ∷ 50 ∷ 0 ∷ 0 ∷ 120 ∷ 47 ∷ 116 ∷ 119 ∷ 111 ∷ 46 ∷ 104 ∷ 0 ∷ 2 ∷ 0 ∷ 0 ∷ 116 ∷
     119 ∷ 111 ∷ 46 ∷ 104 ∷ 0 ∷ 1 ∷ 128 ∷ 1 ∷ 0 ∷ 120 ∷ 116 ∷ 119 ∷ 111 ∷ 46 ∷ 104 ∷ 0 ∷ 0 ∷ 0 ∷ 0 ∷ 0 ∷ 111 ∷ 110 ∷ 101 ∷ 46 ∷
@@ -122,7 +122,7 @@ file_7 =
 
 unfoldable pub file_8 : List ℕ
 file_8 =
-    part_307 ++
+    part_312 ++
     (97 ∷ 46 ∷ 99 ∷ 0 ∷ 12 ∷ 0 ∷ 0 ∷ 0 ∷ 0 ∷ 2 ∷ 116 ∷ 0 ∷ 0 ∷ 50 ∷ 0 ∷ 0 ∷ 0 ∷ 2 ∷ 0 ∷ 0 ∷ 0 ∷ 0 ∷ 0 ∷ 1 ∷
     1 ∷ 251 ∷ 14 ∷ 0 ∷ 100 ∷ 49 ∷ 0 ∷ 100 ∷ 50 ∷ 0 ∷ 0 ∷ 120 ∷ 47 ∷ 116 ∷ 119 ∷ 111 ∷ 46 ∷ 104 ∷ 0 ∷ 2 ∷ 0 ∷ 0 ∷ 116 ∷ 119 ∷
     []) ++
@@ -157,7 +157,7 @@ file_11 =
 
 unfoldable pub file_12 : List ℕ
 file_12 =
-    part_307 ++
+    part_312 ++
     (97 ∷ 46 ∷ 99 ∷ 0 ∷ 12 ∷ 0 ∷ 0 ∷ 0 ∷ 0 ∷ 2 ∷ 116 ∷ 0 ∷ 0 ∷ 52 ∷ 0 ∷ 0 ∷ 0 ∷ 2 ∷ 0 ∷ 0 ∷ 0 ∷ 0 ∷ 0 ∷ 1 ∷
     1 ∷ 251 ∷ 14 ∷ 3 ∷ 7 ∷ 7 ∷ 100 ∷ 49 ∷ 0 ∷ 100 ∷ 50 ∷ 0 ∷ 0 ∷ 120 ∷ 47 ∷ 116 ∷ 119 ∷ 111 ∷ 46 ∷ 104 ∷ 0 ∷ 2 ∷ 0 ∷ 0 ∷
     116 ∷ 119 ∷ 111 ∷ 46 ∷ 104 ∷ 0 ∷ 1 ∷ 128 ∷ 1 ∷ 0 ∷ 120 ∷ 116 ∷ 119 ∷ 111 ∷ 46 ∷ 104 ∷ 0 ∷ 0 ∷ 0 ∷ 0 ∷ 0 ∷ 111 ∷ 110 ∷ 101 ∷
@@ -177,7 +177,7 @@ file_12 =
 
 unfoldable pub file_13 : List ℕ
 file_13 =
-    part_52
+    part_56
 
 -- what each row says
 abbrev pub OldFileTables : Type 0

@@ -1,24 +1,24 @@
 -- Written by tools/gen_vectors.py; not to be changed by hand.
 -- What a session writes line by line, by the stage of each look-up.
 use Rattle.std.specs.Prelude.{ℕ, List, [], ◌∷◌, ◌++◌, codes}
-use Rattle.index_vectors.specs.Parts2.{part_52, part_54, part_56}
+use Rattle.index_vectors.specs.Parts2.{part_56, part_58, part_60}
 use Rattle.index_vectors.specs.Says.{Serves}
 
 unfoldable pub file_0 : List ℕ
 file_0 =
-    part_52
+    part_56
 
 unfoldable pub file_1 : List ℕ
 file_1 =
     (127 ∷ 69 ∷ 76 ∷ 70 ∷ 2 ∷ 1 ∷ 1 ∷ 0 ∷ 0 ∷ 0 ∷ 0 ∷ 0 ∷ 0 ∷ 0 ∷ 0 ∷ 0 ∷ 2 ∷ 0 ∷ 62 ∷ 0 ∷ 1 ∷ 0 ∷ 0 ∷ 0 ∷
     []) ++
-    part_54
+    part_58
 
 unfoldable pub file_2 : List ℕ
 file_2 =
     (127 ∷ 69 ∷ 76 ∷ 70 ∷ 2 ∷ 1 ∷ 1 ∷ 0 ∷ 0 ∷ 0 ∷ 0 ∷ 0 ∷ 0 ∷ 0 ∷ 0 ∷ 0 ∷ 2 ∷ 0 ∷ 62 ∷ 0 ∷ 1 ∷ 0 ∷ 0 ∷ 0 ∷
     []) ++
-    part_56
+    part_60
 
 -- what each row says
 abbrev pub Sessions : Type 0
