@@ -1,0 +1,7 @@
+mod UnitLaws
+mod ProducerLaws
+mod RootLaws
+mod ImportLaws
+mod PartLaws
+mod RootsLaws
+mod ReadingLaws

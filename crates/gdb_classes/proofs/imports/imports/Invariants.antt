@@ -1,0 +1,14 @@
+use Rattle.std.proofs.Common.{◌≡◌}
+use Rattle.std.specs.Prelude.{take, flat_map}
+use Rattle.std.specs.Option.{ForSome}
+use Rattle.index_model.specs.ShardParts.{imports_in}
+use Rattle.gdb_items.specs.Files.{ForProgram}
+use Rattle.gdb_classes.specs.Units.{IsTableOf}
+use Rattle.gdb_classes.proofs.imports.imports.Given as goal
+
+-- the imports of the units so far were read
+abbrev pub invariant-loop-number : goal.invariant-loop-number
+invariant-loop-number l = record {
+  read : ForProgram l.image.file (λ p. l.imports.items ≡ flat_map (imports_in p.sections) (take l.number p.walks));
+  hand : ForSome l.at_hand (IsTableOf l.image);
+}

@@ -1,0 +1,13 @@
+use Rattle.std.specs.Prelude.{take}
+use Rattle.std.specs.Option.{ForSome}
+use Rattle.gdb_items.specs.Files.{ForProgram}
+use Rattle.gdb_classes.specs.Units.{IsTableOf}
+use Rattle.gdb_classes.proofs.RootsLaws.{AreRootsTo}
+use Rattle.gdb_classes.proofs.roots.Roots.of.Given as goal
+
+-- the roots of the units so far were read
+abbrev pub invariant-loop-number : goal.invariant-loop-number
+invariant-loop-number l = record {
+  read : ForProgram l.image.file (λ p. AreRootsTo p (take l.number p.walks) l.units.items l.classes.items);
+  hand : ForSome l.at_hand (IsTableOf l.image);
+}
