@@ -1,5 +1,5 @@
 -- The producer of a root by the text of its value.
-use Rattle.std.proofs.Common.{◌≡◌, ℕ, Bool, List, Option, Some, None, Result, option_and_then, refl, sym, ap, ◌∙◌}
+use Rattle.std.proofs.Common.{◌≡◌, ℕ, Bool, List, Option, Some, None, Result, option_and_then, refl, ap, ◌∙◌}
 use Rattle.index_model.specs.Attributes.{attribute, as_text}
 use Rattle.index_model.specs.Forms.{Value, Addr, Unsigned, Str, LineStr, StrIndex, AddrIndex, Near, Far, Signature, Offset, RangeIndex, ListIndex, Signed, Flag, Inline, Block, Wide}
 use Rattle.index_model.specs.Meaning.{value_of}

@@ -1,4 +1,4 @@
-use Rattle.std.proofs.Common.{◌≡◌, ◌++◌, ◌∷◌, [], List, Option, Ok, append-nil, append_assoc, sym, ap, subst, ◌∙◌}
+use Rattle.std.proofs.Common.{◌++◌, List, Option, Ok, append_assoc, sym, ap, subst, ◌∙◌}
 use Rattle.entry_scan.specs.Ahead.{GivesItem}
 use Rattle.entry_scan.specs.declared.item.Item.{Item as Read}
 use Rattle.index_model.specs.declared.shard.Import.{Import}
