@@ -1,6 +1,6 @@
 //! How gdb reads units, by their owners.
 
-ghost use Rattle.std.specs.Prelude.{◌≡◌, ◌≤◌, ◌<◌, ◌^◌, ℕ, map, length, IfOk};
+ghost use Rattle.std.specs.Prelude.{◌≡◌, ◌<◌, ◌^◌, ℕ, map, length, IfOk};
 ghost use Rattle.std.specs.List.{enumerate_from};
 ghost use Rattle.gdb_entries.specs.declared.language.LanguageClass.{LanguageClass as ClassOf};
 ghost use Rattle.gdb_items.specs.Files.{ForProgram, HasProgram};
@@ -71,7 +71,8 @@ fn owned_readings(
 
 // How the unit with this number is read.
 fn reading_at(owners: &Owners, classes: &[LanguageClass], number: usize) -> Option<Reading>
-    requires { length classes.now < 2 ^ 32 }
+    requires number { number < length classes.now }
+    requires few { length classes.now < 2 ^ 32 }
     ensures { result ≡ reading_at owners.now classes.now number }
 {
     let owner = owners.owner(number)?;
