@@ -4,3 +4,4 @@ mod ReadLaws
 mod UnitLaws
 mod PlaceLaws
 mod ChainLaws
+mod SharedLaws

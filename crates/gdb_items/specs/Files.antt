@@ -7,6 +7,7 @@ use Rattle.index_model.specs.Sections.{Section}
 use Rattle.gdb_items.specs.declared.read_unit.ReadUnit.{ReadUnit}
 use Rattle.gdb_items.specs.declared.item.UnitItem.{UnitItem}
 use Rattle.gdb_items.specs.Items.{AreItemsOf, IsItemOf}
+use Rattle.gdb_items.specs.Read.{items_in}
 
 -- the file has no fault
 abbrev pub HasProgram : List ℕ → Type 0
@@ -25,7 +26,7 @@ IsItemIn ss (Some i) (Some d) = IsItemOf ss i d
 
 -- what was read is what is kept of the unit with the number
 abbrev pub IsReadOf : List ℕ → ℕ → ReadUnit → Type 0
-IsReadOf file unit read = AreItemsOf file unit read.which read.items.items
+IsReadOf file unit read = AreItemsOf file unit read.which (items_in read)
 
 -- so is what was read of each unit
 abbrev pub AreUnitsOf : {S : Type 0} → List ℕ → IndexMap ℕ ReadUnit S → Type 0

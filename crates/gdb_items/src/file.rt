@@ -6,7 +6,8 @@
 ghost use Rattle.std.specs.Prelude.{◌≡◌, ◌<◌, length, IfOk, IfSome, Some};
 ghost use Rattle.index_model.specs.Program.{item_with_offset};
 ghost use Rattle.shard_build.specs.Found.{IsUnitAt};
-ghost use Rattle.gdb_items.specs.Files.{ForProgram, HasProgram, IsItemIn};
+ghost use Rattle.gdb_items.specs.Files.{ForProgram, HasProgram, IsItemIn, IsReadOf};
+ghost use Rattle.gdb_items.specs.declared.which.Which.TheVariants.{All};
 
 use crate::item::UnitItem;
 use crate::read_unit::ReadUnit;
@@ -18,6 +19,7 @@ use ix_base::NoMemory;
 use shard_build::{AbbrevTable, unit_at};
 use std::alloc::Global;
 use std::marker::Model;
+use std::sync::Arc;
 
 /// The items of a file without a fault. Contracts see the image of the file.
 #[derive(Drop)]
@@ -67,8 +69,8 @@ impl<'s, 'f> FileItems<'s, 'f> {
         }
     }
 
-    // The number of the unit in which an offset stands, if the file has it.
-    fn unit_of(&self, offset: u64) -> Option<u32>
+    /// The number of the unit in which an offset stands, if the file has it.
+    pub fn unit_of(&self, offset: u64) -> Option<u32>
         ensures unit { IsUnitAt self.now.file offset result }
         ensures within { IfSome result (λ unit. unit < length self.now.units) }
     {
@@ -81,6 +83,48 @@ impl<'s, 'f> FileItems<'s, 'f> {
             },
             None => None,
         }
+    }
+
+    /// What is read of a unit: the items that may be listed, or all where there was need of more.
+    pub fn items_of(&mut self, alloc: Global, unit: u32) -> Result<ReadUnit<'f>, NoMemory>
+        requires { unit < length self.old.units }
+        ensures value { IfOk result (IsReadOf self.old.file unit) }
+        ensures kept { self.new ≡ self.old }
+    {
+        match self.units.get(&unit) {
+            Some(read) => read.share(),
+            None => self.read(alloc, unit, Which::Listed),
+        }
+    }
+
+    /// All items of a unit.
+    pub fn all_items_of(&mut self, alloc: Global, unit: u32) -> Result<ReadUnit<'f>, NoMemory>
+        requires { unit < length self.old.units }
+        ensures which { IfOk result (λ read. read.which ≡ All) }
+        ensures value { IfOk result (IsReadOf self.old.file unit) }
+        ensures kept { self.new ≡ self.old }
+    {
+        let read = self.items_of(alloc, unit)?;
+        match read.which {
+            Which::All => Ok(read),
+            Which::Listed => self.read(alloc, unit, Which::All),
+        }
+    }
+
+    // Reads these items of a unit, which are kept from then on.
+    fn read(&mut self, alloc: Global, unit: u32, which: Which) -> Result<ReadUnit<'f>, NoMemory>
+        requires { unit < length self.old.units }
+        ensures which { IfOk result (λ read. read.which ≡ which) }
+        ensures value { IfOk result (IsReadOf self.old.file unit) }
+        ensures kept { self.new ≡ self.old }
+    {
+        let items = unit_items_with(alloc, self.image, unit, which, &mut self.at_hand)?;
+        let read = ReadUnit {
+            which,
+            items: Arc::new(alloc, items)?,
+        };
+        self.units.insert(unit, read.share()?)?;
+        Ok(read)
     }
 
     // The item at an offset of a unit.
@@ -110,9 +154,7 @@ impl<'s, 'f> FileItems<'s, 'f> {
         if self.units.contains_key(&unit) {
             return Ok(());
         }
-        let which = Which::Listed;
-        let items = unit_items_with(alloc, self.image, unit, which, &mut self.at_hand)?;
-        self.units.insert(unit, ReadUnit { which, items })?;
+        let _read = self.read(alloc, unit, Which::Listed)?;
         Ok(())
     }
 
@@ -148,11 +190,7 @@ impl<'s, 'f> FileItems<'s, 'f> {
     {
         // The units are those of the image's file.
         let _units = self.image.units();
-        let which = Which::All;
-        let items = unit_items_with(alloc, self.image, unit, which, &mut self.at_hand)?;
-        let read = ReadUnit { which, items };
-        let found = read.at(offset);
-        self.units.insert(unit, read)?;
-        Ok(found)
+        let read = self.read(alloc, unit, Which::All)?;
+        Ok(read.at(offset))
     }
 }

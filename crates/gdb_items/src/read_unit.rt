@@ -1,24 +1,38 @@
 //! What was read of a unit.
 
-ghost use Rattle.std.specs.Prelude.{◌≡◌, ◌==◌, find};
+ghost use Rattle.std.specs.Prelude.{◌≡◌, ◌==◌, find, IfOk};
 ghost use Rattle.std.specs.List.Sorted.{IsNonDecreasingBy};
+ghost use Rattle.gdb_items.specs.Read.{items_in};
 
 use crate::item::UnitItem;
 use crate::which::Which;
+use ix_base::NoMemory;
+use std::sync::Arc;
 
-/// What was read of a unit: those of its items, in section order.
+/// What was read of a unit: those of its items, in section order. Who holds them can go over them while more of the file is read.
 #[derive(Drop)]
-pub(crate) struct ReadUnit<'f> {
+pub struct ReadUnit<'f> {
     pub which: Which,
-    pub items: Vec<UnitItem<'f>>,
+    pub items: Arc<Vec<UnitItem<'f>>>,
 }
 
 impl<'f> ReadUnit<'f> {
     /// The item at a joint offset, among items whose offsets rise.
-    pub fn at(&self, offset: u64) -> Option<UnitItem<'f>>
-        ensures { IsNonDecreasingBy (λ i. i.offset) self.now.items.items → result ≡ find (λ i. i.offset == offset) self.now.items.items }
+    pub(crate) fn at(&self, offset: u64) -> Option<UnitItem<'f>>
+        ensures { IsNonDecreasingBy (λ i. i.offset) (items_in self.now) → result ≡ find (λ i. i.offset == offset) (items_in self.now) }
     {
         item_at(self.items.as_slice(), offset)
+    }
+
+    /// The same items, held once more.
+    pub(crate) fn share(&self) -> Result<ReadUnit<'f>, NoMemory>
+        ensures which { IfOk result (λ read. read.which ≡ self.now.which) }
+        ensures items { IfOk result (λ read. items_in read ≡ items_in self.now) }
+    {
+        Ok(ReadUnit {
+            which: self.which,
+            items: Arc::try_clone(&self.items)?,
+        })
     }
 }
 

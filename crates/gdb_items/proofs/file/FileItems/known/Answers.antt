@@ -4,6 +4,7 @@ use Rattle.index_model.specs.Faults.{program_of}
 use Rattle.shard_build.specs.Found.{IsUnitAt}
 use Rattle.gdb_items.specs.declared.which.Which.{Which}
 use Rattle.gdb_items.specs.Items.{keeps, AreItemsOf}
+use Rattle.gdb_items.specs.Read.{items_in}
 use Rattle.gdb_items.proofs.PlaceLaws.{offsets_rise, found_there, none_there}
 use Rattle.gdb_items.proofs.UnitLaws.{unit_with}
 use Rattle.gdb_items.proofs.file.FileItems.known.Goals as goal
@@ -15,11 +16,11 @@ returns-in-Some c p given =
     let unit = c.args.unit in
     let within : unit < length im.units = subst (λ (e : Image). unit < length e.units) (sym c.self.view_is) c.requires.within in
     let read = c.in_ok-read.read.now in
-    let are : AreItemsOf im.file unit read.which read.items.items = c.self.invariant.2 unit read (sym c.in_ok-read.ensures.value) in
+    let are : AreItemsOf im.file unit read.which (items_in read) = c.self.invariant.2 unit read (sym c.in_ok-read.ensures.value) in
     let w = unit_with im c.units-units.ensures.of_file p is unit within in
     let own = are p is w.0 w.1 w.2 in
-    let rise = offsets_rise im.file p is read.which read.items.items w.0 w.1 own in
-    found_there im.file p is read.which read.items.items w.0 w.1 own c.args.offset c.in-Some.item (sym (c.at.ensures rise) ∙ c.in-Some.is)
+    let rise = offsets_rise im.file p is read.which (items_in read) w.0 w.1 own in
+    found_there im.file p is read.which (items_in read) w.0 w.1 own c.args.offset c.in-Some.item (sym (c.at.ensures rise) ∙ c.in-Some.is)
 
 pub returns-in-All : goal.returns-in-All
 returns-in-All c p given =
@@ -30,8 +31,8 @@ returns-in-All c p given =
     let o = c.args.offset in
     let within : unit < length im.units = subst (λ (e : Image). unit < length e.units) (sym c.self.view_is) c.requires.within in
     let read = c.in_ok-read.read.now in
-    let are : AreItemsOf im.file unit read.which read.items.items = c.self.invariant.2 unit read (sym c.in_ok-read.ensures.value) in
+    let are : AreItemsOf im.file unit read.which (items_in read) = c.self.invariant.2 unit read (sym c.in_ok-read.ensures.value) in
     let w = unit_with im c.units-units.ensures.of_file p is unit within in
-    let rise = offsets_rise im.file p is read.which read.items.items w.0 w.1 (are p is w.0 w.1 w.2) in
+    let rise = offsets_rise im.file p is read.which (items_in read) w.0 w.1 (are p is w.0 w.1 w.2) in
     let at = subst (λ f. IsUnitAt f o (Some unit)) (sym file) c.requires.unit in
-    none_there im.file p is read.which read.items.items o unit at are (λ d. ap (λ (x : Which). keeps x d.item) c.in-All.is) (sym (c.at.ensures rise) ∙ c.in-None.is)
+    none_there im.file p is read.which (items_in read) o unit at are (λ d. ap (λ (x : Which). keeps x d.item) c.in-All.is) (sym (c.at.ensures rise) ∙ c.in-None.is)
