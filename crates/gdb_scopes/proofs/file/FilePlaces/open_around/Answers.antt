@@ -1,0 +1,10 @@
+use Rattle.std.proofs.Common.{refl, sym, ap, ◌∙◌}
+use Rattle.gdb_entries.specs.Owners.{class_read}
+use Rattle.gdb_scopes.proofs.ScopeLaws.{open_told}
+use Rattle.gdb_scopes.proofs.file.FilePlaces.open_around.Goals as goal
+
+pub returns-in-Some-clause-value : goal.returns-in-Some-clause-value
+returns-in-Some-clause-value c p is d here = open_told p d (class_read p d.home) refl _ (sym c.in-Some.is ∙ c.in_ok-place.ensures.value p is d here)
+
+pub returns-in-None-clause-value : goal.returns-in-None-clause-value
+returns-in-None-clause-value c p is d here = open_told p d (class_read p d.home) refl _ (sym c.in-None.is ∙ c.in_ok-place.ensures.value p is d here)
