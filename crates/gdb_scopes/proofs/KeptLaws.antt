@@ -1,6 +1,10 @@
 -- What is kept of a unit.
 use Rattle.std.proofs.Common.{◌≡◌, ℕ, Bool, true, false, List, map, is_some, Option, Some, None, Ok, refl, sym, ap, subst, ◌∙◌}
-use Rattle.std.specs.Prelude.{Contains, find}
+use Rattle.std.specs.Prelude.{Contains, find, nat_eq}
+use Rattle.std.specs.Map.{lookup}
+use Rattle.std.specs.declared.sync.Arc.{Arc}
+use Rattle.std.specs.declared.alloc.Global.{Global}
+use Rattle.indexmap.specs.IndexMap.{IndexMap}
 use Rattle.std.specs.List.{AllZip}
 use Rattle.std.specs.List.Sorted.{IsNonDecreasingBy}
 use Rattle.std.proofs.lemmas.Option.{same_Some}
@@ -19,8 +23,16 @@ use Rattle.gdb_items.specs.Read.{items_in}
 use Rattle.gdb_scopes.specs.declared.place.Place.{Place}
 use Rattle.gdb_scopes.specs.declared.placed.UnitPlaces.{UnitPlaces}
 use Rattle.gdb_scopes.specs.Places.{place_of, ForUnit, IsAt}
-use Rattle.gdb_scopes.specs.Units.{IsPlaced}
+use Rattle.gdb_scopes.specs.Units.{AllArePlaced, IsPlaced}
 use Rattle.gdb_scopes.proofs.PlacedLaws.{stands, places_rise, found_place, some_place}
+
+-- ---- what is kept of all units
+
+-- where nothing is put in, it is still so
+pub kept_still : {S : Type 0} (f : List ℕ) (old new : IndexMap ℕ (Arc UnitPlaces Global) S) → AllArePlaced f old → new.entries ≡ old.entries → AllArePlaced f new
+kept_still f old new all same unit placed e = all unit placed (ap (λ (es : List (ℕ × Arc UnitPlaces Global)). lookup (nat_eq unit) es) (sym same) ∙ e)
+
+-- ---- one unit
 
 -- what was read of a unit, and a place for each of it
 pub placed_by : (f : List ℕ) (unit : ℕ) (class : LanguageClass) (placed : UnitPlaces) → IsReadOf f unit placed.read → ForUnit f unit (λ p w. class_read p w ≡ Some class) →

@@ -154,7 +154,7 @@ scope_of_subprogram p d on = ap (λ (b : Bool). cond b (option_and_then (scope_i
 
 -- ---- whether a scope is sought on the chain
 
-abbrev have_scopes : Option LanguageClass → Bool
+abbrev pub have_scopes : Option LanguageClass → Bool
 have_scopes class = unwrap_or (option_map (λ (c : LanguageClass). not (is_c c)) class) false
 
 -- without names that have scopes it isn't

@@ -12,15 +12,15 @@ use Rattle.gdb_scopes.proofs.AroundLaws.{chain_there}
 use Rattle.gdb_scopes.proofs.ScopeLaws.{have_scopes, is_sought, not_sought}
 use Rattle.gdb_scopes.proofs.file.FilePlaces.around_target.Goals as goal
 
-pub returns-then-names_have_scopes-clause-value : goal.returns-then-names_have_scopes-clause-value
-returns-then-names_have_scopes-clause-value c p is d here own =
+pub returns-then-not-names_have_scopes-clause-value : goal.returns-then-not-names_have_scopes-clause-value
+returns-then-not-names_have_scopes-clause-value c p is d here own =
     let class = ap (λ (o : Option LanguageClass). have_scopes o) (c.class_at.ensures p is d here) in
-    not_sought p d (class_read p d.home) (sym class ∙ sym c.names_have_scopes.ensures ∙ c.if-names_have_scopes.true)
+    not_sought p d (class_read p d.home) (sym class ∙ sym c.names_have_scopes.ensures ∙ c.if-not-names_have_scopes.true)
 
 pub returns-clause-value : goal.returns-clause-value
 returns-clause-value c p is d here own =
     let class = ap (λ (o : Option LanguageClass). have_scopes o) (c.class_at.ensures p is d here) in
-    let on = is_sought p d (class_read p d.home) (sym class ∙ sym c.names_have_scopes.ensures ∙ c.if-names_have_scopes.false) in
+    let on = is_sought p d (class_read p d.home) (sym class ∙ sym c.names_have_scopes.ensures ∙ c.if-not-names_have_scopes.false) in
     let told = c.in_ok-chain.ensures.value p is d own in
     let offsets = c.as_slice.ensures.value ∙ told.targets in
     let are = subst (λ (os : List ℕ). AllZip (IsAt p) os (targets_of p d)) (sym offsets) (chain_there c.args.self.now.file p is d) in

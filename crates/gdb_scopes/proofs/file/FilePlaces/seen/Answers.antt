@@ -21,7 +21,7 @@ returns-in_ok-placed-in-Some-clause-value c p is w wc number =
     let class = c.in-Some.class in
     let read : class_read p w ≡ Some class = sym (c.class_of.ensures p is w wc number) ∙ c.in-Some.is in
     let placed = c.deref.result.now in
-    let kept : IsPlaced f unit placed = subst (IsPlaced f unit) (sym c.deref.ensures) c.in_ok-placed.ensures.value in
+    let kept : IsPlaced f unit placed = subst (IsPlaced f unit) (sym c.deref.ensures) c.in_ok-placed-in-Some.ensures.value in
     let own = c.seen.ensures p class (kept_of placed.read.which w) (kept.read p is w wc number) (kept.places p is w wc number class read) in
     let all = subst (λ (ds : List Located). IfOk c.seen.result (λ seen. AllZip (IsItemOf p.sections) seen.items ds)) (seen_of_kept p class placed.read.which w) own in
     subst (λ (o : Option LanguageClass). IfOk c.seen.result (λ seen. AllZip (IsItemOf p.sections) seen.items (seen_by p o w))) (sym read) all
