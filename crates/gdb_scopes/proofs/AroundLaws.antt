@@ -1,10 +1,10 @@
 -- What stands around an item of a file is an item of it, found again by its offset.
-use Rattle.std.proofs.Common.{◌≡◌, ℕ, zero, suc, ◌+◌, Bool, true, false, cond, eqb, ltb, not, ◌&&◌, ◌||◌, List, [], ◌∷◌, map, filter, Option, Some, None, option_map, Ok, refl, sym, ap, subst, ◌∙◌, ⊎_elim}
+use Rattle.std.proofs.Common.{◌≡◌, ℕ, zero, suc, ◌+◌, Bool, true, false, cond, eqb, ltb, not, ◌&&◌, ◌||◌, List, [], ◌∷◌, map, filter, Option, Some, None, Ok, refl, sym, ap, subst, ◌∙◌, ⊎_elim}
 use Rattle.std.specs.Prelude.{Contains, filter_map, option_and_then}
 use Rattle.std.specs.Option.{option_or}
 use Rattle.std.specs.List.{AllZip, cons_option}
 use Rattle.std.proofs.lemmas.Option.{same_Some}
-use Rattle.common_laws.proofs.Members.{contains_here, contains_later, of_filter, last_member}
+use Rattle.common_laws.proofs.Members.{of_filter, last_member}
 use Rattle.common_laws.proofs.Options.{of_option_map}
 use Rattle.ix_base.specs.declared.limits.TheConstants.{MAX_CHAIN_HOPS}
 use Rattle.index_model.specs.Attributes.{Reference}
@@ -20,7 +20,7 @@ use Rattle.gdb_entries.specs.declared.language.LanguageClass.{LanguageClass}
 use Rattle.gdb_entries.specs.Chains.{facts_of, origin_of, next_of, with_others, targets_from, targets_of}
 use Rattle.gdb_entries.specs.Classes.{is_c}
 use Rattle.gdb_entries.specs.Owners.{class_read}
-use Rattle.gdb_entries.specs.Reached.{Reach, is_inside, is_seen_from, is_open_from, below, reach_under, reach_at, reach_of}
+use Rattle.gdb_entries.specs.Reached.{Reach, is_inside, is_seen_from, is_open_from, below, reach_under, reach_at}
 use Rattle.gdb_entries.specs.Rules.{gives_scope_alone}
 use Rattle.gdb_entries.specs.Scopes.{around_in, around_by, around_target, is_open_by, open_or, open_around_at, open_around, scope_in_place}
 use Rattle.gdb_scopes.specs.Places.{offset_of, IsAt}
@@ -68,6 +68,7 @@ module _ (p : Program) (class : LanguageClass) where
           around_in (cond b (Some (record { around = None; inside = false })) (below p class (reach_at p class n x) x)) ≡ Some e → StandsIn d.home e
       at_depth x own outer true k = absurd (cc)
       at_depth x own outer false k = around_below d.home (reach_at p class n x) x e own (λ r. further d.home x e own.home (outer r)) k
+
       by : ((x : Located) → around_in (reach_at p class n x) ≡ Some e → StandsIn x.home e) → (o : Option Located) → scope_around d ≡ o → around_in (reach_under p class o (λ x. reach_at p class n x)) ≡ Some e → StandsIn d.home e
       by outer None up h = absurd (cc)
       by outer (Some x) up h = at_depth x (parent_in d x up) (outer x) (eqb x.item.depth 0) h
@@ -85,6 +86,7 @@ module _ (p : Program) where
       at_item : (x : Located) → StandsIn d.home x → (open_around_at p n x ≡ Some e → StandsIn x.home e) → (b : Bool) → cond b (Some x) (open_around_at p n x) ≡ Some e → StandsIn d.home e
       at_item x own outer true k = subst (StandsIn d.home) (same_Some x e k) own
       at_item x own outer false k = further d.home x e own.home (outer k)
+
       by : ((x : Located) → open_around_at p n x ≡ Some e → StandsIn x.home e) → (o : Option Located) → scope_around d ≡ o → open_or p o (λ x. open_around_at p n x) ≡ Some e → StandsIn d.home e
       by outer None up h = absurd (cc)
       by outer (Some x) up h = at_item x (parent_in d x up) (outer x) (is_open_by p (class_read p x.home) x) h

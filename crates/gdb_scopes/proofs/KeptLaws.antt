@@ -1,5 +1,5 @@
 -- What is kept of a unit.
-use Rattle.std.proofs.Common.{◌≡◌, ℕ, Bool, true, false, List, map, is_some, Option, Some, None, Ok, refl, sym, ap, subst, ◌∙◌}
+use Rattle.std.proofs.Common.{◌≡◌, ℕ, true, List, map, is_some, Option, Some, None, Ok, refl, sym, ap, subst, ◌∙◌}
 use Rattle.std.specs.Prelude.{Contains, find, nat_eq}
 use Rattle.std.specs.Map.{lookup}
 use Rattle.std.specs.declared.sync.Arc.{Arc}
@@ -9,12 +9,11 @@ use Rattle.std.specs.List.{AllZip}
 use Rattle.std.specs.List.Sorted.{IsNonDecreasingBy}
 use Rattle.std.proofs.lemmas.Option.{same_Some}
 use Rattle.index_model.specs.Faults.{program_of}
-use Rattle.index_model.specs.Program.{Program, Walked, Located, items_of}
+use Rattle.index_model.specs.Program.{Program, Walked, Located}
 use Rattle.shard_build.proofs.OnePlace.{home_of}
 use Rattle.shard_build.specs.Found.{IsUnitAt}
 use Rattle.gdb_entries.specs.declared.language.LanguageClass.{LanguageClass}
 use Rattle.gdb_entries.specs.Owners.{class_read}
-use Rattle.gdb_items.specs.declared.read_unit.ReadUnit.{ReadUnit}
 use Rattle.gdb_items.specs.declared.which.Which.{Which}
 use Rattle.gdb_items.specs.declared.which.Which.TheVariants.{All}
 use Rattle.gdb_items.specs.Files.{IsReadOf}

@@ -1,5 +1,5 @@
 -- Behind each of the items that were read, the places so far are those of the kept items so far.
-use Rattle.std.proofs.Common.{◌≡◌, ℕ, ◌+◌, ◌<◌, ◌≤◌, Bool, true, false, cond, eqb, ◌||◌, List, [], ◌∷◌, ◌++◌, length, drop, map, filter, get_or, Option, Some, option_map, is_some, Ok, refl, sym, ap, subst, ◌∙◌, append_assoc, append-nil, drop-cons, add-one}
+use Rattle.std.proofs.Common.{◌≡◌, ℕ, ◌+◌, ◌<◌, ◌≤◌, Bool, true, false, cond, eqb, ◌||◌, List, [], ◌∷◌, ◌++◌, length, drop, map, filter, get_or, Option, option_map, is_some, Ok, refl, sym, ap, subst, ◌∙◌, append_assoc, append-nil, drop-cons, add-one}
 use Rattle.std.specs.Prelude.{Contains}
 use Rattle.std.specs.List.{AllZip}
 use Rattle.std.proofs.Math.ListN.{drop_of_length-le}
@@ -8,7 +8,7 @@ use Rattle.std.proofs.lemmas.List.Elements.{filter-append}
 use Rattle.common_laws.proofs.Filters.{filter_within, map_filter, map_map}
 use Rattle.index_model.specs.Attributes.{is_declaration}
 use Rattle.index_model.specs.Faults.{program_of}
-use Rattle.index_model.specs.Program.{Program, Walked, Located, items_of, located}
+use Rattle.index_model.specs.Program.{Program, Walked, Located, items_of}
 use Rattle.index_model.specs.Sections.{Section}
 use Rattle.index_model.specs.Tags.{namespace}
 use Rattle.index_model.specs.Walk.{Item}

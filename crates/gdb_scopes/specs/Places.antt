@@ -1,7 +1,5 @@
 -- Where the items of a unit stand, as gdb comes to them.
-use Rattle.std.specs.Prelude.{◌≡◌, ℕ, List, [], Contains, filter, map, Option, Some, None, Ok, nat_eq, option_map}
-use Rattle.std.specs.Arc.{arc_value}
-use Rattle.indexmap.specs.IndexMap.{IndexMap, get}
+use Rattle.std.specs.Prelude.{◌≡◌, ℕ, List, [], Contains, filter, Option, Some, None, Ok, option_map}
 use Rattle.index_model.specs.Faults.{program_of}
 use Rattle.index_model.specs.Program.{Program, Walked, Located, located, item_with_offset}
 use Rattle.gdb_entries.specs.declared.language.LanguageClass.{LanguageClass}

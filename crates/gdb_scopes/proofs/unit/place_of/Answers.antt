@@ -1,4 +1,4 @@
-use Rattle.std.proofs.Common.{◌≡◌, Bool, true, sym, ap, ◌∙◌}
+use Rattle.std.proofs.Common.{ap, ◌∙◌}
 use Rattle.gdb_reach.specs.declared.state.Look.{Look}
 use Rattle.gdb_reach.specs.Standing.{IsNameTold, in_unit}
 use Rattle.gdb_scopes.specs.Places.{unit_read}

@@ -1,4 +1,4 @@
-use Rattle.std.proofs.Common.{sym, ap, ◌∙◌}
+use Rattle.std.proofs.Common.{sym, ◌∙◌}
 use Rattle.gdb_entries.specs.Owners.{class_read}
 use Rattle.gdb_scopes.proofs.ScopeLaws.{around_told}
 use Rattle.gdb_scopes.proofs.file.FilePlaces.around.Goals as goal

@@ -1,4 +1,4 @@
-use Rattle.std.proofs.Common.{◌≡◌, ℕ, Bool, List, Ok, map, sym, ap, subst, ◌∙◌}
+use Rattle.std.proofs.Common.{◌≡◌, ℕ, List, Ok, sym, ap, subst, ◌∙◌}
 use Rattle.std.specs.Prelude.{IfOk, Option, option_map}
 use Rattle.std.specs.List.{AllZip}
 use Rattle.file_image.specs.Images.{Image}

@@ -1,5 +1,4 @@
-use Rattle.std.proofs.Common.{◌≡◌, None, Some, sym, ap, subst, ◌∙◌}
-use Rattle.std.proofs.lemmas.Option.{same_Some}
+use Rattle.std.proofs.Common.{◌≡◌, None, Some, subst}
 use Rattle.file_image.specs.Images.{Image}
 use Rattle.shard_build.specs.Found.{IsUnitAt}
 use Rattle.shard_build.proofs.OnePlace.{home_of}

@@ -1,4 +1,4 @@
-use Rattle.std.proofs.Common.{◌≡◌, ℕ, List, Ok, refl, sym, ap, ◌∙◌}
+use Rattle.std.proofs.Common.{◌≡◌, Ok, refl, sym, ap, ◌∙◌}
 use Rattle.file_image.specs.Images.{Image}
 use Rattle.index_model.specs.Faults.{program_of}
 use Rattle.gdb_scopes.proofs.ScopeLaws.{one_sought, seeks_first, seeks_none, seeks_on, sought}

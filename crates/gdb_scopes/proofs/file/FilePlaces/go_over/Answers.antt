@@ -34,9 +34,9 @@ made c =
     let items = c.as_slice.ensures.value ∙ ap (λ (v : Vec UnitItem Global). v.items) c.deref.ensures in
     let placed : UnitPlaces = record { read = c.args.read; places = c.in_ok-places.places } in
     let one : IsPlaced f c.args.unit placed = placed_by f c.args.unit c.args.class placed c.requires.read c.requires.class
-        (λ p is w wc read are.
-        let here : program_of c.self.inside.items.file ≡ Ok p = ap (λ (e : Image). program_of e.file) c.self.view_is ∙ is in
-        c.in_ok-places.ensures.value p here w c.args.read.which wc read (subst (λ (is : List UnitItem). AllZip (IsItemOf p.sections) is (kept_of c.args.read.which w)) (sym items) are)) in
+    (λ p is w wc read are.
+    let here : program_of c.self.inside.items.file ≡ Ok p = ap (λ (e : Image). program_of e.file) c.self.view_is ∙ is in
+    c.in_ok-places.ensures.value p here w c.args.read.which wc read (subst (λ (is : List UnitItem). AllZip (IsItemOf p.sections) is (kept_of c.args.read.which w)) (sym items) are)) in
     subst (IsPlaced f c.args.unit) (sym c.in_ok-placed.ensures.ok) one
 
 pub invariant_of-self-2 : goal.invariant_of-self-2

@@ -1,4 +1,4 @@
-use Rattle.std.proofs.Common.{◌≡◌, ℕ, Option, Some, None, Ok, option_map, sym, ap, subst, ◌∙◌}
+use Rattle.std.proofs.Common.{◌≡◌, ℕ, Option, Some, Ok, option_map, sym, ap, subst, ◌∙◌}
 use Rattle.std.specs.Prelude.{IfOk}
 use Rattle.file_image.specs.Images.{Image}
 use Rattle.index_model.specs.Faults.{program_of}
@@ -8,7 +8,7 @@ use Rattle.gdb_entries.specs.Entries.{is_static_around}
 use Rattle.gdb_entries.specs.Scopes.{around_by}
 use Rattle.gdb_scopes.specs.Places.{offset_of, IsAt}
 use Rattle.gdb_scopes.proofs.AroundLaws.{around_there}
-use Rattle.gdb_scopes.proofs.ScopeLaws.{item_there, not_missing, one_around, told_there}
+use Rattle.gdb_scopes.proofs.ScopeLaws.{item_there, not_missing, one_around}
 use Rattle.gdb_scopes.proofs.file.FilePlaces.is_static_around.Goals as goal
 
 pub returns-in-Some-2-clause-value : goal.returns-in-Some-2-clause-value

@@ -1,4 +1,4 @@
-use Rattle.std.proofs.Common.{refl, sym, ap, ◌∙◌}
+use Rattle.std.proofs.Common.{refl, sym, ◌∙◌}
 use Rattle.gdb_entries.specs.Owners.{class_read}
 use Rattle.gdb_scopes.proofs.ScopeLaws.{open_told}
 use Rattle.gdb_scopes.proofs.file.FilePlaces.open_around.Goals as goal

@@ -1,4 +1,4 @@
-use Rattle.std.proofs.Common.{sym, subst, ◌∙◌}
+use Rattle.std.proofs.Common.{sym, subst}
 use Rattle.file_image.specs.Images.{Image}
 use Rattle.gdb_scopes.specs.Units.{AllArePlaced, AreReadingsOf}
 use Rattle.gdb_scopes.proofs.file.FilePlaces.placed_whole.Goals as goal
