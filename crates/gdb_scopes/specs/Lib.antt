@@ -1,3 +1,2 @@
-pub mod Readings
 pub mod Places
 pub mod Units

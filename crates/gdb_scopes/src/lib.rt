@@ -17,4 +17,3 @@ mod unit;
 
 pub use file::FilePlaces;
 pub use name::name_of;
-pub use reading::Reading;

@@ -2,15 +2,7 @@
 
 ghost use Rattle.std.specs.Prelude.{◌≡◌, option_and_then, slice_get};
 
-use gdb_entries::LanguageClass;
-
-/// How gdb reads a unit: as a part of its owner, by the class of the owner's language.
-#[derive(Clone, Copy, Debug, PartialEq, Eq)]
-pub struct Reading {
-    /// The number of the owner.
-    pub owner: u32,
-    pub class: LanguageClass,
-}
+use gdb_classes::Reading;
 
 /// How the unit with this number is read, if it is.
 pub(crate) fn reading_at(readings: &[Option<Reading>], unit: u32) -> Option<Reading>
