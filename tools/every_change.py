@@ -1,5 +1,5 @@
 #!/usr/bin/env python3
-"""python3 tools/every_change.py PROGRAM [--part K/N] [--files N] [--jobs J] [--match PREFIX] [--seconds T]
+"""python3 tools/every_change.py PROGRAM [--part K/N] [--files N] [--jobs J] [--match PREFIX] [--command WORD] [--seconds T]
 
 Takes the worked programs and indexes of rows/vectors, the small ones first, and makes of each every cut (each proper prefix) and
 every change of one bit. The status of PROGRAM on each of them, what it writes and what it stores have to be those of the reading in
@@ -127,12 +127,14 @@ def main():
     parser.add_argument("--part", type=part_of, default=(1, 1), help="K/N: every N-th case, from the K-th on")
     parser.add_argument("--jobs", type=int, default=1)
     parser.add_argument("--match", default="", help="only rows whose name begins so")
+    parser.add_argument("--command", default="", help="only what this command is asked")
     parser.add_argument("--seconds", type=float, default=float("inf"), help="no file begins behind so many")
     words = parser.parse_args()
     end = time.monotonic() + words.seconds
     program = os.path.abspath(words.program)
     first, step = words.part
-    cases = all_cases(words.match, offers_cached(program))[:words.files][first - 1::step]
+    cases = [case for case in all_cases(words.match, offers_cached(program)) if words.command in ("", case.words[0])]
+    cases = cases[:words.files][first - 1::step]
     cuts = sum(case.size() for case in cases)
     print("%d files, %d cuts, %d bits" % (len(cases), cuts, 8 * cuts), flush=True)
     passed = failed = left_out = 0
