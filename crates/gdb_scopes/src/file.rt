@@ -3,7 +3,7 @@
 //! A unit is gone over once there is need of it: over what may be listed of it, and once more over all its items where an item is
 //! asked for that isn't among these. A unit that isn't read has nothing that is looked at or open, and isn't gone over.
 
-ghost use Rattle.std.specs.Prelude.{◌≡◌, ◌<◌, length, map, option_map, Contains, IfOk, Some};
+ghost use Rattle.std.specs.Prelude.{◌≡◌, ◌<◌, length, map, option_map, IfOk, Some};
 ghost use Rattle.std.specs.Arc.{arc_value};
 ghost use Rattle.std.specs.List.{AllZip};
 ghost use Rattle.index_model.specs.Program.{Located, item_with_offset};

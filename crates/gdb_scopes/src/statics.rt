@@ -1,7 +1,7 @@
 //! Which names are static (gdb/dwarf2/read.c, `scan_attributes`).
 
 ghost use Rattle.std.specs.Prelude.{◌≡◌, IfOk, Some};
-ghost use Rattle.index_model.specs.Program.{Located, item_with_offset};
+ghost use Rattle.index_model.specs.Program.{Located};
 ghost use Rattle.gdb_entries.specs.Entries.{is_item_static, is_static_around, is_static_itself};
 ghost use Rattle.gdb_entries.specs.Owners.{class_read};
 ghost use Rattle.gdb_entries.specs.Scopes.{around_by};

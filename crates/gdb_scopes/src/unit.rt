@@ -1,6 +1,6 @@
 //! The places of a unit's items.
 
-ghost use Rattle.std.specs.Prelude.{◌≡◌, ◌&&◌, ◌++◌, ◌∷◌, [], true, Bool, List, Contains, IfOk, OnOk, Some, is_some, filter, map};
+ghost use Rattle.std.specs.Prelude.{◌≡◌, ◌++◌, ◌∷◌, [], true, List, Contains, IfOk, OnOk, Some, is_some, map};
 ghost use Rattle.std.specs.List.{AllZip};
 ghost use Rattle.index_model.specs.Program.{Located, Walked};
 ghost use Rattle.index_model.specs.Walk.{Item};
