@@ -1,1 +1,2 @@
 mod JoinLaws
+mod AdaLaws

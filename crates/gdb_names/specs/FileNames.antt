@@ -2,14 +2,14 @@
 use Rattle.std.specs.Prelude.{◌≡◌, ℕ, false, List, [], ◌++◌, map, reverse, filter_map, option_to_list, Some}
 use Rattle.index_model.specs.Program.{Program, Located}
 use Rattle.gdb_entries.specs.declared.language.LanguageClass.{LanguageClass}
-use Rattle.gdb_entries.specs.Classes.{is_ada}
-use Rattle.gdb_entries.specs.Components.{spelled, component_of, behind_scope}
+use Rattle.gdb_entries.specs.Components.{component_of, behind_scope}
 use Rattle.gdb_entries.specs.ItemNames.{ItemNames, item_names}
 use Rattle.gdb_entries.specs.Owners.{class_read}
 use Rattle.gdb_entries.specs.Chains.{facts_of, name_of, linkage_of, is_scoped}
 use Rattle.gdb_entries.specs.Scopes.{scope_path}
 use Rattle.gdb_entries.specs.Names.{component, full_name}
 use Rattle.gdb_entries.specs.Entries.{second_listed, names_of}
+use Rattle.gdb_names.specs.FullNames.{name_behind}
 
 -- a member of a path gives the component that its own unit's class says
 abbrev pub ComponentsAreOfTheirUnits : Type 0
@@ -17,13 +17,13 @@ ComponentsAreOfTheirUnits =
     (p : Program) (class : LanguageClass) (e : Located) → class_read p e.home ≡ Some class →
     component p e ≡ component_of class e.item.tag (is_scoped p e) (name_of p class e)
 
--- the full name of an item that isn't in a unit of Ada is its spelled name behind the components of its path
+-- the full name of an item is its name behind the components of its path
 abbrev pub FullNamesStandBehindPaths : Type 0
 FullNamesStandBehindPaths =
-    (p : Program) (class : LanguageClass) (d : Located) (name : List ℕ) → is_ada class ≡ false →
-    full_name p class d name ≡ behind_scope class (reverse (filter_map (component p) (scope_path p d))) (spelled class name)
+    (p : Program) (class : LanguageClass) (d : Located) (name : List ℕ) →
+    full_name p class d name ≡ name_behind class (reverse (filter_map (component p) (scope_path p d))) name
 
--- What stands before a name in a scope is the same for each name there: it can be formed once, of an empty name.
+-- What a scope puts before a name is the same for each name there, but in Ada: it can be formed once, of an empty name.
 abbrev pub FrontsStandBeforeNames : Type 0
 FrontsStandBeforeNames =
     (class : LanguageClass) (components : List (List ℕ)) (name : List ℕ) → behind_scope class components name ≡ behind_scope class components [] ++ name

@@ -1,10 +1,11 @@
 -- What contracts see of borrowed names.
-use Rattle.std.specs.Prelude.{◌≡◌, ◌<◌, ℕ, List, [], ◌∷◌, ◌++◌, length, map, Option, Some, None, option_map}
+use Rattle.std.specs.Prelude.{◌≡◌, ◌<◌, ℕ, List, [], ◌∷◌, ◌++◌, length, map, Option, Some, None, option_map, option_to_list}
 use Rattle.std.specs.Borrow.{Bor}
 use Rattle.std.specs.List.{join_by}
 use Rattle.gdb_entries.specs.declared.language.LanguageClass.{LanguageClass}
 use Rattle.gdb_entries.specs.Components.{behind_scope}
 use Rattle.gdb_entries.specs.ItemNames as defined
+use Rattle.gdb_names.specs.declared.ada.Pieces.{Pieces}
 use Rattle.gdb_names.specs.declared.items.SecondName.{SecondName}
 use Rattle.gdb_names.specs.declared.items.SecondName.TheVariants.{OnlyName, Linkage}
 use Rattle.gdb_names.specs.declared.items.ItemNames.{ItemNames}
@@ -31,6 +32,10 @@ Joins class components (Some separator) =
 abbrev pub second_seen : SecondName → defined.SecondName
 second_seen (OnlyName name) = defined.OnlyName name.now
 second_seen (Linkage name) = defined.Linkage name.now
+
+-- the pieces of a scope of Ada, from the outermost inwards
+abbrev pub pieces_seen : Pieces → List (List ℕ)
+pieces_seen pieces = map (λ whole. whole.items) (option_to_list pieces.whole) ++ contents pieces.inner.now
 
 -- the names of an item
 abbrev pub names_seen : ItemNames → defined.ItemNames

@@ -1,13 +1,13 @@
 //! Which names an item is listed under.
 
-ghost use Rattle.std.specs.Prelude.{◌≡◌, false, IfOk, option_map};
+ghost use Rattle.std.specs.Prelude.{◌≡◌, IfOk, option_map};
 ghost use Rattle.cxx_spelling.specs.Spelling.{spelling_bytes};
-ghost use Rattle.gdb_entries.specs.Classes.{is_ada};
 ghost use Rattle.gdb_entries.specs.Entries.{second_listed};
 ghost use Rattle.gdb_entries.specs.ItemNames.{item_names, second_name, linkage_name};
 ghost use Rattle.gdb_names.specs.Seen.{bytes_of, names_seen, second_seen};
 
-use crate::components::spelled;
+use crate::full_names::full_name;
+use ada_spelling::encode;
 use cxx_spelling::SpelledName;
 use gdb_entries::{ItemFacts, LanguageClass, gives_scope_alone, is_called};
 use std::alloc::{AllocError, Global};
@@ -22,14 +22,16 @@ pub enum SecondName<'n> {
 }
 
 impl<'n> SecondName<'n> {
-    /// The name as it is listed in a unit of this class, which isn't Ada's.
+    /// The name as it is listed in a unit of this class.
     pub fn listed(self, alloc: Global, class: LanguageClass) -> Result<SpelledName<'n>, AllocError>
-        requires { is_ada class ≡ false }
         ensures { IfOk result (λ text. spelling_bytes text ≡ (second_listed class (second_seen self.entry)).1) }
     {
-        match self {
-            SecondName::OnlyName(name) => spelled(alloc, class, name),
-            SecondName::Linkage(name) => Ok(SpelledName::Lent(name)),
+        match (self, class) {
+            (SecondName::OnlyName(name), _) => full_name(alloc, class, &[], name),
+            (SecondName::Linkage(name), LanguageClass::Ada) => {
+                Ok(SpelledName::Owned(encode(alloc, name)?))
+            }
+            (SecondName::Linkage(name), _) => Ok(SpelledName::Lent(name)),
         }
     }
 }

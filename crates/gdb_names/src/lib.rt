@@ -1,15 +1,18 @@
 //! Names as gdb lists them, as far as they can be said without a file (gdb/dwarf2: cooked-index.c, read.c, index-write.c): a name
-//! spelled by the class of its unit, a name behind the components of its scope, and which names an item has.
+//! spelled by the class of its unit, a name behind the components of its scope, one of Ada decoded and encoded again, and which
+//! names an item has.
 //!
-//! What is given is what the definitions of gdb_entries say: who walks over a file puts these together. Names of Ada are neither
-//! decoded nor encoded here.
+//! What is given is what the definitions of gdb_entries say: who walks over a file puts these together.
 #![tactic(auto)]
 
+mod ada;
 mod components;
 pub mod file_names;
+mod full_names;
 mod items;
 mod scope;
 
 pub use components::{component, spelled};
+pub use full_names::full_name;
 pub use items::{ItemNames, SecondName, item_names};
-pub use scope::{behind_scope, full_name};
+pub use scope::behind_scope;

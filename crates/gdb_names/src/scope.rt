@@ -2,12 +2,11 @@
 //!
 //! A name is measured without memory, then written once into room of its known length.
 
-ghost use Rattle.std.specs.Prelude.{◌≡◌, length, min, IfOk};
-ghost use Rattle.cxx_spelling.specs.Spelling.{IsSpelledAs, spelling_bytes};
-ghost use Rattle.gdb_entries.specs.Components.{spelled, behind_scope};
+ghost use Rattle.std.specs.Prelude.{◌≡◌, ◌++◌, length, min, IfOk, OnOk};
+ghost use Rattle.cxx_spelling.specs.Spelling.{IsSpelledAs};
+ghost use Rattle.gdb_entries.specs.Components.{behind_scope};
 ghost use Rattle.gdb_names.specs.Seen.{contents, joined_by, Joins};
 
-use crate::components::spelled;
 use cxx_spelling::SpelledName;
 use gdb_entries::{LanguageClass, separator_of};
 use std::alloc::{AllocError, Global};
@@ -28,30 +27,8 @@ pub fn behind_scope<'n>(
     }
 }
 
-/// The full name of an item in a unit of this class, which isn't that of Ada: its name is spelled and stands behind the
-/// components of its scope. These stand from the outermost inwards and are spelled already.
-pub fn full_name<'n>(
-    alloc: Global,
-    class: LanguageClass,
-    components: &[&[u8]],
-    name: &'n [u8],
-) -> Result<SpelledName<'n>, AllocError>
-    ensures { IfOk result (λ text. spelling_bytes text ≡ behind_scope class (contents components.now) (spelled class name.now)) }
-{
-    let own = spelled(alloc, class, name)?;
-    match separator_behind(class, components) {
-        Some(separator) => Ok(SpelledName::Owned(joined(
-            alloc,
-            separator,
-            components,
-            own.bytes(),
-        )?)),
-        None => Ok(own),
-    }
-}
-
-// What stands behind each component. None where no scope stands before a name.
-fn separator_behind(class: LanguageClass, components: &[&[u8]]) -> Option<&'static [u8]>
+/// What stands behind each component. None where no scope stands before a name.
+pub(crate) fn separator_behind(class: LanguageClass, components: &[&[u8]]) -> Option<&'static [u8]>
     ensures { Joins class (contents components.now) result }
 {
     if components.is_empty() {
@@ -60,8 +37,8 @@ fn separator_behind(class: LanguageClass, components: &[&[u8]]) -> Option<&'stat
     Some(separator_of(class)?.text())
 }
 
-// The components with the separator behind each, and the name.
-fn joined(
+/// The components with the separator behind each, and the name.
+pub(crate) fn joined(
     alloc: Global,
     separator: &[u8],
     components: &[&[u8]],
@@ -70,15 +47,27 @@ fn joined(
     ensures { IfOk result (λ text. text.items ≡ joined_by separator.now (contents components.now) name.now) }
 {
     let mut text = Vec::with_capacity(alloc, joined_length(separator, components, name))?;
+    push_joined(&mut text, separator, components, name)?;
+    Ok(text)
+}
+
+/// Adds them to a text.
+pub(crate) fn push_joined(
+    text: &mut Vec<u8>,
+    separator: &[u8],
+    components: &[&[u8]],
+    name: &[u8],
+) -> Result<(), AllocError>
+    ensures { OnOk result (text.new.items ≡ text.old.items ++ joined_by separator.now (contents components.now) name.now) }
+{
     for component in components {
         text.extend_from_slice(component)?;
         text.extend_from_slice(separator)?;
     }
-    text.extend_from_slice(name)?;
-    Ok(text)
+    text.extend_from_slice(name)
 }
 
-// The length of that, or the greatest `usize` where it is greater.
+// The length of what is joined, or the greatest `usize` where it is greater.
 fn joined_length(separator: &[u8], components: &[&[u8]], name: &[u8]) -> usize
     ensures { result ≡ min usize.MAX (length (joined_by separator.now (contents components.now) name.now)) }
 {

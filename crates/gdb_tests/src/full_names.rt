@@ -1,7 +1,5 @@
-//! Names that gdb 16.3 has in an index that it writes: spelled, behind their scopes, and by their linkage names.
-
-ghost use Rattle.std.specs.Prelude.{◌≡◌, false};
-ghost use Rattle.gdb_entries.specs.Classes.{is_ada};
+//! Names that gdb 16.3 has in an index that it writes: spelled, behind their scopes, and by their linkage names. Those of Ada that
+//! don't stand in crates/gdb_entries/specs/MadeFile.antt are gdb 13.1's.
 
 use gdb_entries::LanguageClass::{Ada, C, Cxx, D, Fortran, Go, Rust};
 use gdb_entries::{ItemFacts, LanguageClass};
@@ -78,6 +76,25 @@ const FULL_NAMES: &[Row] = &[
     (D, &[b"demo", b"Point"], b"sum", b"demo.Point.sum"),
     (Go, &[b"main.T"], b"F", b"main.T.F"),
     (Fortran, &[b"shapes"], b"area", b"area"),
+    // A name that can be decoded has its scope in itself.
+    (Ada, &[], b"_ada_demo", b"demo"),
+    (Ada, &[], b"a__B_1__inner", b"a__inner"),
+    (Ada, &[b"_ada_demo"], b"demo__add__2", b"demo__add"),
+    // One that can't stands behind what is around it, up to the first that can.
+    (
+        Ada,
+        &[b"_ada_demo", b"demo__add__2"],
+        b"odd___Y",
+        b"demo__add__odd___Y",
+    ),
+    (Ada, &[b"demo__x", b"_a"], b"a___b", b"demo__x___a__a___b"),
+    (
+        Ada,
+        &[b"_a", b"a___b"],
+        b"a__b___Y12",
+        b"_a__a___b__a__b___Y12",
+    ),
+    (Ada, &[], b"<a", b"<a"),
 ];
 
 /// Whether an item is listed by its name, and by its linkage name: taken for a name, or as that of a linkage entry.
@@ -194,9 +211,7 @@ fn is_second(
     class: LanguageClass,
     second: SecondName<'_>,
     wanted: &[u8],
-) -> Result<(), Fail>
-    requires { is_ada class ≡ false }
-{
+) -> Result<(), Fail> {
     let name = second.listed(alloc, class)?;
     assert_eq!(rt; name.bytes(), wanted);
     Ok(())
@@ -210,4 +225,16 @@ fn only_names_are_spelled(rt: HostRuntime) -> Result<(), Fail> {
     is_second(&rt, rt.alloc(), C, of_c, b"unsigned char".as_slice())?;
     let entry = SecondName::Linkage(b"short int".as_slice());
     is_second(&rt, rt.alloc(), C, entry, b"short int".as_slice())
+}
+
+#[test]
+fn second_names_of_ada(rt: HostRuntime) -> Result<(), Fail> {
+    let only = SecondName::OnlyName(b"shapes__only__2".as_slice());
+    is_second(&rt, rt.alloc(), Ada, only, b"shapes__only".as_slice())?;
+    let refused = SecondName::OnlyName(b"a__b___Y12".as_slice());
+    is_second(&rt, rt.alloc(), Ada, refused, b"a__b___Y12".as_slice())?;
+    let entry = SecondName::Linkage(b"demo__add__2".as_slice());
+    is_second(&rt, rt.alloc(), Ada, entry, b"demo__add__2".as_slice())?;
+    let encoded = SecondName::Linkage(b"pkg__proc.5".as_slice());
+    is_second(&rt, rt.alloc(), Ada, encoded, b"pkg__proc__5".as_slice())
 }

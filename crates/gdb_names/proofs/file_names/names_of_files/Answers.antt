@@ -1,7 +1,8 @@
-use Rattle.std.proofs.Common.{◌∷◌, Bool, reverse, filter_map, refl, ap}
+use Rattle.std.proofs.Common.{ℕ, List, ◌∷◌, reverse, filter_map, refl, sym, ap}
 use Rattle.std.specs.Prelude.{if◌then◌else◌, option_and_then}
+use Rattle.std.proofs.lemmas.List.{reverse-reverse}
 use Rattle.gdb_entries.specs.declared.language.LanguageClass.{LanguageClass}
-use Rattle.gdb_entries.specs.Classes.{separator_of}
+use Rattle.gdb_entries.specs.Classes.{is_ada, separator_of}
 use Rattle.gdb_entries.specs.Components.{spelled, component_of, behind_scope}
 use Rattle.gdb_entries.specs.Chains.{name_of, is_scoped}
 use Rattle.gdb_entries.specs.Scopes.{scope_path}
@@ -16,9 +17,10 @@ returns-clause-components c p class e h = ap (option_and_then (λ (by : Language
 
 pub returns-clause-full : goal.returns-clause-full
 unfolding full_name
-returns-clause-full c p class d name h =
+returns-clause-full c p class d name =
     let components = filter_map (component p) (scope_path p d) in
-    ap (λ (b : Bool). if b then ada_name (name ∷ components) else behind_scope class (reverse components) (spelled class name)) h
+    let others = behind_scope class (reverse components) (spelled class name) in
+    ap (λ (names : List (List ℕ)). if is_ada class then ada_name (name ∷ names) else others) (sym (reverse-reverse components))
 
 pub returns-clause-fronts : goal.returns-clause-fronts
 returns-clause-fronts c class components name = front (separator_of class) components name
