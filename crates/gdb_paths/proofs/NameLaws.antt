@@ -1,0 +1,29 @@
+-- Names behind their scope paths.
+use Rattle.std.proofs.Common.{◌≡◌, ℕ, Bool, false, cond, List, [], ◌∷◌, ◌++◌, filter_map, reverse, Option, None, sym, ap, ◌∙◌}
+use Rattle.cxx_spelling.specs.Spelling.{spelling_bytes, IsSpelledAs}
+use Rattle.cxx_spelling.specs.declared.spelled.SpelledName.{SpelledName}
+use Rattle.cxx_spelling.specs.declared.spelled.SpelledName.TheVariants as spelt
+use Rattle.index_model.specs.Program.{Program, Located}
+use Rattle.gdb_entries.specs.declared.language.LanguageClass.{LanguageClass}
+use Rattle.gdb_entries.specs.declared.separator.Separator.{Separator}
+use Rattle.gdb_entries.specs.Classes.{is_ada, separator_of}
+use Rattle.gdb_entries.specs.Components.{spelled, behind_scope, joined}
+use Rattle.gdb_entries.specs.Names.{ada_name, component, full_name}
+use Rattle.gdb_entries.specs.Scopes.{scope_path}
+
+-- a text that is spelled as is wanted has these bytes
+pub wanted_bytes : (wanted name : List ℕ) (text : SpelledName) → IsSpelledAs wanted name text → spelling_bytes text ≡ wanted
+wanted_bytes wanted name (spelt.Lent bytes) h = h.0 ∙ sym h.1
+wanted_bytes wanted name (spelt.Owned text) h = h.0
+
+-- without a separator a name stands alone
+pub stands_alone : (class : LanguageClass) (names : List (List ℕ)) (name : List ℕ) → separator_of class ≡ None → behind_scope class names name ≡ name
+stands_alone class names name none = ap (λ (o : Option Separator). joined o (names ++ name ∷ []) name) none
+
+-- a full name that isn't of Ada is the spelled name behind the components of the path
+pub stands_behind : (p : Program) (class : LanguageClass) (d : Located) (name : List ℕ) → is_ada class ≡ false →
+    behind_scope class (reverse (filter_map (component p) (scope_path p d))) (spelled class name) ≡ full_name p class d name
+unfolding full_name
+stands_behind p class d name off =
+    let names = filter_map (component p) (scope_path p d) in
+    sym (ap (λ (b : Bool). cond b (ada_name (name ∷ names)) (behind_scope class (reverse names) (spelled class name))) off)
