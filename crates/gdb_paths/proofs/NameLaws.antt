@@ -1,5 +1,7 @@
 -- Names behind their scope paths.
 use Rattle.std.proofs.Common.{◌≡◌, ℕ, Bool, false, cond, List, [], ◌∷◌, ◌++◌, filter_map, reverse, Option, None, sym, ap, ◌∙◌}
+use Rattle.std.specs.Borrow.{Bor}
+use Rattle.indexmap.proofs.ReorderLemmas.{map-reverse}
 use Rattle.cxx_spelling.specs.Spelling.{spelling_bytes, IsSpelledAs}
 use Rattle.cxx_spelling.specs.declared.spelled.SpelledName.{SpelledName}
 use Rattle.cxx_spelling.specs.declared.spelled.SpelledName.TheVariants as spelt
@@ -10,6 +12,11 @@ use Rattle.gdb_entries.specs.Classes.{is_ada, separator_of}
 use Rattle.gdb_entries.specs.Components.{spelled, behind_scope, joined}
 use Rattle.gdb_entries.specs.Names.{ada_name, component, full_name}
 use Rattle.gdb_entries.specs.Scopes.{scope_path}
+use Rattle.gdb_names.specs.Seen.{contents}
+
+-- of names that are turned round the bytes are
+pub turned_contents : (names : List (Bor (List ℕ))) → contents (reverse names) ≡ reverse (contents names)
+turned_contents names = map-reverse (λ (name : Bor (List ℕ)). name.now) names
 
 -- a text that is spelled as is wanted has these bytes
 pub wanted_bytes : (wanted name : List ℕ) (text : SpelledName) → IsSpelledAs wanted name text → spelling_bytes text ≡ wanted

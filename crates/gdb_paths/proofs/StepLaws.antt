@@ -15,7 +15,7 @@ use Rattle.gdb_paths.specs.Steps.{AllAreSteps, IsSameStep, IsStepAt}
 -- ---- the component of a member
 
 module _ (p : Program) (d : Located) where
-  abbrev by_class : LanguageClass → Option (List ℕ)
+  abbrev pub by_class : LanguageClass → Option (List ℕ)
   by_class class = component_of class d.item.tag (is_scoped p d) (name_of p class d)
 
   -- one whose unit isn't read gives none
@@ -24,13 +24,16 @@ module _ (p : Program) (d : Located) where
   unread_gives_none unread = sym (ap (λ (o : Option LanguageClass). option_and_then by_class o) unread)
 
   -- others give what the class of their unit says
-  pub read_gives : (class : LanguageClass) → class_read p d.home ≡ Some class → (tag : ℕ) (scoped : Bool) (name : Option (List ℕ)) → tag ≡ d.item.tag → scoped ≡ is_scoped p d → name ≡ name_of p class d → component_of class tag scoped name ≡ component p d
+  pub read_gives : (class : LanguageClass) → class_read p d.home ≡ Some class → by_class class ≡ component p d
   unfolding component
-  read_gives class read tag scoped name at is called =
+  read_gives class read = sym (ap (λ (o : Option LanguageClass). option_and_then by_class o) read)
+
+  -- by what is told of it and its chain
+  pub told_gives : (class : LanguageClass) (tag : ℕ) (scoped : Bool) (name : Option (List ℕ)) → tag ≡ d.item.tag → scoped ≡ is_scoped p d → name ≡ name_of p class d → component_of class tag scoped name ≡ by_class class
+  told_gives class tag scoped name at is called =
       ap (λ (t : ℕ). component_of class t scoped name) at
       ∙ ap (λ (s : Bool). component_of class d.item.tag s name) is
       ∙ ap (λ (n : Option (List ℕ)). component_of class d.item.tag (is_scoped p d) n) called
-      ∙ sym (ap (λ (o : Option LanguageClass). option_and_then by_class o) read)
 
 -- ---- steps that are kept
 

@@ -2,6 +2,8 @@
 
 ghost use Rattle.std.specs.Prelude.{◌≡◌, option_map, IfOk};
 ghost use Rattle.cxx_spelling.specs.Spelling.{spelling_bytes};
+ghost use Rattle.gdb_entries.specs.Chains.{is_scoped, name_of};
+ghost use Rattle.gdb_entries.specs.Components.{component_of};
 ghost use Rattle.gdb_entries.specs.Names.{component};
 ghost use Rattle.gdb_scopes.specs.Places.{ForItem};
 ghost use Rattle.gdb_paths.specs.Steps.{IsSameStep, IsStepAt};
@@ -9,6 +11,7 @@ ghost use Rattle.gdb_paths.specs.Texts.{text_bytes};
 
 use crate::text::ComponentText;
 use cxx_spelling::SpelledName;
+use gdb_entries::LanguageClass;
 use gdb_names::component;
 use gdb_scopes::{FilePlaces, name_of};
 use ix_base::NoMemory;
@@ -64,15 +67,34 @@ fn component_at<'f>(
     ensures value { ForItem places.old.file offset (λ p d. IfOk result (λ text. option_map spelling_bytes text ≡ component p d)) }
     ensures kept { places.new ≡ places.old }
 {
-    let Some(class) = places.class_at(offset) else {
-        return Ok(None);
-    };
+    match places.class_at(offset) {
+        Some(class) => component_by(alloc, places, class, offset),
+        None => Ok(None),
+    }
+}
+
+// The component that the item at a joint offset gives by this class.
+fn component_by<'f>(
+    alloc: Global,
+    places: &mut FilePlaces<'_, '_, 'f>,
+    class: LanguageClass,
+    offset: u64,
+) -> Result<Option<SpelledName<'f>>, NoMemory>
+    ensures value { ForItem places.old.file offset (λ p d. IfOk result (λ text. option_map spelling_bytes text ≡ component_of class d.item.tag (is_scoped p d) (name_of p class d))) }
+    ensures kept { places.new ≡ places.old }
+{
     let Some(item) = places.at(alloc, offset)? else {
         return Ok(None);
     };
     let chain = places.chain(alloc, &item)?;
     let tag = item.facts.tag;
-    let text = component(alloc, class, tag, chain.scoped, name_of(class, tag, chain.name))?;
+    let text = component(
+        alloc,
+        class,
+        tag,
+        chain.scoped,
+        name_of(class, tag, chain.name),
+    )?;
     Ok(text)
 }
 

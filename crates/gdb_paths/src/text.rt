@@ -52,6 +52,7 @@ impl<'f> ComponentText<'f> {
 }
 
 /// The bytes of each of the texts, those of the last one first.
+#[tactic(auto, using(crate::proofs::NameLaws::turned_contents))]
 pub(crate) fn turned_round<'t>(
     alloc: Global,
     texts: &'t [ComponentText<'_>],
@@ -64,10 +65,7 @@ pub(crate) fn turned_round<'t>(
 }
 
 // The bytes of each of the texts.
-fn contents_of<'t>(
-    alloc: Global,
-    texts: &'t [ComponentText<'_>],
-) -> Result<Vec<&'t [u8]>, NoMemory>
+fn contents_of<'t>(alloc: Global, texts: &'t [ComponentText<'_>]) -> Result<Vec<&'t [u8]>, NoMemory>
     ensures { IfOk result (λ parts. contents parts.items ≡ map text_bytes texts.now) }
 {
     let mut parts = Vec::new(alloc);

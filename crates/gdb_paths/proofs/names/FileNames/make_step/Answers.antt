@@ -4,7 +4,7 @@ use Rattle.shard_build.proofs.MapLaws.{one_more}
 use Rattle.gdb_paths.specs.declared.step.Step.{Step}
 use Rattle.gdb_paths.specs.Steps.{AllAreSteps, IsStepAt}
 use Rattle.gdb_paths.proofs.StepLaws.{kept_still, same_step}
-use Rattle.gdb_paths.proofs.path.FileNames.make_step.Goals as goal
+use Rattle.gdb_paths.proofs.names.FileNames.make_step.Goals as goal
 
 pub invariant_of-self : goal.invariant_of-self
 invariant_of-self c = subst (λ (e : Image). AllAreSteps e.file c.self.inside.steps) (sym c.at.ensures.kept) c.self.invariant

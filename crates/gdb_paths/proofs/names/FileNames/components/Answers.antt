@@ -4,7 +4,7 @@ use Rattle.file_image.specs.Images.{Image}
 use Rattle.index_model.specs.Faults.{program_of}
 use Rattle.gdb_paths.specs.Texts.{text_bytes}
 use Rattle.gdb_paths.proofs.PathLaws.{follow_end, follow_long, follow_none, follow_one, next_member, one_fewer}
-use Rattle.gdb_paths.proofs.path.FileNames.components.Goals as goal
+use Rattle.gdb_paths.proofs.names.FileNames.components.Goals as goal
 
 pub loop-member-init : goal.loop-member-init
 loop-member-init c = record {

@@ -1,7 +1,7 @@
 use Rattle.std.proofs.Common.{◌≡◌, ◌<◌, ◌^◌}
 use Rattle.gdb_scopes.specs.Places.{ForItem}
 use Rattle.gdb_paths.proofs.PathLaws.{IsFollowedTo}
-use Rattle.gdb_paths.proofs.path.FileNames.components.Given as goal
+use Rattle.gdb_paths.proofs.names.FileNames.components.Given as goal
 
 -- the file is the same, and the item's path was followed so far
 abbrev pub invariant-loop-member : goal.invariant-loop-member

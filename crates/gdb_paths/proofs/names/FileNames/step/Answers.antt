@@ -3,7 +3,7 @@ use Rattle.std.proofs.lemmas.Result.{IfOk-weaker}
 use Rattle.file_image.specs.Images.{Image}
 use Rattle.gdb_paths.specs.Steps.{IsSameStep, IsStepAt}
 use Rattle.gdb_paths.proofs.StepLaws.{same_step}
-use Rattle.gdb_paths.proofs.path.FileNames.step.Goals as goal
+use Rattle.gdb_paths.proofs.names.FileNames.step.Goals as goal
 
 pub returns-in-Some-clause-value : goal.returns-in-Some-clause-value
 returns-in-Some-clause-value c =
