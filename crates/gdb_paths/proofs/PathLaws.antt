@@ -50,18 +50,18 @@ of_path p d = by (path_from p MAX_PATH_STEPS d)
 -- without a scope the path has its end
 ends_here : (p : Program) (n : ℕ) (d : Located) → scope_of p d ≡ None → behind p n d ≡ Some []
 unfolding path_from
-ends_here p zero d none = ap (λ (o : Option Located). option_map (components p) (path_behind o (λ e. None))) none
-ends_here p (suc n) d none = ap (λ (o : Option Located). option_map (components p) (path_behind o (λ e. path_from p n e))) none
+ends_here p zero d none = ap (λ (o : Option Located). option_map (components p) (path_behind p o (λ e. None))) none
+ends_here p (suc n) d none = ap (λ (o : Option Located). option_map (components p) (path_behind p o (λ e. path_from p n e))) none
 
 -- with one where none may come it is too long
 too_long : (p : Program) (d e : Located) → scope_of p d ≡ Some e → behind p 0 d ≡ None
 unfolding path_from
-too_long p d e some = ap (λ (o : Option Located). option_map (components p) (path_behind o (λ x. None))) some
+too_long p d e some = ap (λ (o : Option Located). option_map (components p) (path_behind p o (λ x. None))) some
 
 -- one that may come gives its component, and the path goes on around it
 goes_on : (p : Program) (n : ℕ) (d e : Located) → scope_of p d ≡ Some e → behind p (suc n) d ≡ option_map (λ more. cons_option (component p e) more) (behind p n e)
 unfolding path_from
-goes_on p n d e some = ap (λ (o : Option Located). option_map (components p) (path_behind o (λ x. path_from p n x))) some ∙ by (path_from p n e)
+goes_on p n d e some = ap (λ (o : Option Located). option_map (components p) (path_behind p o (λ x. path_from p n x))) some ∙ by (path_from p n e)
   where
     by : (o : Option (List Located)) → option_map (components p) (option_map (λ more. e ∷ more) o) ≡ option_map (λ more. cons_option (component p e) more) (option_map (components p) o)
     by None = refl
@@ -124,11 +124,11 @@ module _ (f : List ℕ) (p : Program) (is : program_of f ≡ Ok p) (d : Located)
   }
 
   -- without one these are the path's
-  pub follow_end : next ≡ None → map text_bytes texts ≡ components p (scope_path p d)
+  pub follow_end : ((member : ℕ) → next ≡ Some member → ⊥) → map text_bytes texts ≡ components p (scope_path p d)
   follow_end none = by (scope_of p h.item) refl
     where
       by : (q : Option Located) → scope_of p h.item ≡ q → map text_bytes texts ≡ components p (scope_path p d)
-      by (Some e) k = let clash : None ≡ Some e.item.at = sym none ∙ h.next_is ∙ ap (option_map offset_of) k in absurd (cc)
+      by (Some e) k = absurd (none e.item.at (h.next_is ∙ ap (option_map offset_of) k))
       by None k =
           let all = h.whole ∙ ap (λ (b : Option (List (List ℕ))). option_map (λ more. map text_bytes texts ++ more) b) (ends_here p left h.item k) in
           sym (of_path p d ∙ ap (λ (b : Option (List (List ℕ))). unwrap_or b []) all ∙ append-nil (map text_bytes texts))

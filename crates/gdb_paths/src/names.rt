@@ -41,7 +41,7 @@ impl<'s, 'r, 'f> Model for FileNames<'s, 'r, 'f> {
 impl<'s, 'r, 'f> FileNames<'s, 'r, 'f> {
     /// The names of a file's items, before any is formed.
     pub fn new(alloc: Global, places: FilePlaces<'s, 'r, 'f>) -> FileNames<'s, 'r, 'f>
-        ensures { result ≡ places }
+        ensures { result ≡ places.entry }
     {
         FileNames {
             places,

@@ -4,12 +4,12 @@ use Rattle.gdb_paths.proofs.PathLaws.{IsFollowedTo}
 use Rattle.gdb_paths.proofs.names.FileNames.components.Given as goal
 
 -- the file is the same, and the item's path was followed so far
-abbrev pub invariant-loop-member : goal.invariant-loop-member
-invariant-loop-member l = record {
+abbrev pub invariant-loop-next : goal.invariant-loop-next
+invariant-loop-next l = record {
   same : l.self ≡ l.fn.self;
   range : l.left < 2 ^ 32;
   followed : ForItem l.fn.self.file l.offset (λ p d. IsFollowedTo p d l.left l.texts.items l.next);
 }
 
-abbrev pub decreases-loop-member : goal.decreases-loop-member
-decreases-loop-member l = l.left
+abbrev pub decreases-loop-next : goal.decreases-loop-next
+decreases-loop-next l = l.left
