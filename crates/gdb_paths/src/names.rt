@@ -1,18 +1,17 @@
 //! Full names of the items of a file.
 
-ghost use Rattle.std.specs.Prelude.{◌≡◌, false, filter_map, reverse, IfOk};
+ghost use Rattle.std.specs.Prelude.{◌≡◌, filter_map, reverse, IfOk};
 ghost use Rattle.cxx_spelling.specs.Spelling.{spelling_bytes};
-ghost use Rattle.gdb_entries.specs.Classes.{is_ada};
-ghost use Rattle.gdb_entries.specs.Components.{behind_scope, spelled};
 ghost use Rattle.gdb_entries.specs.Names.{component, full_name};
 ghost use Rattle.gdb_entries.specs.Scopes.{scope_path};
+ghost use Rattle.gdb_names.specs.FullNames.{name_behind};
 ghost use Rattle.gdb_scopes.specs.Places.{ForItem};
 
 use crate::step::Step;
 use crate::text::turned_round;
 use cxx_spelling::SpelledName;
 use gdb_entries::{LanguageClass, separator_of};
-use gdb_names::{full_name as name_behind, spelled};
+use gdb_names::{full_name as joined_name, spelled};
 use gdb_scopes::FilePlaces;
 use indexmap::IndexMap;
 use ix_base::NoMemory;
@@ -49,8 +48,8 @@ impl<'s, 'r, 'f> FileNames<'s, 'r, 'f> {
         }
     }
 
-    /// The full name of the item at a joint offset with this name, in a unit of this class, which isn't that of Ada: the name is
-    /// spelled and stands behind the components of the item's scope path. It is lent where nothing changes.
+    /// The full name of the item at a joint offset with this name, in a unit of this class: the name is spelled and stands behind the
+    /// components of the item's scope path, and in Ada it is decoded as far as can be, and encoded. It is lent where nothing changes.
     pub fn full_name<'n>(
         &mut self,
         alloc: Global,
@@ -58,7 +57,6 @@ impl<'s, 'r, 'f> FileNames<'s, 'r, 'f> {
         offset: u64,
         name: &'n [u8],
     ) -> Result<SpelledName<'n>, NoMemory>
-        requires { is_ada class ≡ false }
         ensures value { ForItem self.old.file offset (λ p d. IfOk result (λ text. spelling_bytes text ≡ full_name p class d name.now)) }
         ensures kept { self.new ≡ self.old }
     {
@@ -68,7 +66,7 @@ impl<'s, 'r, 'f> FileNames<'s, 'r, 'f> {
         }
     }
 
-    // The spelled name behind the components of the scope path of the item at a joint offset.
+    // The name behind the components of the scope path of the item at a joint offset.
     fn behind_path<'n>(
         &mut self,
         alloc: Global,
@@ -76,12 +74,12 @@ impl<'s, 'r, 'f> FileNames<'s, 'r, 'f> {
         offset: u64,
         name: &'n [u8],
     ) -> Result<SpelledName<'n>, NoMemory>
-        ensures value { ForItem self.old.file offset (λ p d. IfOk result (λ text. spelling_bytes text ≡ behind_scope class (reverse (filter_map (component p) (scope_path p d))) (spelled class name.now))) }
+        ensures value { ForItem self.old.file offset (λ p d. IfOk result (λ text. spelling_bytes text ≡ name_behind class (reverse (filter_map (component p) (scope_path p d))) name.now)) }
         ensures kept { self.new ≡ self.old }
     {
         let texts = self.components(alloc, offset)?;
         let components = turned_round(alloc, texts.as_slice())?;
-        let text = name_behind(alloc, class, components.as_slice(), name)?;
+        let text = joined_name(alloc, class, components.as_slice(), name)?;
         Ok(text)
     }
 }
