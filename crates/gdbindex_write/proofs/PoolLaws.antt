@@ -1,11 +1,10 @@
 -- What was sorted and numbered is the constant pool of the index.
 use Rattle.std.proofs.Common.{◌≡◌, ℕ, ◌+◌, ◌*◌, ◌^◌, ◌<◌, ◌≤◌, not, cond, List, [], ◌∷◌, length, get_or, map, Option, Some, None, refl, sym, ap, ◌∙◌, arith}
 use mathlib.Core.Bool.{◌&&◌}
-use Rattle.std.specs.Prelude.{filter, nat_lt, All, bytes_eq, slice_get, slice_range, IsSomeAnd}
+use Rattle.std.specs.Prelude.{filter, nat_lt, All, bytes_eq, slice_range}
 use Rattle.std.proofs.lemmas.List.{map-id}
 use Rattle.std.proofs.lemmas.List.Elements.{All-filter, All-head, All-tail}
 use Rattle.std.proofs.lemmas.List.FromFn.{get_or-map-range_with_len, length-map-range_with_len}
-use Rattle.std.proofs.lemmas.Option.{slice_get_within}
 use Rattle.common_laws.proofs.Filters.{filter_both, map_map}
 use Rattle.index_model.specs.declared.entry.Entry.{Entry}
 use Rattle.index_model.specs.declared.unit.Unit.{Unit as UnitHeader}
@@ -20,42 +19,35 @@ use Rattle.gdbindex_write.specs.Elements.{element_by, vector_by}
 use Rattle.gdbindex_write.specs.Pools.{pool_seen, vectors_seen}
 use Rattle.gdbindex_write.specs.Symbols.{Group, group_by, names_of, vectors_of, AreSymbolsOf}
 use Rattle.gdbindex_write.specs.Vectors.{AreVectorsOf}
-use Rattle.gdbindex_write.specs.Writable.{IsInUnits}
+use Rattle.gdbindex_write.specs.Writable.{HasUnit}
 
 -- ---- entries
 
-in_units : (units : List UnitHeader) (e : Entry) → IsInUnits units e → e.unit < length units
-in_units units e is = by (slice_get units e.unit) refl is
-  where
-    by : (o : Option UnitHeader) → slice_get units e.unit ≡ o → IsSomeAnd o (λ u. (u.start ≤ e.offset) × (e.offset < u.start + u.length)) → e.unit < length units
-    by (Some u) f s = slice_get_within units e.unit u f
-    by None f s = absurd s
-
-pub all_in_units : (units : List UnitHeader) (numbers : List ℕ) (entries : List Entry) → length numbers ≡ length units → All (IsInUnits units) entries → All (λ e. e.unit < length numbers) entries
-all_in_units units numbers entries size all = λ k d lt. omega (arith, in_units units (get_or entries k d) (all k d lt), size)
+pub all_in_units : (units : List UnitHeader) (numbers : List ℕ) (entries : List Entry) → length numbers ≡ length units → All (HasUnit units) entries → All (λ e. e.unit < length numbers) entries
+all_in_units units numbers entries size all = λ k d lt. omega (arith, all k d lt, size)
 
 pub numbers_length : (units : List UnitHeader) (numbers : List ℕ) → numbers ≡ map (index_number units) (below (length units)) → length numbers ≡ length units
 numbers_length units numbers is = ap length is ∙ length-map-range_with_len (index_number units) 0 (length units)
 
 module _ (units : List UnitHeader) (numbers : List ℕ) (numbers_are : numbers ≡ map (index_number units) (below (length units))) where
-  number_of : (e : Entry) → IsInUnits units e → get_or numbers e.unit 0 ≡ index_number units e.unit
-  number_of e is = ap (λ (w : List ℕ). get_or w e.unit 0) numbers_are ∙ get_or-map-range_with_len (index_number units) 0 (length units) e.unit e.unit 0 (in_units units e is) (omega arith)
+  number_of : (e : Entry) → HasUnit units e → get_or numbers e.unit 0 ≡ index_number units e.unit
+  number_of e is = ap (λ (w : List ℕ). get_or w e.unit 0) numbers_are ∙ get_or-map-range_with_len (index_number units) 0 (length units) e.unit e.unit 0 is (omega arith)
 
-  element_is : (e : Entry) → IsInUnits units e → element_by numbers e ≡ element units e
+  element_is : (e : Entry) → HasUnit units e → element_by numbers e ≡ element units e
   element_is e is = ap (λ (n : ℕ). n + kind_number e.kind * 2 ^ 28 + cond e.local (2 ^ 31) 0) (number_of e is)
 
-  elements_are : (es : List Entry) → All (IsInUnits units) es → map (element_by numbers) es ≡ map (element units) es
+  elements_are : (es : List Entry) → All (HasUnit units) es → map (element_by numbers) es ≡ map (element units) es
   elements_are [] all = refl
-  elements_are (e ∷ es) all = λ i. element_is e (All-head (IsInUnits units) e es all) i ∷ elements_are es (All-tail (IsInUnits units) e es all) i
+  elements_are (e ∷ es) all = λ i. element_is e (All-head (HasUnit units) e es all) i ∷ elements_are es (All-tail (HasUnit units) e es all) i
 
   -- the vector of a name's entries is that of the name
-  pub vector_is : (entries : List Entry) → All (IsInUnits units) entries → (n : List ℕ) → vector_by numbers (filter (is_named n) entries) ≡ vector units entries n
+  pub vector_is : (entries : List Entry) → All (HasUnit units) entries → (n : List ℕ) → vector_by numbers (filter (is_named n) entries) ≡ vector units entries n
   unfolding vector
   vector_is entries all n =
       let plain : filter (λ e. not e.linkage) (filter (is_named n) entries) ≡ filter (λ e. not e.linkage && bytes_eq e.name n) entries = filter_both (λ e. not e.linkage) (is_named n) (λ e. not e.linkage && bytes_eq e.name n) entries (λ e _. refl) in
       let named = filter (λ e. not e.linkage && bytes_eq e.name n) entries in
       ap (λ w. ascending nat_lt (map (element_by numbers) w)) plain
-      ∙ ap (ascending nat_lt) (elements_are named (All-filter (λ e. not e.linkage && bytes_eq e.name n) (IsInUnits units) entries all))
+      ∙ ap (ascending nat_lt) (elements_are named (All-filter (λ e. not e.linkage && bytes_eq e.name n) (HasUnit units) entries all))
 
 -- ---- symbols
 

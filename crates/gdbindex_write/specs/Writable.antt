@@ -1,5 +1,5 @@
 -- What an index can be written of.
-use Rattle.std.specs.Prelude.{◌≡◌, ◌⊎◌, ℕ, ◌+◌, ◌<◌, ◌≤◌, Bool, true, not, ◌&&◌, List, [], ◌∷◌, length, filter, sum_by, All, bytes_eq, slice_get, Option, Some, None, IsSomeAnd, IsTrue, ⊤}
+use Rattle.std.specs.Prelude.{◌≡◌, ◌⊎◌, ℕ, ◌+◌, ◌<◌, ◌≤◌, Bool, true, not, ◌&&◌, List, [], ◌∷◌, length, filter, sum_by, All, bytes_eq, Option, Some, None, IsTrue, ⊤}
 use Rattle.std.specs.List.{list_any}
 use Rattle.ix_base.specs.declared.limits.TheConstants.{MAX_UNITS}
 use Rattle.index_model.specs.declared.answer.Main.{Main}
@@ -37,9 +37,9 @@ pub record AreUnits (units : List UnitHeader) : Type 0 where
 
 -- ---- entries and main
 
--- the unit of the entry is one of the units, and the entry's offset lies inside it
-abbrev pub IsInUnits : List UnitHeader → Entry → Type 0
-IsInUnits units e = IsSomeAnd (slice_get units e.unit) (λ u. (u.start ≤ e.offset) × (e.offset < u.start + u.length))
+-- the unit of the entry is one of the units
+abbrev pub HasUnit : List UnitHeader → Entry → Type 0
+HasUnit units e = e.unit < length units
 
 -- whether the entry has this name and isn't a linkage entry
 abbrev pub is_plainly_named : List ℕ → Entry → Bool
@@ -57,6 +57,6 @@ IsMainOf entries None = ⊤
 pub record IsWritable (units : List UnitHeader) (pieces : List UnitRange) (main : Option Main) (entries : List Entry) (version : ℕ) : Type 0 where
   pub units_are : AreUnits units
   pub pieces_are : All (λ p. p.unit < length units) pieces
-  pub entries_are : All (IsInUnits units) entries
+  pub entries_are : All (HasUnit units) entries
   pub main_is : IsMainOf entries main
   pub version_is : (version ≡ 8) ⊎ (version ≡ 9)

@@ -22,8 +22,7 @@ use std::alloc::Global;
 
 /// The bytes of the `.gdb_index` of a program with these units, addresses, main and entries, version 8 or 9.
 ///
-/// The units stand in section order and follow one another. The map and the table name no others, and each entry lies in its
-/// unit. Main has the name of an entry that isn't a linkage entry; only version 9 says it. The names come sorted from the table;
+/// The units stand in section order and follow one another. The map and the table name no others. Main has the name of an entry that isn't a linkage entry; only version 9 says it. The names come sorted from the table;
 /// the work beside sorts of each name's own elements is linear.
 ///
 /// # Errors

@@ -3,7 +3,7 @@ use Rattle.std.proofs.Common.{◌≡◌, ℕ, ◌+◌, ◌-◌, ◌<◌, ◌≤�
 use Rattle.std.specs.Prelude.{All, Contains, slice_get, bytes_eq, option_to_list, IsSomeAnd}
 use Rattle.std.specs.Option.{option_or, option_map}
 use Rattle.std.proofs.lemmas.Slice.Eq.{bytes_eq-Decides}
-use Rattle.std.proofs.lemmas.Option.{cond_some, same_Some}
+use Rattle.std.proofs.lemmas.Option.{cond_some, same_Some, slice_get_within}
 use Rattle.common_laws.proofs.Members.{contains_here, contains_later, contains_cases, of_map, of_filter, of_flat_map, to_flat_map}
 use Rattle.index_model.specs.declared.entry.Entry.{Entry}
 use Rattle.index_model.specs.declared.range.Range.{Range}
@@ -28,7 +28,8 @@ use Rattle.index_model.proofs.ShardRoots.{Numbered, program_numbered}
 use Rattle.index_model.proofs.UnitAtLaws.{unit_at_least}
 use Rattle.address_map.proofs.Halves.{are_the_pieces}
 use Rattle.range_lists.proofs.Runs.{scan_unit}
-use Rattle.gdbindex_write.specs.Writable.{IsInUnits, IsMainOf, is_plainly_named}
+use Rattle.debugnames_write.specs.Conditions.{IsInside}
+use Rattle.gdbindex_write.specs.Writable.{HasUnit, IsMainOf, is_plainly_named}
 use Rattle.index_pool.proofs.Built.{built, built_with}
 use Rattle.index_pool.proofs.Counts.{stands}
 use Rattle.index_pool.proofs.FileUnits.{all_of}
@@ -57,8 +58,16 @@ module _ (p : Program) where
       linkage_place (entry_of k) (linkage_name_of p k.chain) y (in_optional p (linkage_entry_of (entry_of k) (linkage_name_of p k.chain)) y later) ∙ entry_place k)
       (contains_cases (entry_of k) (option_to_list (linkage_entry_of (entry_of k) (linkage_name_of p k.chain))) y c)
 
+-- what lies inside a unit has one
+has_unit : (us : List UnitHeader) (e : Entry) → IsInside us e → HasUnit us e
+has_unit us e is = by (slice_get us e.unit) refl is
+  where
+    by : (o : Option UnitHeader) → slice_get us e.unit ≡ o → IsSomeAnd o (λ u. (u.start ≤ e.offset) × (e.offset < u.start + u.length)) → e.unit < length us
+    by (Some u) found at = slice_get_within us e.unit u found
+    by None found at = absurd at
+
 module _ (f : List ℕ) (p : Program) (file : program_of f ≡ Ok p) (ks : List Link) (is : links_in p p.walks ≡ Ok ks) (us : List UnitHeader) (scans : AreScans p.sections 0 us p.walks) where
-  in_unit : (e : Entry) → Contains (entries_of p ks) e → IsInUnits us e
+  in_unit : (e : Entry) → Contains (entries_of p ks) e → IsInside us e
   unfolding entries_of
   in_unit e c =
       let k = of_flat_map (entries_of_link p) (indexed_in ks) e c in
@@ -68,8 +77,11 @@ module _ (f : List ℕ) (p : Program) (file : program_of f ≡ Ok p) (ks : List 
       let at = link_place p k.0 e k.2 in
       subst (λ (o : Option UnitHeader). IsSomeAnd o (λ u. (u.start ≤ e.offset) × (e.offset < u.start + u.length))) (sym unit) (omega (arith, at, s.begins), omega (arith, at, s.ends))
 
-  pub entries_in_units : All (IsInUnits us) (entries_of p ks)
-  entries_in_units = all_of (IsInUnits us) (entries_of p ks) in_unit
+  pub entries_in_units : All (IsInside us) (entries_of p ks)
+  entries_in_units = all_of (IsInside us) (entries_of p ks) in_unit
+
+  pub entries_have_units : All (HasUnit us) (entries_of p ks)
+  entries_have_units = all_of (HasUnit us) (entries_of p ks) (λ e c. has_unit us e (in_unit e c))
 
 -- ---- pieces
 

@@ -32,16 +32,16 @@ use Rattle.index_model.proofs.UnitsApart.{walk_parts}
 use Rattle.address_map.proofs.Halves.{are_the_pieces}
 use Rattle.gdbindex_write.specs.declared.stop.WriteStop.{WriteStop as GdbStop}
 use Rattle.gdbindex_write.specs.declared.stop.WriteStop.TheVariants as gdb_stops
-use Rattle.gdbindex_write.specs.Writable.{IsWritable, IsInUnits, IsMainOf}
+use Rattle.gdbindex_write.specs.Writable.{IsWritable, HasUnit, IsMainOf}
 use Rattle.debugnames_write.specs.declared.writer.NameBytes.{NameBytes as Written}
 use Rattle.debugnames_write.specs.declared.writer.WriteStop.{WriteStop as NamesStop}
 use Rattle.debugnames_write.specs.declared.writer.WriteStop.TheVariants as names_stops
-use Rattle.debugnames_write.specs.Conditions.{AreIndexable, Fits}
+use Rattle.debugnames_write.specs.Conditions.{AreIndexable, Fits, IsInside}
 use Rattle.stage_core.specs.Inputs.{PublishedOf}
 use Rattle.index_pool.specs.Drawn.{IsDrawn}
 use Rattle.index_pool.specs.Outputs.{gdb_output, names_output}
 use Rattle.index_pool.specs.Written.{ArePublished, IsIndexOf, kind_of_version}
-use Rattle.index_pool.proofs.FileEntries.{entries_in_units, pieces_in_units, main_named}
+use Rattle.index_pool.proofs.FileEntries.{entries_in_units, entries_have_units, pieces_in_units, main_named}
 use Rattle.index_pool.proofs.FileUnits.{gdb_units, name_units}
 use Rattle.index_pool.proofs.Given.{IsOut, is_out}
 use Rattle.index_pool.proofs.Lists.{ok_and, and_ok, at_ok}
@@ -101,12 +101,12 @@ module _ (image : Image) (m : Summary) (entries : List Entry) (h : ArePublished 
   module _ (few : length image.units ≤ MAX_UNITS) (info : length (section_bytes image.sections (codes ".debug_info")) ≤ 2 ^ 30) (types : length (section_bytes image.sections (codes ".debug_types")) ≤ 2 ^ 30) where
     pub writable : (version : ℕ) → (version ≡ 8) ⊎ (version ≡ 9) → IsWritable image.units m.map m.main entries version
     writable version known =
-        let own_entries = entries_in_units image.file h.built.program parts.program h.built.links links image.units own.scans in
+        let own_entries = entries_have_units image.file h.built.program parts.program h.built.links links image.units own.scans in
         let main = main_named h.built.program h.built.links in
         record {
           units_are = gdb_units image.sections image.units own.units few info types;
           pieces_are = pieces_in_units image.file h.built.program parts.program h.built.links parts.links image.units own.scans h.built.ranges parts.ranges m.map h.map;
-          entries_are = subst (λ (es : List Entry). All (IsInUnits image.units) es) (sym h.entries_are) own_entries;
+          entries_are = subst (λ (es : List Entry). All (HasUnit image.units) es) (sym h.entries_are) own_entries;
           main_is = subst (λ (es : List Entry). IsMainOf es m.main) (sym h.entries_are) (subst (IsMainOf (entries_in h.built)) (sym h.main) main);
           version_is = known;
         }
@@ -116,7 +116,7 @@ module _ (image : Image) (m : Summary) (entries : List Entry) (h : ArePublished 
         let own_entries = entries_in_units image.file h.built.program parts.program h.built.links links image.units own.scans in
         record {
           units_are = name_units image.sections image.units own.units few info types;
-          inside = subst (λ (es : List Entry). All (IsInUnits image.units) es) (sym h.entries_are) own_entries;
+          inside = subst (λ (es : List Entry). All (IsInside image.units) es) (sym h.entries_are) own_entries;
         }
 
   -- ---- the index
