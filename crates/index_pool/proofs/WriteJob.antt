@@ -49,12 +49,12 @@ use Rattle.index_pool.proofs.ScanJob.{same_image}
 
 -- ---- a file without a fault
 
-record HasParts (f : List ℕ) (b : Built) : Type 0 where
-  program : program_of f ≡ Ok b.program
-  links : links_of b.program ≡ Ok b.links
-  ranges : all_ranges b.program b.links ≡ Ok b.ranges
+pub record HasParts (f : List ℕ) (b : Built) : Type 0 where
+  pub program : program_of f ≡ Ok b.program
+  pub links : links_of b.program ≡ Ok b.links
+  pub ranges : all_ranges b.program b.links ≡ Ok b.ranges
 
-has_parts : (f : List ℕ) (b : Built) → built_of f ≡ Ok b → HasParts f b
+pub has_parts : (f : List ℕ) (b : Built) → built_of f ≡ Ok b → HasParts f b
 unfolding built_of
 has_parts f b is =
     let p = bind_ok (program_of f) _ b is in
@@ -63,7 +63,7 @@ has_parts f b is =
     let made : Built = record { program = p.0; links = k.0; ranges = r.0 } in
     subst (HasParts f) (same_ok made b r.2) (record { program = p.1; links = k.1; ranges = r.1 })
 
-scans_units : (ss : List Section) (n : ℕ) (us : List UnitHeader) (ws : List Walked) → AreScans ss n us ws → us ≡ map (λ w. w.unit) ws
+pub scans_units : (ss : List Section) (n : ℕ) (us : List UnitHeader) (ws : List Walked) → AreScans ss n us ws → us ≡ map (λ w. w.unit) ws
 scans_units ss n [] [] s = refl
 scans_units ss n [] (w ∷ ws) s = absurd s
 scans_units ss n (u ∷ us) [] s = absurd s
@@ -72,18 +72,35 @@ scans_units ss n (u ∷ us) (w ∷ ws) s =
     ap (λ (v : UnitHeader). v ∷ us) (sym unit) ∙ ap (λ (vs : List UnitHeader). w.unit ∷ vs) (scans_units ss (n + 1) us ws s.1)
 
 -- the sections and the units of an image are those of its file
-record OfProgram (image : Image) (p : Program) : Type 0 where
-  sections : image.sections ≡ p.sections
-  units : units_of image.sections ≡ Ok image.units
-  scans : AreScans p.sections 0 image.units p.walks
+pub record OfProgram (image : Image) (p : Program) : Type 0 where
+  pub sections : image.sections ≡ p.sections
+  pub units : units_of image.sections ≡ Ok image.units
+  pub scans : AreScans p.sections 0 image.units p.walks
 
-of_program : (image : Image) → image_of image.file ≡ Ok image → (p : Program) → program_of image.file ≡ Ok p → OfProgram image p
+pub of_program : (image : Image) → image_of image.file ≡ Ok image → (p : Program) → program_of image.file ≡ Ok p → OfProgram image p
 of_program image is p file =
     let own = parts_of image.file image is in
     let a = program_parts image.file p file in
     let sections : image.sections ≡ p.sections = same_ok image.sections p.sections (sym own.sections ∙ a.1) in
     let units : a.0 ≡ image.units = same_ok a.0 image.units (sym a.2 ∙ ap units_of (sym sections) ∙ own.units) in
     record { sections = sections; units = own.units; scans = subst (λ (us : List UnitHeader). AreScans p.sections 0 us p.walks) units a.3 }
+
+-- ---- what can be written of a file without a fault
+
+module _ (image : Image) (is : image_of image.file ≡ Ok image) (few : length image.units ≤ MAX_UNITS) (info : length (section_bytes image.sections (codes ".debug_info")) ≤ 2 ^ 30) (types : length (section_bytes image.sections (codes ".debug_types")) ≤ 2 ^ 30) where
+  -- any entries that have units, with the pieces of the file's ranges
+  pub writable_of : (b : Built) → built_of image.file ≡ Ok b → (map : List UnitRange) → IsPieces b.ranges map → (main : Option MainOf) (entries : List Entry) (version : ℕ) → (version ≡ 8) ⊎ (version ≡ 9) → All (HasUnit image.units) entries → IsMainOf entries main →
+      IsWritable image.units map main entries version
+  writable_of b accepted map are main entries version known have named =
+      let parts = has_parts image.file b accepted in
+      let own = of_program image is b.program parts.program in
+      record {
+        units_are = gdb_units image.sections image.units own.units few info types;
+        pieces_are = pieces_in_units image.file b.program parts.program b.links parts.links image.units own.scans b.ranges parts.ranges map are;
+        entries_are = have;
+        main_is = named;
+        version_is = known;
+      }
 
 -- ---- what is published, and the image's own
 
@@ -103,13 +120,9 @@ module _ (image : Image) (m : Summary) (entries : List Entry) (h : ArePublished 
     writable version known =
         let own_entries = entries_have_units image.file h.built.program parts.program h.built.links links image.units own.scans in
         let main = main_named h.built.program h.built.links in
-        record {
-          units_are = gdb_units image.sections image.units own.units few info types;
-          pieces_are = pieces_in_units image.file h.built.program parts.program h.built.links parts.links image.units own.scans h.built.ranges parts.ranges m.map h.map;
-          entries_are = subst (λ (es : List Entry). All (HasUnit image.units) es) (sym h.entries_are) own_entries;
-          main_is = subst (λ (es : List Entry). IsMainOf es m.main) (sym h.entries_are) (subst (IsMainOf (entries_in h.built)) (sym h.main) main);
-          version_is = known;
-        }
+        writable_of image is few info types h.built h.accepted m.map h.map m.main entries version known
+        (subst (λ (es : List Entry). All (HasUnit image.units) es) (sym h.entries_are) own_entries)
+        (subst (λ (es : List Entry). IsMainOf es m.main) (sym h.entries_are) (subst (IsMainOf (entries_in h.built)) (sym h.main) main))
 
     pub indexable : AreIndexable image.units entries
     indexable =

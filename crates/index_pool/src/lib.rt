@@ -22,4 +22,5 @@ pub use crew::Crew;
 pub use ended::Ended;
 pub use job::perform;
 pub use pool::{build, build_to, work, work_to};
+pub use sizes::sections_are_small;
 pub use write::{name_cache, name_index};

@@ -8,7 +8,7 @@ use file_image::Image;
 
 /// The sections of units are no longer than a file can be. So their sizes bound where the units end, and how many entries there
 /// are.
-pub(crate) fn sections_are_small(image: &Image<'_>)
+pub fn sections_are_small(image: &Image<'_>)
     ensures info { length (section_bytes image.now.sections (codes ".debug_info")) ≤ MAX_FILE_BYTES }
     ensures types { length (section_bytes image.now.sections (codes ".debug_types")) ≤ MAX_FILE_BYTES }
 {
