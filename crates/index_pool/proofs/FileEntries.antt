@@ -85,7 +85,7 @@ module _ (f : List ℕ) (p : Program) (file : program_of f ≡ Ok p) (ks : List 
 
 -- ---- pieces
 
-numbered_high : (n : ℕ) (ws : List Walked) (w : Walked) → Numbered n ws → Contains ws w → w.number < n + length ws
+pub numbered_high : (n : ℕ) (ws : List Walked) (w : Walked) → Numbered n ws → Contains ws w → w.number < n + length ws
 numbered_high n [] w h c = absurd (omega (arith, c.1))
 numbered_high n (v ∷ vs) w h c = ⊎_elim
     (λ (same : v ≡ w). omega (arith, h.0, ap (λ (x : Walked). x.number) same))
