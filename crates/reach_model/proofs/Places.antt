@@ -25,7 +25,7 @@ names_by : (file : List ℕ) (h : Header) (b : Bool) → length (cond b [] (cont
 names_by file h true = omega arith
 names_by file h false = piece_by file h.at h.size (is_empty h)
 
-names_within : (file : List ℕ) → length (names file) ≤ length file
+pub names_within : (file : List ℕ) → length (names file) ≤ length file
 names_within file = names_by file (header_at file (names_index file)) (eqb (names_index file) 0)
 
 short_name : (kind : CacheKind) → length (index_section kind) ≤ 12
