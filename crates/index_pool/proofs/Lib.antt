@@ -16,6 +16,6 @@ mod NameJob
 mod Counts
 mod MergeJob
 mod Performs
-mod FileUnits
-mod FileEntries
-mod WriteJob
+pub mod FileUnits
+pub mod FileEntries
+pub mod WriteJob
