@@ -7,7 +7,7 @@ use Rattle.shard_build.specs.Again.{walk_by, IsSound}
 use Rattle.shard_build.specs.Runs.{IsAtOffset}
 use Rattle.shard_build.specs.declared.home.UnitInFile.{UnitInFile}
 use Rattle.shard_build.specs.declared.tables.AbbrevTable.{AbbrevTable}
-use Rattle.gdb_items.specs.Files.{ForProgram}
+use Rattle.gdb_entries.specs.Files.{ForProgram}
 use Rattle.gdb_classes.specs.declared.unit.UnitWithTable.{UnitWithTable}
 
 -- the table is one of the file's

@@ -3,7 +3,7 @@
 ghost use Rattle.std.specs.Prelude.{◌≡◌, ◌<◌, ◌^◌, ℕ, map, length, IfOk};
 ghost use Rattle.std.specs.List.{enumerate_from};
 ghost use Rattle.gdb_entries.specs.declared.language.LanguageClass.{LanguageClass as ClassOf};
-ghost use Rattle.gdb_items.specs.Files.{ForProgram, HasProgram};
+ghost use Rattle.gdb_entries.specs.Files.{ForProgram, HasProgram};
 ghost use Rattle.gdb_classes.specs.Readings.{own_reading, reading_at, reading_of};
 
 use crate::imports::imports;

@@ -5,7 +5,7 @@ ghost use Rattle.std.specs.Option.{ForSome};
 ghost use Rattle.index_model.specs.ShardParts.{imports_in};
 ghost use Rattle.shard_build.specs.Again.{walk_by, IsSound};
 ghost use Rattle.shard_build.specs.Kept.{imports_by};
-ghost use Rattle.gdb_items.specs.Files.{ForProgram, HasProgram};
+ghost use Rattle.gdb_entries.specs.Files.{ForProgram, HasProgram};
 ghost use Rattle.gdb_units.specs.Given.{AreImportsOf};
 ghost use Rattle.gdb_classes.specs.Units.{ForUnitOf, IsTableOf, IsWithin};
 

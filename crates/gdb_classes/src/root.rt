@@ -5,7 +5,7 @@ ghost use Rattle.std.specs.Option.{ForSome};
 ghost use Rattle.index_model.specs.Program.{Program};
 ghost use Rattle.shard_build.specs.Again.{walk_by, IsSound};
 ghost use Rattle.gdb_entries.specs.declared.language.LanguageClass.TheVariants.{Other};
-ghost use Rattle.gdb_items.specs.Files.{HasProgram};
+ghost use Rattle.gdb_entries.specs.Files.{HasProgram};
 ghost use Rattle.gdb_classes.specs.Roots.{class_by, facts_by, IsRootOf};
 ghost use Rattle.gdb_classes.specs.Units.{ForUnitOf, IsTableOf, IsWithin};
 

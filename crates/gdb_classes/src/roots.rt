@@ -2,7 +2,7 @@
 
 ghost use Rattle.std.specs.Prelude.{◌≡◌, IfOk};
 ghost use Rattle.std.specs.List.{list_any};
-ghost use Rattle.gdb_items.specs.Files.{ForProgram, HasProgram};
+ghost use Rattle.gdb_entries.specs.Files.{ForProgram, HasProgram};
 ghost use Rattle.gdb_classes.specs.Roots.{AreRootsOf};
 
 use crate::root::RootRead;

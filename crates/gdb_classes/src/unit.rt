@@ -2,7 +2,7 @@
 
 ghost use Rattle.std.specs.Prelude.{◌<◌, length, IfOk};
 ghost use Rattle.std.specs.Option.{ForSome};
-ghost use Rattle.gdb_items.specs.Files.{HasProgram};
+ghost use Rattle.gdb_entries.specs.Files.{HasProgram};
 ghost use Rattle.gdb_classes.specs.Units.{IsTableOf, IsUnitOf};
 
 use file_image::Image;

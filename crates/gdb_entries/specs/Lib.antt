@@ -9,5 +9,6 @@ pub mod Components
 pub mod ItemNames
 pub mod Names
 pub mod Entries
+pub mod Files
 pub mod MadeFile
 pub mod Vectors

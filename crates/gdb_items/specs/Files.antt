@@ -1,21 +1,12 @@
 -- The items of a file by their joint offsets.
-use Rattle.std.specs.Prelude.{◌≡◌, ℕ, nat_eq, List, Option, Some, None, Ok, ⊤}
+use Rattle.std.specs.Prelude.{◌≡◌, ℕ, nat_eq, List, Option, Some, None, ⊤}
 use Rattle.indexmap.specs.IndexMap.{IndexMap, get}
-use Rattle.index_model.specs.Faults.{program_of}
-use Rattle.index_model.specs.Program.{Program, Located}
+use Rattle.index_model.specs.Program.{Located}
 use Rattle.index_model.specs.Sections.{Section}
 use Rattle.gdb_items.specs.declared.read_unit.ReadUnit.{ReadUnit}
 use Rattle.gdb_items.specs.declared.item.UnitItem.{UnitItem}
 use Rattle.gdb_items.specs.Items.{AreItemsOf, IsItemOf}
 use Rattle.gdb_items.specs.Read.{items_in}
-
--- the file has no fault
-abbrev pub HasProgram : List ℕ → Type 0
-HasProgram file = (p : Program) × (program_of file ≡ Ok p)
-
--- of the program that the file means
-abbrev pub ForProgram : List ℕ → (Program → Type 0) → Type 0
-ForProgram file Holds = (p : Program) → program_of file ≡ Ok p → Holds p
 
 -- the item is that of the file, or there is neither
 abbrev pub IsItemIn : List Section → Option UnitItem → Option Located → Type 0

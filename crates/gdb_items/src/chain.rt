@@ -8,7 +8,8 @@ ghost use Rattle.index_model.specs.Sections.{Section};
 ghost use Rattle.ix_base.specs.declared.limits.TheConstants.{MAX_CHAIN_HOPS as HOPS};
 ghost use Rattle.gdb_entries.specs.Chains.{next_of, targets_from};
 ghost use Rattle.gdb_items.specs.Chains.{IsChainOf, IsToldOf};
-ghost use Rattle.gdb_items.specs.Files.{ForProgram, IsItemIn};
+ghost use Rattle.gdb_entries.specs.Files.{ForProgram};
+ghost use Rattle.gdb_items.specs.Files.{IsItemIn};
 ghost use Rattle.gdb_items.specs.Items.{IsItemOf};
 
 use crate::file::FileItems;

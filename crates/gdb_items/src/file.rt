@@ -6,7 +6,8 @@
 ghost use Rattle.std.specs.Prelude.{◌≡◌, ◌<◌, length, IfOk, IfSome, Some};
 ghost use Rattle.index_model.specs.Program.{item_with_offset};
 ghost use Rattle.shard_build.specs.Found.{IsUnitAt};
-ghost use Rattle.gdb_items.specs.Files.{ForProgram, HasProgram, IsItemIn, IsReadOf};
+ghost use Rattle.gdb_entries.specs.Files.{ForProgram, HasProgram};
+ghost use Rattle.gdb_items.specs.Files.{IsItemIn, IsReadOf};
 ghost use Rattle.gdb_items.specs.declared.which.Which.TheVariants.{All};
 
 use crate::item::UnitItem;
@@ -36,7 +37,8 @@ impl<'s, 'f> Model for FileItems<'s, 'f> {
     ghost use Rattle.file_image.specs.Images.{Image as ImageOf};
     ghost use Rattle.index_model.specs.Sections.{section_bytes};
     ghost use Rattle.shard_build.specs.Runs.{IsAtOffset};
-    ghost use Rattle.gdb_items.specs.Files.{AreUnitsOf, HasProgram};
+    ghost use Rattle.gdb_entries.specs.Files.{HasProgram};
+    ghost use Rattle.gdb_items.specs.Files.{AreUnitsOf};
 
     ghost Value = { ImageOf };
 

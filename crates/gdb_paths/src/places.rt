@@ -8,7 +8,8 @@ ghost use Rattle.gdb_entries.specs.Owners.{class_read};
 ghost use Rattle.gdb_entries.specs.Scopes.{scope_of};
 ghost use Rattle.gdb_entries.specs.declared.language.LanguageClass.{LanguageClass as Class};
 ghost use Rattle.gdb_items.specs.Chains.{IsChainOf};
-ghost use Rattle.gdb_items.specs.Files.{ForProgram, IsItemIn};
+ghost use Rattle.gdb_entries.specs.Files.{ForProgram};
+ghost use Rattle.gdb_items.specs.Files.{IsItemIn};
 ghost use Rattle.gdb_items.specs.Items.{IsItemOf};
 ghost use Rattle.gdb_scopes.specs.Places.{offset_of, seen_of, ForItem, ForUnit};
 

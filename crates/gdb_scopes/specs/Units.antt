@@ -6,7 +6,8 @@ use Rattle.std.specs.declared.alloc.Global.{Global}
 use Rattle.indexmap.specs.IndexMap.{IndexMap, get}
 use Rattle.gdb_entries.specs.Owners.{class_read}
 use Rattle.gdb_entries.specs.declared.language.LanguageClass.{LanguageClass}
-use Rattle.gdb_items.specs.Files.{ForProgram, IsReadOf}
+use Rattle.gdb_entries.specs.Files.{ForProgram}
+use Rattle.gdb_items.specs.Files.{IsReadOf}
 use Rattle.gdb_items.specs.Items.{kept_of}
 use Rattle.gdb_classes.specs.declared.by_owner.Reading.{Reading}
 use Rattle.gdb_scopes.specs.declared.placed.UnitPlaces.{UnitPlaces}

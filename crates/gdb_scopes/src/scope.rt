@@ -7,7 +7,7 @@ ghost use Rattle.index_model.specs.Program.{Located};
 ghost use Rattle.gdb_entries.specs.Classes.{is_c};
 ghost use Rattle.gdb_entries.specs.Owners.{class_read};
 ghost use Rattle.gdb_entries.specs.Scopes.{around_by, around_target, open_around, scope_in_place, scope_of};
-ghost use Rattle.gdb_items.specs.Files.{ForProgram};
+ghost use Rattle.gdb_entries.specs.Files.{ForProgram};
 ghost use Rattle.gdb_items.specs.Items.{IsItemOf};
 ghost use Rattle.gdb_scopes.specs.Places.{offset_of, ForItem, IsAt};
 

@@ -6,7 +6,7 @@ ghost use Rattle.gdb_entries.specs.Entries.{is_item_static, is_static_around, is
 ghost use Rattle.gdb_entries.specs.Owners.{class_read};
 ghost use Rattle.gdb_entries.specs.Scopes.{around_by};
 ghost use Rattle.gdb_entries.specs.declared.language.LanguageClass.{LanguageClass as Class};
-ghost use Rattle.gdb_items.specs.Files.{ForProgram};
+ghost use Rattle.gdb_entries.specs.Files.{ForProgram};
 ghost use Rattle.gdb_items.specs.Items.{IsItemOf};
 ghost use Rattle.gdb_scopes.specs.Places.{ForItem};
 

@@ -6,7 +6,7 @@ ghost use Rattle.index_model.specs.Program.{Located, Walked};
 ghost use Rattle.index_model.specs.Walk.{Item};
 ghost use Rattle.gdb_entries.specs.Chains.{name_of};
 ghost use Rattle.gdb_entries.specs.Owners.{class_read};
-ghost use Rattle.gdb_items.specs.Files.{ForProgram};
+ghost use Rattle.gdb_entries.specs.Files.{ForProgram};
 ghost use Rattle.gdb_items.specs.Items.{kept_of, IsItemOf};
 ghost use Rattle.gdb_items.specs.declared.which.Which.{Which};
 ghost use Rattle.gdb_reach.specs.Standing.{ComesBehind, StandsFor, in_unit};

@@ -2,7 +2,7 @@ use Rattle.std.proofs.Common.{◌≡◌}
 use Rattle.std.specs.Prelude.{take, flat_map}
 use Rattle.std.specs.Option.{ForSome}
 use Rattle.index_model.specs.ShardParts.{imports_in}
-use Rattle.gdb_items.specs.Files.{ForProgram}
+use Rattle.gdb_entries.specs.Files.{ForProgram}
 use Rattle.gdb_classes.specs.Units.{IsTableOf}
 use Rattle.gdb_classes.proofs.imports.imports.Given as goal
 

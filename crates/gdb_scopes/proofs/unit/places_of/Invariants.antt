@@ -3,7 +3,7 @@ use Rattle.std.specs.Prelude.{Contains}
 use Rattle.std.specs.List.{AllZip}
 use Rattle.index_model.specs.Program.{Walked}
 use Rattle.gdb_entries.specs.Owners.{class_read}
-use Rattle.gdb_items.specs.Files.{ForProgram}
+use Rattle.gdb_entries.specs.Files.{ForProgram}
 use Rattle.gdb_items.specs.Items.{kept_of, IsItemOf}
 use Rattle.gdb_items.specs.declared.which.Which.{Which}
 use Rattle.gdb_scopes.proofs.WalkLaws.{Goes}

@@ -1,6 +1,6 @@
 use Rattle.std.specs.Prelude.{take}
 use Rattle.std.specs.Option.{ForSome}
-use Rattle.gdb_items.specs.Files.{ForProgram}
+use Rattle.gdb_entries.specs.Files.{ForProgram}
 use Rattle.gdb_classes.specs.Units.{IsTableOf}
 use Rattle.gdb_classes.proofs.RootsLaws.{AreRootsTo}
 use Rattle.gdb_classes.proofs.roots.Roots.of.Given as goal

@@ -1,7 +1,7 @@
 use Rattle.std.proofs.Common.{◌≡◌, ◌≤◌, ◌-◌}
 use Rattle.arrayvec.specs.ArrayVec.{array_vec_len}
 use Rattle.index_model.specs.Program.{Located}
-use Rattle.gdb_items.specs.Files.{ForProgram}
+use Rattle.gdb_entries.specs.Files.{ForProgram}
 use Rattle.gdb_items.specs.Items.{IsItemOf}
 use Rattle.gdb_items.proofs.ChainLaws.{IsFollowedTo}
 use Rattle.gdb_items.proofs.file.FileItems.followed.Given as goal

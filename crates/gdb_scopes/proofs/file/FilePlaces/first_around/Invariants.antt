@@ -1,7 +1,7 @@
 use Rattle.std.proofs.Common.{◌≡◌, List, drop}
 use Rattle.std.specs.List.{AllZip}
 use Rattle.index_model.specs.Program.{Located}
-use Rattle.gdb_items.specs.Files.{ForProgram}
+use Rattle.gdb_entries.specs.Files.{ForProgram}
 use Rattle.gdb_scopes.specs.Places.{IsAt}
 use Rattle.gdb_scopes.proofs.ScopeLaws.{IsSoughtTo}
 use Rattle.gdb_scopes.proofs.file.FilePlaces.first_around.Given as goal
