@@ -1,0 +1,13 @@
+pub mod PathLaws
+pub mod StepLaws
+pub mod NameLaws
+pub mod ListLaws
+pub mod TagLaws
+pub mod ItemNameLaws
+pub mod ItemLaws
+pub mod UnitLaws
+mod WalkLaws
+mod RangeLaws
+mod TailLaws
+mod EntryLaws
+mod IndexLaws

@@ -1,0 +1,11 @@
+use Rattle.std.proofs.Common.{ℕ, List, reverse, map, ap, ◌∙◌}
+use Rattle.gdb_names.specs.FullNames.{name_behind}
+use Rattle.gdb_names.specs.Seen.{contents}
+use Rattle.gdb_index.specs.Texts.{text_bytes}
+use Rattle.gdb_index.proofs.names.FileNames.behind_path.Goals as goal
+
+pub returns-clause-value : goal.returns-clause-value
+returns-clause-value c p is d here =
+    let texts = ap (map text_bytes) c.as_slice.ensures.value ∙ c.in_ok-texts.ensures.value p is d here in
+    let components = ap contents c.as_slice-2.ensures.value ∙ c.in_ok-components.ensures ∙ ap (λ (ts : List (List ℕ)). reverse ts) texts in
+    c.in_ok-text.ensures ∙ ap (λ (ts : List (List ℕ)). name_behind c.args.class ts c.args.name.now) components

@@ -1,0 +1,40 @@
+use Rattle.std.proofs.Common.{◌≡◌, ℕ, ◌-◌, ◌++◌, List, Ok, Option, map, ap, ◌∙◌, arith}
+use Rattle.std.specs.Prelude.{option_to_list}
+use Rattle.file_image.specs.Images.{Image}
+use Rattle.index_model.specs.Faults.{program_of}
+use Rattle.gdb_index.specs.Texts.{text_bytes}
+use Rattle.gdb_index.proofs.PathLaws.{follow_end, follow_long, follow_none, follow_one, next_member, one_fewer}
+use Rattle.gdb_index.proofs.names.FileNames.components.Goals as goal
+
+pub loop-next-init : goal.loop-next-init
+loop-next-init c = record {
+  same = c.scope.ensures.kept;
+  range = omega arith;
+  followed = λ p is d here. follow_none c.args.self.now.file p is c.args.offset d here c.new-texts.result.items c.new-texts.ensures.items c.in_ok-next.next (c.in_ok-next.ensures.value p is d here);
+}
+
+pub loop-next-preserved : goal.loop-next-preserved
+loop-next-preserved c = record {
+  same = c.step.ensures.kept ∙ c.loop-next.invariant.same;
+  range = omega (arith, c.loop-next.invariant.range);
+  followed = λ p is d here.
+      let f = c.args.self.now.file in
+      let s = c.loop-next.invariant.followed p is d here in
+      let after : program_of c.loop-next.self.file ≡ Ok p = ap (λ (e : Image). program_of e.file) c.loop-next.invariant.same ∙ is in
+      let m = next_member f p is d c.loop-next.left c.loop-next.texts.items c.loop-next.next s c.in-Some.member c.in-Some.is in
+      let own = c.in_ok-step.ensures.value p after m.located m.is in
+      let texts = map text_bytes c.loop-next.texts.items in
+      follow_one f p is d c.loop-next.left c.loop-next.texts.items c.loop-next.next s c.in-Some.member m (c.loop-next.left - 1) (one_fewer c.loop-next.left c.if-left-eq0.false)
+      c.add.new.texts.items (c.in_ok-add.ensures ∙ ap (λ (o : Option (List ℕ)). texts ++ option_to_list o) own.component) c.in_ok-step.step.scope own.scope;
+}
+
+pub returns-then-left-eq0-clause-value : goal.returns-then-left-eq0-clause-value
+returns-then-left-eq0-clause-value c p is d here =
+    let f = c.args.self.now.file in
+    let s = c.loop-next.invariant.followed p is d here in
+    let m = next_member f p is d c.loop-next.left c.loop-next.texts.items c.loop-next.next s c.in-Some.member c.in-Some.is in
+    ap (map text_bytes) c.new.ensures.items ∙ follow_long f p is d c.loop-next.left c.loop-next.texts.items c.loop-next.next s c.in-Some.member m c.if-left-eq0.true
+
+pub returns-clause-value : goal.returns-clause-value
+returns-clause-value c p is d here =
+    follow_end c.args.self.now.file p is d c.loop-next.left c.loop-next.texts.items c.loop-next.next (c.loop-next.invariant.followed p is d here) c.in_default.not-Some

@@ -1,0 +1,6 @@
+pub mod Texts
+pub mod Steps
+pub mod Listed
+pub mod Items
+pub mod Ranges
+pub mod Indexes

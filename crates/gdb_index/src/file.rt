@@ -1,0 +1,76 @@
+//! The file whose units are listed.
+
+ghost use Rattle.std.specs.Prelude.{◌≡◌, ◌≤◌, length, option_and_then, slice_get, IfOk, Ok};
+ghost use Rattle.file_image.specs.Images.{image_of};
+ghost use Rattle.gdb_classes.specs.Readings.{reading_of};
+ghost use Rattle.gdb_entries.specs.Files.{HasProgram};
+ghost use Rattle.gdb_scopes.specs.Places.{ForUnit};
+
+use crate::names::FileNames;
+use file_image::Image;
+use gdb_classes::{Reading, readings};
+use gdb_scopes::FilePlaces;
+use index_model::Unit;
+use ix_base::{MAX_UNITS, NoMemory};
+use std::alloc::Global;
+use std::marker::Model;
+
+/// A file without a fault, and how gdb reads each of its units. Contracts see the image of the file.
+#[derive(Drop)]
+pub(crate) struct ReadFile<'s, 'f> {
+    image: &'s Image<'f>,
+    readings: Vec<Option<Reading>>,
+}
+
+impl<'s, 'f> Model for ReadFile<'s, 'f> {
+    ghost use Rattle.file_image.specs.Images.{Image as ImageOf};
+    ghost use Rattle.gdb_entries.specs.Files.{HasProgram};
+    ghost use Rattle.gdb_scopes.specs.Units.{AreReadingsOf};
+
+    ghost Value = { ImageOf };
+
+    ghost view = { λ e. e.image.now };
+
+    ghost invariant = { λ e. HasProgram e.image.now.file × AreReadingsOf e.image.now.file e.readings.items };
+}
+
+impl<'s, 'f> ReadFile<'s, 'f> {
+    /// A file without a fault. The root of each unit is read.
+    pub fn of(alloc: Global, image: &'s Image<'f>) -> Result<ReadFile<'s, 'f>, NoMemory>
+        requires { HasProgram image.now.file }
+        ensures { IfOk result (λ file. file ≡ image.now) }
+    {
+        let readings = readings(alloc, image)?;
+        Ok(ReadFile { image, readings })
+    }
+
+    /// The units, in section order.
+    pub fn units(&self) -> &[Unit]
+        ensures value { result.now ≡ self.now.units }
+        ensures of_file { image_of self.now.file ≡ Ok self.now }
+        ensures few { length result.now ≤ MAX_UNITS }
+    {
+        self.image.units()
+    }
+
+    /// The names of the file's items, before any unit is gone over.
+    pub fn names<'r>(&'r self, alloc: Global) -> FileNames<'s, 'r, 'f>
+        ensures { result ≡ self.now }
+    {
+        FileNames::new(alloc, FilePlaces::new(alloc, self.image, &self.readings))
+    }
+
+    /// How the unit with this number is read. None where it isn't.
+    pub fn reading(&self, unit: u32) -> Option<Reading>
+        ensures { ForUnit self.now.file unit (λ p w. result ≡ reading_of p w) }
+    {
+        reading_at(&self.readings, unit)
+    }
+}
+
+// What is told of the unit with this number.
+fn reading_at(readings: &[Option<Reading>], unit: u32) -> Option<Reading>
+    ensures { result ≡ option_and_then (λ reading. reading) (slice_get readings.now unit) }
+{
+    *readings.get(unit as usize)?
+}

@@ -1,0 +1,77 @@
+//! The names of an item as they are listed.
+
+ghost use Rattle.std.specs.Prelude.{◌≡◌, map, option_map, IfOk};
+ghost use Rattle.cxx_spelling.specs.Spelling.{spelling_bytes};
+ghost use Rattle.gdb_entries.specs.Entries.{names_of, second_listed};
+ghost use Rattle.gdb_entries.specs.Names.{full_name};
+ghost use Rattle.gdb_items.specs.Items.{IsItemOf};
+ghost use Rattle.gdb_names.specs.Seen.{bytes_of, second_seen};
+ghost use Rattle.gdb_scopes.specs.Places.{ForItem};
+ghost use Rattle.gdb_index.specs.Items.{texts_of};
+
+use crate::names::FileNames;
+use cxx_spelling::SpelledName;
+use gdb_entries::LanguageClass;
+use gdb_items::UnitItem;
+use gdb_names::{SecondName, item_names};
+use gdb_scopes::name_of;
+use ix_base::NoMemory;
+use std::alloc::Global;
+
+/// The names of an item as they are listed.
+#[derive(Drop)]
+pub(crate) struct ListedNames<'f> {
+    /// The full name.
+    pub full: Option<SpelledName<'f>>,
+    /// The one before which no scope stands.
+    pub second: Option<SpelledName<'f>>,
+}
+
+/// The names of an item that is looked at in a unit of this class.
+pub(crate) fn listed_names<'f>(
+    alloc: Global,
+    names: &mut FileNames<'_, '_, 'f>,
+    class: LanguageClass,
+    item: &UnitItem<'f>,
+) -> Result<ListedNames<'f>, NoMemory>
+    ensures value { ForItem names.old.file item.now.offset (λ p d. IsItemOf p.sections item.now d → IfOk result (λ listed. texts_of listed ≡ map (λ n. n.1) (names_of p class d))) }
+    ensures kept { names.new ≡ names.old }
+{
+    let chain = names.chain(alloc, item)?;
+    let name = name_of(class, item.facts.tag, chain.name);
+    let own = item_names(class, &item.facts, name, chain.linkage);
+    let full = full_name(alloc, names, class, item.offset, own.name)?;
+    let second = second_name(alloc, class, own.second)?;
+    Ok(ListedNames { full, second })
+}
+
+// The full name of the item at a joint offset, if it has a name.
+fn full_name<'f>(
+    alloc: Global,
+    names: &mut FileNames<'_, '_, 'f>,
+    class: LanguageClass,
+    offset: u64,
+    name: Option<&'f [u8]>,
+) -> Result<Option<SpelledName<'f>>, NoMemory>
+    ensures value { ForItem names.old.file offset (λ p d. IfOk result (λ text. option_map spelling_bytes text ≡ option_map (full_name p class d) (bytes_of name.entry))) }
+    ensures kept { names.new ≡ names.old }
+{
+    match name {
+        Some(name) => Ok(Some(names.full_name(alloc, class, offset, name)?)),
+        None => Ok(None),
+    }
+}
+
+// The second name, if there is one.
+fn second_name<'f>(
+    alloc: Global,
+    class: LanguageClass,
+    second: Option<SecondName<'f>>,
+) -> Result<Option<SpelledName<'f>>, NoMemory>
+    ensures { IfOk result (λ text. option_map spelling_bytes text ≡ option_map (λ name. (second_listed class name).1) (option_map second_seen second.entry)) }
+{
+    match second {
+        Some(name) => Ok(Some(name.listed(alloc, class)?)),
+        None => Ok(None),
+    }
+}

@@ -1,0 +1,74 @@
+//! Along the scope path of an item.
+
+ghost use Rattle.std.specs.Prelude.{◌≡◌, ◌++◌, filter_map, map, option_map, option_to_list, IfOk, OnOk};
+ghost use Rattle.gdb_entries.specs.Names.{component};
+ghost use Rattle.gdb_entries.specs.Scopes.{scope_path};
+ghost use Rattle.gdb_scopes.specs.Places.{ForItem};
+ghost use Rattle.gdb_index.specs.Steps.{IsStepAt};
+ghost use Rattle.gdb_index.specs.Texts.{text_bytes};
+
+use crate::names::FileNames;
+use crate::step::Step;
+use crate::text::ComponentText;
+use ix_base::{MAX_PATH_STEPS, NoMemory};
+use std::alloc::Global;
+
+impl<'s, 'r, 'f> FileNames<'s, 'r, 'f> {
+    /// The components of the scope path of the item at a joint offset, the innermost first. There are none where the path is too long.
+    pub(crate) fn components(
+        &mut self,
+        alloc: Global,
+        offset: u64,
+    ) -> Result<Vec<ComponentText<'f>>, NoMemory>
+        ensures value { ForItem self.old.file offset (λ p d. IfOk result (λ texts. map text_bytes texts.items ≡ filter_map (component p) (scope_path p d))) }
+        ensures kept { self.new ≡ self.old }
+    {
+        let mut texts = Vec::new(alloc);
+        let mut left = MAX_PATH_STEPS;
+        let mut next = self.scope(alloc, offset)?;
+        while let Some(member) = next {
+            if left == 0 {
+                return Ok(Vec::new(alloc));
+            }
+            let step = self.step(alloc, member)?;
+            add(&mut texts, step.component)?;
+            left -= 1;
+            next = step.scope;
+        }
+        Ok(texts)
+    }
+
+    // The step at the item with a joint offset, which is kept from then on.
+    fn step(&mut self, alloc: Global, offset: u64) -> Result<Step<'f>, NoMemory>
+        ensures value { IfOk result (IsStepAt self.old.file offset) }
+        ensures kept { self.new ≡ self.old }
+    {
+        match self.steps.get(&offset) {
+            Some(step) => step.share(),
+            None => self.make_step(alloc, offset),
+        }
+    }
+
+    // The same, where it isn't known yet.
+    fn make_step(&mut self, alloc: Global, offset: u64) -> Result<Step<'f>, NoMemory>
+        ensures value { IfOk result (IsStepAt self.old.file offset) }
+        ensures kept { self.new ≡ self.old }
+    {
+        let step = Step::at(alloc, &mut self.places, offset)?;
+        self.steps.insert(offset, step.share()?)?;
+        Ok(step)
+    }
+}
+
+// Adds the component that a member of a path gives, if it gives one.
+fn add<'f>(
+    texts: &mut Vec<ComponentText<'f>>,
+    component: Option<ComponentText<'f>>,
+) -> Result<(), NoMemory>
+    ensures { OnOk result (map text_bytes texts.new.items ≡ map text_bytes texts.old.items ++ option_to_list (option_map text_bytes component.entry)) }
+{
+    if let Some(text) = component {
+        texts.push(text)?;
+    }
+    Ok(())
+}

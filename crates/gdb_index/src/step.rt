@@ -1,0 +1,112 @@
+//! One step of a scope path.
+
+ghost use Rattle.std.specs.Prelude.{◌≡◌, option_map, IfOk};
+ghost use Rattle.cxx_spelling.specs.Spelling.{spelling_bytes};
+ghost use Rattle.gdb_entries.specs.Chains.{is_scoped, name_of};
+ghost use Rattle.gdb_entries.specs.Components.{component_of};
+ghost use Rattle.gdb_entries.specs.Names.{component};
+ghost use Rattle.gdb_scopes.specs.Places.{ForItem};
+ghost use Rattle.gdb_index.specs.Steps.{IsSameStep, IsStepAt};
+ghost use Rattle.gdb_index.specs.Texts.{text_bytes};
+
+use crate::text::ComponentText;
+use cxx_spelling::SpelledName;
+use gdb_entries::LanguageClass;
+use gdb_names::component;
+use gdb_scopes::{FilePlaces, name_of};
+use ix_base::NoMemory;
+use std::alloc::Global;
+
+/// What a member of scope paths gives to names, and where the paths go on.
+#[derive(Drop)]
+pub(crate) struct Step<'f> {
+    /// Its component. None where it gives none.
+    pub component: Option<ComponentText<'f>>,
+    /// The joint offset of its scope, if it has one.
+    pub scope: Option<u64>,
+}
+
+impl<'f> Step<'f> {
+    /// The step at the item with a joint offset.
+    pub fn at(
+        alloc: Global,
+        places: &mut FilePlaces<'_, '_, 'f>,
+        offset: u64,
+    ) -> Result<Step<'f>, NoMemory>
+        ensures value { IfOk result (IsStepAt places.old.file offset) }
+        ensures kept { places.new ≡ places.old }
+    {
+        let spelled = component_at(alloc, places, offset)?;
+        let component = shared(alloc, spelled)?;
+        let scope = places.scope(alloc, offset)?;
+        Ok(Step { component, scope })
+    }
+
+    /// The same step, held once more.
+    pub fn share(&self) -> Result<Step<'f>, NoMemory>
+        ensures { IfOk result (IsSameStep self.now) }
+    {
+        let component = match &self.component {
+            Some(text) => Some(text.share()?),
+            None => None,
+        };
+        Ok(Step {
+            component,
+            scope: self.scope,
+        })
+    }
+}
+
+// The component that the item at a joint offset gives, spelled by the class by which its own unit is read. One whose unit isn't read
+// gives none.
+fn component_at<'f>(
+    alloc: Global,
+    places: &mut FilePlaces<'_, '_, 'f>,
+    offset: u64,
+) -> Result<Option<SpelledName<'f>>, NoMemory>
+    ensures value { ForItem places.old.file offset (λ p d. IfOk result (λ text. option_map spelling_bytes text ≡ component p d)) }
+    ensures kept { places.new ≡ places.old }
+{
+    match places.class_at(offset) {
+        Some(class) => component_by(alloc, places, class, offset),
+        None => Ok(None),
+    }
+}
+
+// The component that the item at a joint offset gives by this class.
+fn component_by<'f>(
+    alloc: Global,
+    places: &mut FilePlaces<'_, '_, 'f>,
+    class: LanguageClass,
+    offset: u64,
+) -> Result<Option<SpelledName<'f>>, NoMemory>
+    ensures value { ForItem places.old.file offset (λ p d. IfOk result (λ text. option_map spelling_bytes text ≡ component_of class d.item.tag (is_scoped p d) (name_of p class d))) }
+    ensures kept { places.new ≡ places.old }
+{
+    let Some(item) = places.at(alloc, offset)? else {
+        return Ok(None);
+    };
+    let chain = places.chain(alloc, &item)?;
+    let tag = item.facts.tag;
+    let text = component(
+        alloc,
+        class,
+        tag,
+        chain.scoped,
+        name_of(class, tag, chain.name),
+    )?;
+    Ok(text)
+}
+
+// A component that can be shared from then on.
+fn shared<'f>(
+    alloc: Global,
+    component: Option<SpelledName<'f>>,
+) -> Result<Option<ComponentText<'f>>, NoMemory>
+    ensures { IfOk result (λ text. option_map text_bytes text ≡ option_map spelling_bytes component.entry) }
+{
+    match component {
+        Some(name) => Ok(Some(ComponentText::of(alloc, name)?)),
+        None => Ok(None),
+    }
+}

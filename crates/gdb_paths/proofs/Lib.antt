@@ -1,3 +1,0 @@
-pub mod PathLaws
-pub mod StepLaws
-pub mod NameLaws
