@@ -5,5 +5,6 @@ pub mod SessionWords
 pub mod TableWords
 pub mod KeptWords
 pub mod DrillWords
+pub mod IndexWords
 pub mod Words
 pub mod SeenWords

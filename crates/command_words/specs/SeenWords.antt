@@ -4,7 +4,8 @@ use Rattle.std.specs.String.{string_bytes}
 use Rattle.command_words.specs.declared.words.Command.{Command}
 use Rattle.command_words.specs.declared.words.Command.TheVariants as code
 use Rattle.command_words.specs.declared.words.Ask.{Ask}
-use Rattle.command_words.specs.declared.words.Index.{Index}
+use Rattle.command_words.specs.declared.index_words.Index.{Index}
+use Rattle.command_words.specs.declared.index_words.Formed.{Formed}
 use Rattle.command_words.specs.declared.words.LookGdb.{LookGdb}
 use Rattle.command_words.specs.declared.words.LookNames.{LookNames}
 use Rattle.command_words.specs.declared.session_words.Serve.{Serve}
@@ -18,6 +19,7 @@ use Rattle.command_words.specs.declared.options.Quoting.{Quoting}
 use Rattle.command_words.specs.declared.options.Named.{Named}
 use Rattle.command_words.specs.declared.options.NamedTwo.{NamedTwo}
 use Rattle.command_words.specs.DrillWords.{Drilled}
+use Rattle.command_words.specs.IndexWords.{Indexed, Formed as FormedOf}
 use Rattle.command_words.specs.SessionWords.{Raced, Served, Counted as CountedOf}
 use Rattle.command_words.specs.KeptWords.{Kept}
 use Rattle.command_words.specs.TableWords.{Compared, Sought}
@@ -32,8 +34,12 @@ words_of words = map string_bytes words
 abbrev pub seen_ask : Ask → grammar.Asked
 seen_ask a = record { workers = a.workers; spelling = a.spelling; file = a.file.now; query = words_of a.query.now }
 
-abbrev pub seen_index : Index → grammar.Indexed
-seen_index i = record { kind = i.kind; workers = i.workers; file = i.file.now; out = i.out.now }
+abbrev pub seen_index : Index → Indexed
+seen_index i = record { form = i.form; workers = i.workers; file = i.file.now; out = i.out.now }
+
+-- the form of an index
+abbrev pub seen_formed : Formed → FormedOf
+seen_formed f = record { form = f.form; others = words_of f.others.now }
 
 abbrev pub seen_look : LookGdb → grammar.Looked
 seen_look l = record { spelling = l.spelling; index = l.index.now; query = words_of l.query.now }

@@ -1,11 +1,10 @@
--- The words of a command line, each as its bytes: `ask [--workers N] [--quote] FILE QUERY`, `index --as KIND [--workers N] FILE OUT`,
+-- The words of a command line, each as its bytes: `ask [--workers N] [--quote] FILE QUERY`, `index --as KIND [--rules gdb] [--workers N] FILE OUT`,
 -- `look gdb [--quote] INDEX QUERY`, `look names [--base B] [--quote] INDEX STRINGS QUERY`, `aranges`, `files`, `cached`, `serve`, `race`, `drill`, `--help`, `--version`.
 use Rattle.std.specs.Prelude.{ℕ, ◌&&◌, nat_lt, ◌==◌, if◌then◌else◌, List, [], ◌∷◌, length, bytes_eq, codes, Option, Some, None, option_map, option_and_then}
 use Rattle.std.specs.List.{join_with_byte}
-use Rattle.index_model.specs.declared.job.CacheKind.{CacheKind}
-use Rattle.index_model.specs.declared.job.CacheKind.TheVariants.{Gdb8, Gdb9, Names}
 use Rattle.command_words.specs.Numbers.{number_between}
 use Rattle.command_words.specs.DrillWords.{Drilled, drill_of}
+use Rattle.command_words.specs.IndexWords.{Indexed, index_of}
 use Rattle.command_words.specs.SessionWords.{Raced, Served, race_of, serve_of}
 use Rattle.command_words.specs.KeptWords.{Kept, kept_of}
 use Rattle.command_words.specs.TableWords.{Compared, Sought, aranges_of, sought_of}
@@ -18,14 +17,6 @@ pub record Asked : Type 0 where
   pub spelling : Spelling
   pub file : List ℕ
   pub query : List (List ℕ)
-
--- `index` and `add`: the kind of the index, how many workers, the file's name, and the name under which the index is stored, or the
--- program with it
-pub record Indexed : Type 0 where
-  pub kind : CacheKind
-  pub workers : ℕ
-  pub file : List ℕ
-  pub out : List ℕ
 
 -- `look gdb`: how names are written, the index's name, and the words of the query
 pub record Looked : Type 0 where
@@ -71,26 +62,6 @@ asked_from n q = file_and_query n q.spelling q.others
 -- the words behind `ask`
 abbrev pub ask_of : List (List ℕ) → Option Asked
 ask_of words = option_and_then (λ w. asked_from w.workers (quoting_and_others w.others)) (workers_and_others words)
-
--- the kinds of indexes
-abbrev pub kind_named : List ℕ → Option CacheKind
-kind_named word = if bytes_eq word (codes "gdb8") then Some Gdb8 else if bytes_eq word (codes "gdb9") then Some Gdb9 else if bytes_eq word (codes "names") then Some Names else None
-
--- two files' names and nothing behind them
-abbrev pub files_of : CacheKind → ℕ → List (List ℕ) → Option Indexed
-files_of kind n [] = None
-files_of kind n (file ∷ []) = None
-files_of kind n (file ∷ out ∷ others) = if length others == 0 && is_file_name file && is_file_name out then Some (record { kind = kind; workers = n; file = file; out = out }) else None
-
--- the words behind `--as`
-abbrev pub index_as : List (List ℕ) → Option Indexed
-index_as [] = None
-index_as (word ∷ others) = option_and_then (λ kind. option_and_then (λ w. files_of kind w.workers w.others) (workers_and_others others)) (kind_named word)
-
--- the words behind `index` or `add`
-abbrev pub index_of : List (List ℕ) → Option Indexed
-index_of [] = None
-index_of (word ∷ others) = if bytes_eq word (codes "--as") then index_as others else None
 
 -- an index's name, and then a query of one word or more
 abbrev pub index_and_query : Spelling → List (List ℕ) → Option Looked

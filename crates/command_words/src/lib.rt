@@ -2,6 +2,7 @@
 #![tactic(auto)]
 
 mod drill_words;
+mod index_words;
 mod kept_words;
 mod number;
 mod options;
@@ -10,7 +11,8 @@ mod table_words;
 mod words;
 
 pub use drill_words::Drill;
+pub use index_words::Index;
 pub use kept_words::Cached;
 pub use session_words::{Race, Serve};
 pub use table_words::{Aranges, Files};
-pub use words::{Ask, Command, Index, LookGdb, LookNames, parse_command};
+pub use words::{Ask, Command, LookGdb, LookNames, parse_command};

@@ -2,17 +2,17 @@
 
 ghost use Rattle.std.specs.Prelude.{◌≡◌, option_map};
 ghost use Rattle.std.specs.Option.{ForSome};
-ghost use Rattle.command_words.specs.Words.{about, ask_of, command_of, file_and_query, files_of, index_and_query, index_as, index_of, kind_named, look_gdb_of, look_names_of, longer_command, look_of, names_and_query, other_command, session_command, table_command};
-ghost use Rattle.command_words.specs.SeenWords.{seen_ask, seen_index, seen_look, seen_names, seen_command, words_of, HasWorkers, IsWorkers};
+ghost use Rattle.command_words.specs.Words.{about, ask_of, command_of, file_and_query, index_and_query, look_gdb_of, look_names_of, longer_command, look_of, names_and_query, other_command, session_command, table_command};
+ghost use Rattle.command_words.specs.SeenWords.{seen_ask, seen_look, seen_names, seen_command, words_of, HasWorkers, IsWorkers};
 
 use crate::drill_words::{Drill, parse_drill};
+use crate::index_words::{Index, parse_index};
 use crate::kept_words::{Cached, parse_cached};
 use crate::options::{
     Named, Quoting, split_base, split_file, split_quoting, split_two_files, split_workers,
 };
 use crate::session_words::{Race, Serve, parse_race, parse_serve};
 use crate::table_words::{Aranges, Files, parse_aranges, parse_files};
-use index_model::CacheKind;
 use name_quotes::Spelling;
 
 /// What a command line asks for.
@@ -41,16 +41,6 @@ pub struct Ask<'w> {
     pub file: &'w str,
     /// The words of the query, one at least.
     pub query: &'w [String],
-}
-
-/// `index --as KIND [--workers N] FILE OUT`, or `add` with such words.
-#[derive(Clone, Copy)]
-pub struct Index<'w> {
-    pub kind: CacheKind,
-    pub workers: u32,
-    pub file: &'w str,
-    /// The name under which the index is stored, or the program with it.
-    pub out: &'w str,
 }
 
 /// `look gdb [--quote] INDEX QUERY`.
@@ -184,56 +174,6 @@ fn ask_file(workers: u32, spelling: Spelling, words: &[String]) -> Option<Ask<'_
         file,
         query: others,
     })
-}
-
-fn parse_index(words: &[String]) -> Option<Index<'_>>
-    ensures value { option_map seen_index result ≡ index_of (words_of words.now) }
-    ensures workers { ForSome result (λ x. IsWorkers x.workers) }
-{
-    match words.split_first() {
-        Some((word, others)) if word.as_str() == "--as" => index_as(others),
-        _ => None,
-    }
-}
-
-// The words behind `--as`.
-fn index_as(words: &[String]) -> Option<Index<'_>>
-    ensures value { option_map seen_index result ≡ index_as (words_of words.now) }
-    ensures workers { ForSome result (λ x. IsWorkers x.workers) }
-{
-    let (word, others) = words.split_first()?;
-    let kind = kind_named(word.as_str())?;
-    let workers = split_workers(others)?;
-    index_files(kind, workers.number, workers.others)
-}
-
-// Two files' names and nothing behind them.
-fn index_files(kind: CacheKind, workers: u32, words: &[String]) -> Option<Index<'_>>
-    requires { IsWorkers workers }
-    ensures value { option_map seen_index result ≡ files_of kind workers (words_of words.now) }
-    ensures workers { ForSome result (λ x. IsWorkers x.workers) }
-{
-    let files = split_two_files(words)?;
-    if !files.others.is_empty() {
-        return None;
-    }
-    Some(Index {
-        kind,
-        workers,
-        file: files.first,
-        out: files.second,
-    })
-}
-
-fn kind_named(word: &str) -> Option<CacheKind>
-    ensures { result ≡ kind_named word.now }
-{
-    match word {
-        "gdb8" => Some(CacheKind::Gdb8),
-        "gdb9" => Some(CacheKind::Gdb9),
-        "names" => Some(CacheKind::Names),
-        _ => None,
-    }
 }
 
 fn parse_look(words: &[String]) -> Option<Command<'_>>

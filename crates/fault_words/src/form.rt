@@ -9,6 +9,8 @@ pub(crate) enum ArgumentKind {
     Number { low: u32, high: u32 },
     /// The kind of an index.
     Index,
+    /// The rules by which its entries are listed.
+    Rules,
     /// Nothing: the option is there or isn't.
     Flag,
 }
@@ -59,6 +61,13 @@ const KIND: Argument = Argument {
     is_needed: true,
 };
 
+const RULES: Argument = Argument {
+    name: "--rules",
+    kind: ArgumentKind::Rules,
+    takes: "gdb",
+    is_needed: false,
+};
+
 const QUOTE: Argument = Argument {
     name: "--quote",
     kind: ArgumentKind::Flag,
@@ -90,8 +99,8 @@ macro_rules! forms {
 /// All commands but `--help` and `--version`.
 pub(crate) static FORMS: [Form; 11] = forms! {
     "ask" "" &[WORKERS, QUOTE]; &[file!("FILE")]; &["name", "simple", "addr", "main", "cache"];
-    "index" "" &[KIND, WORKERS]; &[file!("FILE"), file!("OUT")]; &[];
-    "add" "" &[KIND, WORKERS]; &[file!("FILE"), file!("OUT")]; &[];
+    "index" "" &[KIND, RULES, WORKERS]; &[file!("FILE"), file!("OUT")]; &[];
+    "add" "" &[KIND, RULES, WORKERS]; &[file!("FILE"), file!("OUT")]; &[];
     "aranges" "" &[WORKERS]; &[file!("FILE")]; &[];
     "files" "" &[WORKERS]; &[file!("FILE"), file!("NAME")]; &[];
     "cached" "" &[WORKERS, QUOTE]; &[file!("FILE"), file!("STORE")]; &["name", "addr", "main"];

@@ -26,22 +26,25 @@ N is the number of workers, 1 to 64, by default 4; no answer depends on it.
 ";
 
 const INDEX: &str = "\
-usage: gdbix index --as KIND [--workers N] FILE OUT
+usage: gdbix index --as KIND [--rules gdb] [--workers N] FILE OUT
 
 Stores the symbol index of FILE in OUT: a .gdb_index section of version 8 or 9
 where KIND is gdb8 or gdb9, a .debug_names section where it is names, with the
 strings to be appended to .debug_str in OUT.debug_str.
+With --rules gdb a .gdb_index lists what gdb itself lists in one, so that gdb
+finds with it what it finds without: inlined functions, Ada's names and more.
 N is the number of workers, 1 to 64, by default 4; no answer depends on it.
 
   gdbix index --as gdb8 app app.idx
 ";
 
 const ADD: &str = "\
-usage: gdbix add --as KIND [--workers N] FILE OUT
+usage: gdbix add --as KIND [--rules gdb] [--workers N] FILE OUT
 
 Stores FILE in OUT with its symbol index as a section of it, as gdb-add-index
 does: .gdb_index where KIND is gdb8 or gdb9, .debug_names where it is names.
 OUT may be FILE itself. gdb 13 uses gdb8; it doesn't know gdb9.
+With --rules gdb a .gdb_index lists what gdb itself lists in one.
 N is the number of workers, 1 to 64, by default 4; no answer depends on it.
 
   gdbix add --as gdb8 app app

@@ -17,6 +17,8 @@ pub enum Usage<'w> {
     Extra(&'w str),
     UnknownQuery(&'w str),
     BadAddress(&'w str),
+    /// gdb's rules for a `.debug_names`.
+    RulesOfNames,
     /// Nothing of these.
     Other,
 }
@@ -31,9 +33,21 @@ pub fn usage_of(words: &[String]) -> Usage<'_> {
 
 fn check(words: &[String]) -> Result<(), Usage<'_>> {
     let (form, others) = form_of(words)?;
+    check_rules(others)?;
     let others = skip_options(form, others)?;
     let others = skip_operands(form, others)?;
     check_query(form, others)
+}
+
+// gdb's rules are of the `.gdb_index` alone.
+fn check_rules(words: &[String]) -> Result<(), Usage<'_>> {
+    match words {
+        [option, kind, rules, ..]
+            if option.as_str() == "--as"
+                && kind.as_str() == "names"
+                && rules.as_str() == "--rules" => { Err(Usage::RulesOfNames) }
+        _ => Ok(()),
+    }
 }
 
 fn skip_options<'w>(form: &'static Form, words: &'w [String]) -> Result<&'w [String], Usage<'w>> {
@@ -120,6 +134,7 @@ fn fits(kind: ArgumentKind, word: &str) -> bool {
         ArgumentKind::File => !word.is_empty() && !word.starts_with("--"),
         ArgumentKind::Number { low, high } => is_number(word, low, high),
         ArgumentKind::Index => word == "gdb8" || word == "gdb9" || word == "names",
+        ArgumentKind::Rules => word == "gdb",
         ArgumentKind::Flag => false,
     }
 }
@@ -208,6 +223,7 @@ impl fmt::Display for Usage<'_> {
                     "an address is 1 to 16 hexadecimal digits without 0x, not '{word}'"
                 )
             }
+            Usage::RulesOfNames => write!(f, "with --rules gdb, --as is gdb8 or gdb9, not 'names'"),
             Usage::Other => write!(f, "the words aren't in the grammar"),
         }
     }

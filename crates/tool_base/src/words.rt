@@ -75,7 +75,7 @@ fn stores_over_its_file<R: Files + AllocGlobal>(
     if is_same_file(rt, index.file, index.out) {
         return Ok(true);
     }
-    match index.kind {
+    match index.form.kind() {
         CacheKind::Gdb8 | CacheKind::Gdb9 => Ok(false),
         CacheKind::Names => {
             let mut strings = String::from_str(rt.alloc(), index.out)?;

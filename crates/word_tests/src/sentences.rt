@@ -74,6 +74,16 @@ fn the_word_that_is_wrong_is_named(rt: HostRuntime) -> Result<(), Fail> {
         text.as_str(),
         "usage: an address is 1 to 16 hexadecimal digits without 0x, not '0x10'; try 'gdbix ask --help'"
     );
+    let words = words_of(
+        &rt,
+        &["index", "--as", "names", "--rules", "gdb", "app", "out"],
+    )?;
+    let usage = usage_of(&words);
+    let text = format!(in rt.alloc(); "{usage}")?;
+    assert_eq!(rt;
+        text.as_str(),
+        "with --rules gdb, --as is gdb8 or gdb9, not 'names'"
+    );
     Ok(())
 }
 
