@@ -4,7 +4,9 @@ use Rattle.std.specs.Prelude.{length, IsSome}
 use Rattle.ix_base.specs.declared.fault.Fault.{Fault}
 use Rattle.ix_base.specs.declared.limits.TheConstants.{MAX_FILE_BYTES}
 use Rattle.elf_make.specs.Generated.{generated_file}
-use Rattle.index_model.specs.declared.job.CacheKind.{CacheKind}
+use Rattle.index_forms.specs.Forms.{kind_of}
+use Rattle.index_forms.specs.declared.form.IndexForm.{IndexForm}
+use Rattle.gdb_index.specs.Indexes.{index_in}
 use Rattle.index_model.specs.declared.job.CacheKind.TheVariants.{Gdb8, Names}
 use Rattle.index_model.specs.Cache.{Cache, GdbBytes, NameBytes, DoesNotFit, cache_in}
 use Rattle.index_model.specs.Faults.{Built, first_fault, built_of, IsAccepted}
@@ -26,13 +28,13 @@ use Rattle.aranges_command.specs.Comparisons.{sets_of}
 use Rattle.files_command.specs.Listings.{found_by}
 use Rattle.index_cmd.specs.Replies.{Causes, HasTooManySections, IsAlreadyIndexed, IsIndexRefusal, IsTableRefusal, MakesTooLarge}
 use Rattle.command_base.specs.Replies.{IsMeant, line_of}
-use Rattle.add_command.specs.Adds.{ForNamedProgram, ForProgram, IsAddMeant, OfAdded}
-use Rattle.index_commands.specs.Indexes.{IsIndexMeant}
+use Rattle.store_commands.specs.Adds.{ForNamedProgram, ForProgram, IsAddMeant, OfAdded}
+use Rattle.store_commands.specs.Indexes.{IsIndexMeant}
 use Rattle.command_base.specs.GdbLooks.{IsLookMeant}
 use Rattle.index_commands.specs.declared.names.NamesLook.{NamesLook}
 use Rattle.index_commands.specs.NamesLooks.{IsNamesMeant}
 use Rattle.command_base.specs.Statuses.{status_code}
-use Rattle.index_commands.specs.Stores.{Keeps}
+use Rattle.store_commands.specs.Stores.{Keeps}
 use Rattle.index_cmd.specs.Stores.{LeavesAtEnd}
 use Rattle.command_base.specs.declared.status.RefusedTable.{RefusedTable}
 use Rattle.command_base.specs.declared.status.Status.{Status}
@@ -45,7 +47,7 @@ use Rattle.index_cmd.proofs.Outcomes.{Outcome, tells, stops, lines, fails, Plain
 -- ---- the program's own texts
 
 module _ (told : Option Files) (reads stores writes : Type 0) (old new : Option (List ℕ)) where
-  own_text : (request : Request) → ((P : List ℕ → ℕ → Type 0) → AsksFile (Some request) P → ⊥) → ((P : List ℕ → Type 0) → AsksProgram (Some request) P → ⊥) → ((P : CacheKind → List ℕ → List ℕ → Type 0) → AsksIndex (Some request) P → ⊥) → (MakesTooLarge (Some request) told → ⊥) → ((text : List ℕ) → IsIndexRefusal (Some request) told text → ⊥) → ((text : List ℕ) → (kind : RefusedTable) → IsTableRefusal (Some request) kind told text → ⊥) → (IsAlreadyIndexed (Some request) told → ⊥) → (HasTooManySections (Some request) told → ⊥) → (writes → ⊥) → (status : Status) → Plain (Some request) told reads stores writes old new status → (status_code status ≡ 0) ⊎ (status_code status ≡ 7)
+  own_text : (request : Request) → ((P : List ℕ → ℕ → Type 0) → AsksFile (Some request) P → ⊥) → ((P : List ℕ → Type 0) → AsksProgram (Some request) P → ⊥) → ((P : IndexForm → List ℕ → List ℕ → Type 0) → AsksIndex (Some request) P → ⊥) → (MakesTooLarge (Some request) told → ⊥) → ((text : List ℕ) → IsIndexRefusal (Some request) told text → ⊥) → ((text : List ℕ) → (kind : RefusedTable) → IsTableRefusal (Some request) kind told text → ⊥) → (IsAlreadyIndexed (Some request) told → ⊥) → (HasTooManySections (Some request) told → ⊥) → (writes → ⊥) → (status : Status) → Plain (Some request) told reads stores writes old new status → (status_code status ≡ 0) ⊎ (status_code status ≡ 7)
   own_text request file program index large look table indexed crowded none status (answers w) = inl refl
   own_text request file program index large look table indexed crowded none status (refuses w) = absurd (program _ w.1)
   own_text request file program index large look table indexed crowded none status (index_refuses w) = absurd (look _ w.1)
@@ -165,9 +167,9 @@ module _ (files : Files) (reads stores writes : Type 0) (old new : Option (List 
 
   -- ---- index
 
-  module _ (kind : CacheKind) (out : List ℕ) (no_store : stores → ⊥) (shelf : Option Files) where
+  module _ (form : IndexForm) (out : List ℕ) (no_store : stores → ⊥) (shelf : Option Files) where
     abbrev stored : Option Request
-    stored = Some (OfIndex kind file out)
+    stored = Some (OfIndex form file out)
 
     one_built : (a b : Built) (own : List ℕ) → files file ≡ Some own → built_of own ≡ Ok a → built_of bytes ≡ Ok b → a ≡ b
     one_built a b own at x y = same_ok a b (sym x ∙ ap built_of (same_bytes (files file) own bytes at holds) ∙ y)
@@ -181,10 +183,10 @@ module _ (files : Files) (reads stores writes : Type 0) (old new : Option (List 
     kept_fits (NameBytes xs ys) k e = cc e
     kept_fits DoesNotFit k e = k
 
-    by_line : (status : Status) (text : List ℕ) → line_of status ≡ Some text → Causes stored (Some files) reads stores writes status → IsIndexMeant bytes kind (status_code status)
+    by_line : (status : Status) (text : List ℕ) → line_of status ≡ Some text → Causes stored (Some files) reads stores writes status → IsIndexMeant bytes form (status_code status)
     by_line NoMemory text is c = record { stored = λ b e fit. inr refl; too_large = λ b e large. inr refl; refused = λ f first. inr refl }
     by_line IndexTooLarge text is c = record {
-      stored = λ b e fit. absurd (fit (ap (cache_in kind) (sym (one_built c.3.built b c.0 c.1 c.3.accepted e)) ∙ c.3.holds));
+      stored = λ b e fit. absurd (fit (ap (index_in form) (sym (one_built c.3.built b c.0 c.1 c.3.accepted e)) ∙ c.3.holds));
       too_large = λ b e large. inl refl;
       refused = λ f first. absurd (no_fault c.3.built c.0 f c.1 c.3.accepted first);
     }
@@ -203,10 +205,10 @@ module _ (files : Files) (reads stores writes : Type 0) (old new : Option (List 
     by_line InputTooLong text is c = absurd (cc is)
     by_line Stopped text is c = absurd (cc is)
 
-    index_meant : (status : Status) → Plain stored (Some files) reads stores writes old new status → LeavesAtEnd stored (Some files) shelf stores status → IsIndexMeant bytes kind (status_code status)
+    index_meant : (status : Status) → Plain stored (Some files) reads stores writes old new status → LeavesAtEnd stored (Some files) shelf stores status → IsIndexMeant bytes form (status_code status)
     index_meant status (answers w) left = record {
       stored = λ b e fit. inl refl;
-      too_large = λ b e large. absurd (kept_fits (cache_in kind left.3.built) left.3.holds (ap (cache_in kind) (one_built left.3.built b left.0 left.1 left.3.accepted e) ∙ large));
+      too_large = λ b e large. absurd (kept_fits (index_in form left.3.built) left.3.holds (ap (index_in form) (one_built left.3.built b left.0 left.1 left.3.accepted e) ∙ large));
       refused = λ f first. absurd (no_fault left.3.built left.0 f left.1 left.3.accepted first);
     }
     index_meant status (refuses w) left =
@@ -219,19 +221,19 @@ module _ (files : Files) (reads stores writes : Type 0) (old new : Option (List 
 
   -- ---- add
 
-  module _ (kind : CacheKind) (out : List ℕ) (no_store : stores → ⊥) (shelf : Option Files) where
+  module _ (form : IndexForm) (out : List ℕ) (no_store : stores → ⊥) (shelf : Option Files) where
     abbrev with_index : Option Request
-    with_index = Some (OfAdd kind file out)
+    with_index = Some (OfAdd form file out)
 
     -- what holds of the program with this name holds of these bytes
-    of_these : (P : List ℕ → List Section → Cache → Type 0) → ForNamedProgram (Some files) file kind P → ForProgram bytes kind P
-    of_these P h = subst (λ (own : List ℕ). ForProgram own kind P) (same_bytes (files file) h.0 bytes h.1 holds) h.3
+    of_these : (P : List ℕ → List Section → Cache → Type 0) → ForNamedProgram (Some files) file form P → ForProgram bytes form P
+    of_these P h = subst (λ (own : List ℕ). ForProgram own form P) (same_bytes (files file) h.0 bytes h.1 holds) h.3
 
-    add_line : (status : Status) (text : List ℕ) → line_of status ≡ Some text → Causes with_index (Some files) reads stores writes status → IsAddMeant bytes kind (status_code status)
-    add_line NoMemory text is c = short_of_memory bytes kind
-    add_line IndexTooLarge text is c = when_too_large bytes kind (of_these _ c)
-    add_line AlreadyIndexed text is c = when_indexed bytes kind (of_these _ c)
-    add_line TooManySections text is c = when_crowded bytes kind (of_these _ c)
+    add_line : (status : Status) (text : List ℕ) → line_of status ≡ Some text → Causes with_index (Some files) reads stores writes status → IsAddMeant bytes form (status_code status)
+    add_line NoMemory text is c = short_of_memory bytes form
+    add_line IndexTooLarge text is c = when_too_large bytes form (of_these _ c)
+    add_line AlreadyIndexed text is c = when_indexed bytes form (of_these _ c)
+    add_line TooManySections text is c = when_crowded bytes form (of_these _ c)
     add_line Usage text is c = absurd (cc c)
     add_line ReadFault text is c = absurd (no_read c)
     add_line StoreFault text is c = absurd (no_store c)
@@ -245,9 +247,9 @@ module _ (files : Files) (reads stores writes : Type 0) (old new : Option (List 
     add_line InputTooLong text is c = absurd (cc is)
     add_line Stopped text is c = absurd (cc is)
 
-    add_meant : (status : Status) → Plain with_index (Some files) reads stores writes old new status → LeavesAtEnd with_index (Some files) shelf stores status → IsAddMeant bytes kind (status_code status)
-    add_meant status (answers w) left = when_stored bytes kind (Stored (Some files) shelf out) (of_these (OfAdded kind (Stored (Some files) shelf out)) left)
-    add_meant status (refuses w) left = when_refused bytes kind w.1.3.fault (ap first_fault (sym (same_bytes (files file) w.1.0 bytes w.1.1 holds)) ∙ w.1.3.first)
+    add_meant : (status : Status) → Plain with_index (Some files) reads stores writes old new status → LeavesAtEnd with_index (Some files) shelf stores status → IsAddMeant bytes form (status_code status)
+    add_meant status (answers w) left = when_stored bytes form (Stored (Some files) shelf out) (of_these (OfAdded (kind_of form) (Stored (Some files) shelf out)) left)
+    add_meant status (refuses w) left = when_refused bytes form w.1.3.fault (ap first_fault (sym (same_bytes (files file) w.1.0 bytes w.1.1 holds)) ∙ w.1.3.first)
     add_meant status (table_refuses table w) left = absurd w.1
     add_meant status (index_refuses w) left = absurd w.1
     add_meant status (plain_lines text is c) left = add_line status text is c
@@ -456,10 +458,10 @@ complete (Some TheHelp) told shelf heard reads stores writes old new status o le
 complete (Some TheVersion) told shelf heard reads stores writes old new status o left = λ none. own_text told reads stores writes old new TheVersion (λ P h. h) (λ P h. h) (λ P h. h) (λ h. h) (λ text h. h) (λ text kind h. h) (λ h. h) (λ h. h) none status (plain (Some TheVersion) told reads stores writes old new heard (λ _ _ h. h) status o)
 complete (Some (OfFile file q)) None shelf heard reads stores writes old new status o left = tt
 complete (Some (OfFile file q)) (Some files) shelf heard reads stores writes old new status o left = λ bytes holds small no_read no_write. meant files reads stores writes old new file bytes holds small no_read no_write q status (plain (Some (OfFile file q)) (Some files) reads stores writes old new heard (λ _ _ h. h) status o)
-complete (Some (OfIndex kind file out)) None shelf heard reads stores writes old new status o left = tt
-complete (Some (OfIndex kind file out)) (Some files) shelf heard reads stores writes old new status o left = λ bytes holds small no_read no_write no_store. index_meant files reads stores writes old new file bytes holds small no_read no_write kind out no_store shelf status (plain (Some (OfIndex kind file out)) (Some files) reads stores writes old new heard (λ _ _ h. h) status o) left
-complete (Some (OfAdd kind file out)) None shelf heard reads stores writes old new status o left = tt
-complete (Some (OfAdd kind file out)) (Some files) shelf heard reads stores writes old new status o left = λ bytes holds small no_read no_write no_store. add_meant files reads stores writes old new file bytes holds small no_read no_write kind out no_store shelf status (plain (Some (OfAdd kind file out)) (Some files) reads stores writes old new heard (λ _ _ h. h) status o) left
+complete (Some (OfIndex form file out)) None shelf heard reads stores writes old new status o left = tt
+complete (Some (OfIndex form file out)) (Some files) shelf heard reads stores writes old new status o left = λ bytes holds small no_read no_write no_store. index_meant files reads stores writes old new file bytes holds small no_read no_write form out no_store shelf status (plain (Some (OfIndex form file out)) (Some files) reads stores writes old new heard (λ _ _ h. h) status o) left
+complete (Some (OfAdd form file out)) None shelf heard reads stores writes old new status o left = tt
+complete (Some (OfAdd form file out)) (Some files) shelf heard reads stores writes old new status o left = λ bytes holds small no_read no_write no_store. add_meant files reads stores writes old new file bytes holds small no_read no_write form out no_store shelf status (plain (Some (OfAdd form file out)) (Some files) reads stores writes old new heard (λ _ _ h. h) status o) left
 complete (Some (OfGdb index q)) None shelf heard reads stores writes old new status o left = tt
 complete (Some (OfGdb index q)) (Some files) shelf heard reads stores writes old new status o left = λ bytes holds small no_read no_write. look_meant files reads stores writes old new index bytes holds small no_read no_write q status (plain (Some (OfGdb index q)) (Some files) reads stores writes old new heard (λ _ _ h. h) status o)
 complete (Some (OfNames look index strings name)) None shelf heard reads stores writes old new status o left = tt

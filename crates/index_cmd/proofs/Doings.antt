@@ -2,8 +2,9 @@
 use Rattle.std.specs.Prelude.{⊤}
 use Rattle.std.proofs.Common.{inl, inr, ℕ, List, Option, Some, subst}
 use Rattle.ix_base.specs.declared.limits.TheConstants.{MAX_FILE_BYTES}
-use Rattle.index_model.specs.declared.job.CacheKind.{CacheKind}
-use Rattle.index_model.specs.Cache.{cache_in}
+use Rattle.index_forms.specs.Forms.{kind_of}
+use Rattle.index_forms.specs.declared.form.IndexForm.{IndexForm}
+use Rattle.gdb_index.specs.Indexes.{index_in}
 use Rattle.query_text.specs.Questions.{Question}
 use Rattle.outside.specs.Counts.{Rose}
 use Rattle.outside.specs.Files.{Files, SameFiles, Stored, StoredOrPrefix}
@@ -23,12 +24,12 @@ use Rattle.serve_command.specs.Listens.{CausesOfSession}
 use Rattle.race_command.specs.Races.{SaysRace}
 use Rattle.serve_command.specs.SessionResults.{SaysServe}
 use Rattle.command_base.specs.GdbLooks.{SaysGdb}
-use Rattle.index_commands.specs.Indexes.{CausesOfIndex, LeavesIndex, SaysIndex}
+use Rattle.store_commands.specs.Indexes.{CausesOfIndex, LeavesIndex, SaysIndex}
 use Rattle.index_cmd.specs.declared.task.Racing.{Racing}
 use Rattle.index_cmd.specs.declared.task.Serving.{Serving}
 use Rattle.index_commands.specs.declared.names.NamesLook.{NamesLook}
 use Rattle.index_commands.specs.NamesLooks.{SaysNames}
-use Rattle.add_command.specs.Adds.{CausesOfAdd, LeavesAdd, SaysAdd}
+use Rattle.store_commands.specs.Adds.{CausesOfAdd, LeavesAdd, SaysAdd}
 use Rattle.command_base.specs.Tables.{CausesOfTable}
 use Rattle.aranges_command.specs.Comparisons.{SaysAranges}
 use Rattle.files_command.specs.Listings.{SaysFiles}
@@ -341,9 +342,9 @@ module _ {F : Type 0} (seen : OfShelf F) (before middle last : F) (file bytes : 
 
   -- ---- `index`
 
-  module _ (kind : CacheKind) (out : List ℕ) where
+  module _ (form : IndexForm) (out : List ℕ) where
     abbrev stored : Option Request
-    stored = Some (OfIndex kind file out)
+    stored = Some (OfIndex form file out)
 
     says_index : (status : Status) (text : List ℕ) → SaysIndex bytes status text → Says stored told heard status text
     says_index Answered text h = h
@@ -363,7 +364,7 @@ module _ {F : Type 0} (seen : OfShelf F) (before middle last : F) (file bytes : 
     says_index InputTooLong text h = absurd h
     says_index Stopped text h = absurd h
 
-    index_causes : (status : Status) → CausesOfIndex bytes kind later_stores writes status → Causes stored told reads stores writes status
+    index_causes : (status : Status) → CausesOfIndex bytes form later_stores writes status → Causes stored told reads stores writes status
     index_causes Answered c = tt
     index_causes Refused c = tt
     index_causes Usage c = absurd c
@@ -381,12 +382,12 @@ module _ {F : Type 0} (seen : OfShelf F) (before middle last : F) (file bytes : 
     index_causes InputTooLong c = absurd c
     index_causes Stopped c = absurd c
 
-    index_leaves : (after : Option Files) (status : Status) → CausesOfIndex bytes kind later_stores writes status → LeavesIndex bytes kind shelf after out status → Leaves stored told after status
-    index_leaves after Answered c h = (bytes, was.holds, was.small, record { built = h.built; accepted = h.accepted; holds = keeps_from out told shelf after was.same (cache_in kind h.built) h.holds })
+    index_leaves : (after : Option Files) (status : Status) → CausesOfIndex bytes form later_stores writes status → LeavesIndex bytes form shelf after out status → Leaves stored told after status
+    index_leaves after Answered c h = (bytes, was.holds, was.small, record { built = h.built; accepted = h.accepted; holds = keeps_from out told shelf after was.same (index_in form h.built) h.holds })
     index_leaves after Refused c h = same_files-trans told shelf after was.same h
     index_leaves after Usage c h = absurd c
     index_leaves after ReadFault c h = absurd c
-    index_leaves after StoreFault c h = (bytes, was.holds, was.small, record { built = h.built; accepted = h.accepted; holds = keeps_part_from out told shelf after was.same (cache_in kind h.built) h.holds })
+    index_leaves after StoreFault c h = (bytes, was.holds, was.small, record { built = h.built; accepted = h.accepted; holds = keeps_part_from out told shelf after was.same (index_in form h.built) h.holds })
     index_leaves after WriteFault c h = inl (same_files-trans told shelf after was.same h)
     index_leaves after NoMemory c h = same_files-trans told shelf after was.same h
     index_leaves after IndexRefused c h = same_files-trans told shelf after was.same h
@@ -399,7 +400,7 @@ module _ {F : Type 0} (seen : OfShelf F) (before middle last : F) (file bytes : 
     index_leaves after InputTooLong c h = absurd c
     index_leaves after Stopped c h = absurd c
 
-    pub indexed : (after : Option Files) (status : Status) → Wrote (SaysIndex bytes) status old new → CausesOfIndex bytes kind later_stores writes status → LeavesIndex bytes kind shelf after out status → Does stored told after heard reads stores writes old new status
+    pub indexed : (after : Option Files) (status : Status) → Wrote (SaysIndex bytes) status old new → CausesOfIndex bytes form later_stores writes status → LeavesIndex bytes form shelf after out status → Does stored told after heard reads stores writes old new status
     indexed after status w c h = record {
       wrote = wrote_weaker (SaysIndex bytes) (Says stored told heard) says_index status old new w;
       causes = index_causes status c;
@@ -408,9 +409,9 @@ module _ {F : Type 0} (seen : OfShelf F) (before middle last : F) (file bytes : 
 
   -- ---- `add`
 
-  module _ (kind : CacheKind) (out : List ℕ) where
+  module _ (form : IndexForm) (out : List ℕ) where
     abbrev with_index : Option Request
-    with_index = Some (OfAdd kind file out)
+    with_index = Some (OfAdd form file out)
 
     says_add : (status : Status) (text : List ℕ) → SaysAdd bytes status text → Says with_index told heard status text
     says_add Answered text h = h
@@ -430,7 +431,7 @@ module _ {F : Type 0} (seen : OfShelf F) (before middle last : F) (file bytes : 
     says_add InputTooLong text h = absurd h
     says_add Stopped text h = absurd h
 
-    add_causes : (status : Status) → CausesOfAdd bytes kind later_stores writes status → Causes with_index told reads stores writes status
+    add_causes : (status : Status) → CausesOfAdd bytes form later_stores writes status → Causes with_index told reads stores writes status
     add_causes Answered c = tt
     add_causes Refused c = tt
     add_causes Usage c = absurd c
@@ -448,12 +449,12 @@ module _ {F : Type 0} (seen : OfShelf F) (before middle last : F) (file bytes : 
     add_causes InputTooLong c = absurd c
     add_causes Stopped c = absurd c
 
-    add_leaves : (after : Option Files) (status : Status) → CausesOfAdd bytes kind later_stores writes status → LeavesAdd bytes kind shelf after out status → Leaves with_index told after status
-    add_leaves after Answered c h = (bytes, was.holds, was.small, of_added bytes kind (Stored shelf after out) (Stored told after out) (λ program. stored_from out program told shelf after was.same) h)
+    add_leaves : (after : Option Files) (status : Status) → CausesOfAdd bytes form later_stores writes status → LeavesAdd bytes form shelf after out status → Leaves with_index told after status
+    add_leaves after Answered c h = (bytes, was.holds, was.small, of_added bytes form (Stored shelf after out) (Stored told after out) (λ program. stored_from out program told shelf after was.same) h)
     add_leaves after Refused c h = same_files-trans told shelf after was.same h
     add_leaves after Usage c h = absurd c
     add_leaves after ReadFault c h = absurd c
-    add_leaves after StoreFault c h = (bytes, was.holds, was.small, of_added bytes kind (StoredOrPrefix shelf after out) (StoredOrPrefix told after out) (λ program. part_from out program told shelf after was.same) h)
+    add_leaves after StoreFault c h = (bytes, was.holds, was.small, of_added bytes form (StoredOrPrefix shelf after out) (StoredOrPrefix told after out) (λ program. part_from out program told shelf after was.same) h)
     add_leaves after WriteFault c h = inl (same_files-trans told shelf after was.same h)
     add_leaves after NoMemory c h = same_files-trans told shelf after was.same h
     add_leaves after IndexRefused c h = same_files-trans told shelf after was.same h
@@ -466,7 +467,7 @@ module _ {F : Type 0} (seen : OfShelf F) (before middle last : F) (file bytes : 
     add_leaves after InputTooLong c h = absurd c
     add_leaves after Stopped c h = absurd c
 
-    pub added : (after : Option Files) (status : Status) → Wrote (SaysAdd bytes) status old new → CausesOfAdd bytes kind later_stores writes status → LeavesAdd bytes kind shelf after out status → Does with_index told after heard reads stores writes old new status
+    pub added : (after : Option Files) (status : Status) → Wrote (SaysAdd bytes) status old new → CausesOfAdd bytes form later_stores writes status → LeavesAdd bytes form shelf after out status → Does with_index told after heard reads stores writes old new status
     added after status w c h = record {
       wrote = wrote_weaker (SaysAdd bytes) (Says with_index told heard) says_add status old new w;
       causes = add_causes status c;

@@ -27,8 +27,8 @@ use Rattle.index_cmd.proofs.Outcomes.{IsPlain, says_plain}
 
 asks_first : (file : List ℕ) (action : Action) (P : List ℕ → ℕ → Type 0) → P file MAX_FILE_BYTES → AsksFile (Some (request_on file action)) P
 asks_first file (actions.Ask q) P p = p
-asks_first file (actions.Index kind out) P p = p
-asks_first file (actions.Add kind out) P p = p
+asks_first file (actions.Index form out) P p = p
+asks_first file (actions.Add form out) P p = p
 asks_first file (actions.LookGdb q) P p = p
 asks_first file (actions.LookNames look strings name) P p = inl p
 asks_first file (actions.Serve how) P p = p

@@ -41,8 +41,8 @@ module _ (told shelf : Option Files) (kept_reads stores : Type 0) (old new : Opt
   by_request f (Some (OfDrill seed units)) p = tt
   by_request f (Some (OfAranges file)) p = tt
   by_request f (Some (OfFiles file name)) p = tt
-  by_request f (Some (OfIndex kind file out)) p = tt
-  by_request f (Some (OfAdd kind file out)) p = tt
+  by_request f (Some (OfIndex form file out)) p = tt
+  by_request f (Some (OfAdd form file out)) p = tt
   by_request f (Some (OfCached file store q)) p = f file store q p
 
 -- of a file that wasn't read nothing is said

@@ -23,8 +23,8 @@ stored_same (Some (OfRace how file script)) old new n h = h
 stored_same (Some (OfDrill seed units)) old new n h = h
 stored_same (Some (OfAranges file)) old new n h = h
 stored_same (Some (OfFiles file name)) old new n h = h
-stored_same (Some (OfIndex kind file out)) old new n h = absurd n
-stored_same (Some (OfAdd kind file out)) old new n h = absurd n
+stored_same (Some (OfIndex form file out)) old new n h = absurd n
+stored_same (Some (OfAdd form file out)) old new n h = absurd n
 stored_same (Some (OfCached file store q)) old new n h = absurd n
 
 same_stored : (request : Option Request) (old new : Option Files) → StoresNothing request → SameFiles old new → IsStored request old new
@@ -39,8 +39,8 @@ same_stored (Some (OfRace how file script)) old new n h = h
 same_stored (Some (OfDrill seed units)) old new n h = h
 same_stored (Some (OfAranges file)) old new n h = h
 same_stored (Some (OfFiles file name)) old new n h = h
-same_stored (Some (OfIndex kind file out)) old new n h = absurd n
-same_stored (Some (OfAdd kind file out)) old new n h = absurd n
+same_stored (Some (OfIndex form file out)) old new n h = absurd n
+same_stored (Some (OfAdd form file out)) old new n h = absurd n
 same_stored (Some (OfCached file store q)) old new n h = absurd n
 
 no_part : (request : Option Request) (old new : Option Files) → StoresNothing request → IsPartStored request old new → ⊥
@@ -55,8 +55,8 @@ no_part (Some (OfRace how file script)) old new n h = h
 no_part (Some (OfDrill seed units)) old new n h = h
 no_part (Some (OfAranges file)) old new n h = h
 no_part (Some (OfFiles file name)) old new n h = h
-no_part (Some (OfIndex kind file out)) old new n h = n
-no_part (Some (OfAdd kind file out)) old new n h = n
+no_part (Some (OfIndex form file out)) old new n h = n
+no_part (Some (OfAdd form file out)) old new n h = n
 no_part (Some (OfCached file store q)) old new n h = n
 
 no_index : (request : Option Request) (P : Type 0) → StoresNothing request → AsksIndex request (λ _ _ _. P) → ⊥
@@ -71,8 +71,8 @@ no_index (Some (OfRace how file script)) P n h = h
 no_index (Some (OfDrill seed units)) P n h = h
 no_index (Some (OfAranges file)) P n h = h
 no_index (Some (OfFiles file name)) P n h = h
-no_index (Some (OfIndex kind file out)) P n h = n
-no_index (Some (OfAdd kind file out)) P n h = n
+no_index (Some (OfIndex form file out)) P n h = n
+no_index (Some (OfAdd form file out)) P n h = n
 no_index (Some (OfCached file store q)) P n h = h
 
 not_kept : (request : Option Request) (old new : Option Files) → StoresNothing request → IsMaybeKept request old new → ⊥
@@ -87,8 +87,8 @@ not_kept (Some (OfRace how file script)) old new n h = h
 not_kept (Some (OfDrill seed units)) old new n h = h
 not_kept (Some (OfAranges file)) old new n h = h
 not_kept (Some (OfFiles file name)) old new n h = h
-not_kept (Some (OfIndex kind file out)) old new n h = h
-not_kept (Some (OfAdd kind file out)) old new n h = h
+not_kept (Some (OfIndex form file out)) old new n h = h
+not_kept (Some (OfAdd form file out)) old new n h = h
 not_kept (Some (OfCached file store q)) old new n h = n
 
 module _ (request : Option Request) (old new : Option Files) (n : StoresNothing request) where

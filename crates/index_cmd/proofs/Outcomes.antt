@@ -120,8 +120,8 @@ says_plain None p told heard status text h = h
 says_plain (Some TheHelp) p told heard status text h = h
 says_plain (Some TheVersion) p told heard status text h = h
 says_plain (Some (OfFile file q)) p told heard status text h = h
-says_plain (Some (OfIndex kind file out)) p told heard status text h = h
-says_plain (Some (OfAdd kind file out)) p told heard status text h = h
+says_plain (Some (OfIndex form file out)) p told heard status text h = h
+says_plain (Some (OfAdd form file out)) p told heard status text h = h
 says_plain (Some (OfGdb index q)) p told heard status text h = h
 says_plain (Some (OfNames look index strings name)) p told heard status text h = h
 says_plain (Some (OfAranges file)) p told heard status text h = h
@@ -165,8 +165,8 @@ module _ (request : Option Request) (told : Option Files) (reads stores writes :
 
 -- what doesn't depend on the file
 pub asks_index : (request : Option Request) (P : Type 0) → AsksIndex request (λ _ _ _. P) → P
-asks_index (Some (OfIndex kind file out)) P h = h
-asks_index (Some (OfAdd kind file out)) P h = h
+asks_index (Some (OfIndex form file out)) P h = h
+asks_index (Some (OfAdd form file out)) P h = h
 asks_index (Some (OfFile file q)) P h = absurd h
 asks_index (Some (OfGdb index q)) P h = absurd h
 asks_index (Some (OfNames look index strings name)) P h = absurd h

@@ -1,10 +1,11 @@
 -- An index, or a program with its index, is stored behind a shelf that holds the same.
 use Rattle.std.proofs.Common.{◌≡◌, ◌⊎◌, inl, inr, ℕ, List, take, Option, Some, None, ◌∙◌}
-use Rattle.index_model.specs.declared.job.CacheKind.{CacheKind}
+use Rattle.index_forms.specs.Forms.{kind_of}
+use Rattle.index_forms.specs.declared.form.IndexForm.{IndexForm}
 use Rattle.index_model.specs.Cache.{Cache, GdbBytes, NameBytes, DoesNotFit}
 use Rattle.outside.specs.Files.{Files, SameFiles, Stored, StoredOrPrefix}
-use Rattle.index_commands.specs.Stores.{Keeps, KeepsPart, strings_name}
-use Rattle.add_command.specs.Adds.{ForProgram, OfAdded}
+use Rattle.store_commands.specs.Stores.{Keeps, KeepsPart, strings_name}
+use Rattle.store_commands.specs.Adds.{ForProgram, OfAdded}
 
 module _ (name bytes : List ℕ) where
   pub stored_from : (a b c : Option Files) → SameFiles a b → Stored b c name bytes → Stored a c name bytes
@@ -43,5 +44,5 @@ module _ (name : List ℕ) (a b c : Option Files) (same : SameFiles a b) where
   keeps_part_from DoesNotFit h = h
 
 -- what holds of the program with its index, by what holds of all bytes
-pub of_added : (file : List ℕ) (kind : CacheKind) (P Q : List ℕ → Type 0) → ((bytes : List ℕ) → P bytes → Q bytes) → ForProgram file kind (OfAdded kind P) → ForProgram file kind (OfAdded kind Q)
-of_added file kind P Q f h = record { built = h.built; accepted = h.accepted; holds = (h.holds.0, (h.holds.1.0, h.holds.1.1, f _ h.holds.1.2)) }
+pub of_added : (file : List ℕ) (form : IndexForm) (P Q : List ℕ → Type 0) → ((bytes : List ℕ) → P bytes → Q bytes) → ForProgram file form (OfAdded (kind_of form) P) → ForProgram file form (OfAdded (kind_of form) Q)
+of_added file form P Q f h = record { built = h.built; accepted = h.accepted; holds = (h.holds.0, (h.holds.1.0, h.holds.1.1, f _ h.holds.1.2)) }

@@ -17,10 +17,11 @@ use Rattle.cached_command.specs.Caches.{IsTooLarge as KeepsTooLarge}
 use Rattle.files_command.specs.Listings.{IsListingOf, IsFilesRefusalOf, found_by}
 use Rattle.drill_command.specs.Drills.{HasTooLarge}
 use Rattle.command_base.specs.GdbLooks.{IsGdbAnswerOf, IsGdbRefusalOf, IsLookMeant}
-use Rattle.index_commands.specs.Indexes.{IsIndexMeant}
+use Rattle.store_commands.specs.Indexes.{IsIndexMeant}
 use Rattle.index_commands.specs.NamesLooks.{IsNamesAnswerOf, IsNamesMeant, IsNamesRefusalOf}
-use Rattle.index_commands.specs.Stores.{ForIndex}
-use Rattle.add_command.specs.Adds.{ForNamedProgram, HasIndex, HasNoRoom, HasTooLarge as AddsTooLarge, IsAddMeant}
+use Rattle.store_commands.specs.Stores.{ForIndex}
+use Rattle.store_commands.specs.Adds.{ForNamedProgram, HasIndex, HasNoRoom, HasTooLarge as AddsTooLarge, IsAddMeant}
+use Rattle.index_forms.specs.Forms.{kind_of}
 use Rattle.index_cmd.specs.Requests.{Request, TheHelp, TheVersion, OfFile, OfIndex, OfAdd, OfGdb, OfNames, OfServe, OfRace, OfDrill, OfAranges, OfFiles, OfCached, AsksFile, AsksProgram, AsksIndex}
 use Rattle.index_cmd.specs.declared.about.TheConstants as about
 
@@ -32,8 +33,8 @@ IsAnswer None told text = ⊥
 IsAnswer (Some TheHelp) told text = text ≡ about.HELP.now
 IsAnswer (Some TheVersion) told text = text ≡ about.VERSION.now
 IsAnswer (Some (OfFile file q)) told text = OfFileBytes told file (λ bytes. IsAnswerOf bytes q text)
-IsAnswer (Some (OfIndex kind file out)) told text = text ≡ []
-IsAnswer (Some (OfAdd kind file out)) told text = text ≡ []
+IsAnswer (Some (OfIndex form file out)) told text = text ≡ []
+IsAnswer (Some (OfAdd form file out)) told text = text ≡ []
 IsAnswer (Some (OfGdb index q)) told text = OfFileBytes told index (λ bytes. IsGdbAnswerOf bytes q text)
 IsAnswer (Some (OfNames look index strings name)) told text = OfFileBytes told index (λ bytes. OfFileBytes told strings (λ held. IsNamesAnswerOf bytes held look name text))
 IsAnswer (Some (OfServe how file)) told text = ⊥
@@ -73,20 +74,20 @@ SaysRequest request told other text = ⊥
 
 -- an index that was asked for, or was to be added, doesn't fit its format
 abbrev pub MakesTooLarge : Option Request → Option Files → Type 0
-MakesTooLarge (Some (OfIndex kind file out)) told = ForIndex told file kind IsTooLarge
-MakesTooLarge (Some (OfAdd kind file out)) told = ForNamedProgram told file kind (AddsTooLarge kind)
+MakesTooLarge (Some (OfIndex form file out)) told = ForIndex told file form IsTooLarge
+MakesTooLarge (Some (OfAdd form file out)) told = ForNamedProgram told file form (AddsTooLarge (kind_of form))
 MakesTooLarge (Some (OfCached file store q)) told = OfFileBytes told file KeepsTooLarge
 MakesTooLarge (Some (OfDrill seed units)) told = HasTooLarge (generated_file seed units)
 MakesTooLarge other told = ⊥
 
 -- the program to which an index was to be added has a section for one
 abbrev pub IsAlreadyIndexed : Option Request → Option Files → Type 0
-IsAlreadyIndexed (Some (OfAdd kind file out)) told = ForNamedProgram told file kind (HasIndex kind)
+IsAlreadyIndexed (Some (OfAdd form file out)) told = ForNamedProgram told file form (HasIndex (kind_of form))
 IsAlreadyIndexed other told = ⊥
 
 -- it has none, and no room for the sections that are to be added
 abbrev pub HasTooManySections : Option Request → Option Files → Type 0
-HasTooManySections (Some (OfAdd kind file out)) told = ForNamedProgram told file kind (HasNoRoom kind)
+HasTooManySections (Some (OfAdd form file out)) told = ForNamedProgram told file form (HasNoRoom (kind_of form))
 HasTooManySections other told = ⊥
 
 -- the cause of a status that isn't a result, by what was asked, the files, and whether a read, a store or a write failed
@@ -121,8 +122,8 @@ IsComplete None told reads stores writes status = (writes → ⊥) → (status �
 IsComplete (Some TheHelp) told reads stores writes status = (writes → ⊥) → (status ≡ 0) ⊎ (status ≡ 7)
 IsComplete (Some TheVersion) told reads stores writes status = (writes → ⊥) → (status ≡ 0) ⊎ (status ≡ 7)
 IsComplete (Some (OfFile file q)) told reads stores writes status = OfWholeFile MAX_FILE_BYTES told file reads writes (λ bytes. IsMeant bytes status)
-IsComplete (Some (OfIndex kind file out)) told reads stores writes status = OfWholeFile MAX_FILE_BYTES told file reads writes (λ bytes. (stores → ⊥) → IsIndexMeant bytes kind status)
-IsComplete (Some (OfAdd kind file out)) told reads stores writes status = OfWholeFile MAX_FILE_BYTES told file reads writes (λ bytes. (stores → ⊥) → IsAddMeant bytes kind status)
+IsComplete (Some (OfIndex form file out)) told reads stores writes status = OfWholeFile MAX_FILE_BYTES told file reads writes (λ bytes. (stores → ⊥) → IsIndexMeant bytes form status)
+IsComplete (Some (OfAdd form file out)) told reads stores writes status = OfWholeFile MAX_FILE_BYTES told file reads writes (λ bytes. (stores → ⊥) → IsAddMeant bytes form status)
 IsComplete (Some (OfGdb index q)) told reads stores writes status = OfWholeFile MAX_FILE_BYTES told index reads writes (λ bytes. IsLookMeant bytes status)
 IsComplete (Some (OfNames look index strings name)) told reads stores writes status = OfWholeFile MAX_FILE_BYTES told index reads writes (λ bytes. OfWholeFile MAX_FILE_BYTES told strings reads writes (λ held. IsNamesMeant bytes held look status))
 IsComplete (Some (OfAranges file)) told reads stores writes status = OfWholeFile MAX_FILE_BYTES told file reads writes (λ bytes. IsTableMeant bytes sets_of 14 status)

@@ -1,6 +1,6 @@
 -- What the words of a command line ask for.
 use Rattle.std.specs.Prelude.{◌⊎◌, ℕ, List, Option, Some, None, option_map, option_and_then, ⊤}
-use Rattle.index_model.specs.declared.job.CacheKind.{CacheKind}
+use Rattle.index_forms.specs.declared.form.IndexForm.{IndexForm}
 use Rattle.index_model.specs.Queries.{Query, AskName, query_of}
 use Rattle.name_quotes.specs.declared.quote.Spelling.{Spelling}
 use Rattle.query_text.specs.Questions.{Question}
@@ -14,9 +14,10 @@ use Rattle.command_words.specs.DrillWords.{Drilled}
 use Rattle.command_words.specs.SessionWords.{Raced, Served}
 use Rattle.command_words.specs.KeptWords.{Kept}
 use Rattle.command_words.specs.TableWords.{Compared, Sought}
-use Rattle.command_words.specs.Words.{Asked, Indexed, Looked, NamesLooked, Wanted, Help, Version, Ask, Index, Add, LookGdb, LookNames, Serve, Race, Drill, Aranges, Files, Cached, command_of, query_text}
+use Rattle.command_words.specs.IndexWords.{Indexed}
+use Rattle.command_words.specs.Words.{Asked, Looked, NamesLooked, Wanted, Help, Version, Ask, Index, Add, LookGdb, LookNames, Serve, Race, Drill, Aranges, Files, Cached, command_of, query_text}
 
--- Each with how names are written, where some are: the program's own texts; the answer of a file, by its name, to a query; the index of a kind of a file, to be stored under a
+-- Each with how names are written, where some are: the program's own texts; the answer of a file, by its name, to a query; the index in a form of a file, to be stored under a
 -- name, or the file with that index as a section, to be stored so; the answer of a `.gdb_index`, by its name, to a query; or the
 -- entries of a name in a `.debug_names`, by the base of its strings, its own name and that of the strings. Or a session over a
 -- file from a stage on; sessions of so many readers over a file and a script; or the sizes of the program that a seed makes of so
@@ -25,7 +26,7 @@ use Rattle.command_words.specs.Words.{Asked, Indexed, Looked, NamesLooked, Wante
 pub data Request : Type 0 where
   TheHelp TheVersion : Request
   OfFile : List ℕ → Question → Request
-  OfIndex OfAdd : CacheKind → List ℕ → List ℕ → Request
+  OfIndex OfAdd : IndexForm → List ℕ → List ℕ → Request
   OfGdb : List ℕ → Question → Request
   OfNames : NamesLook → List ℕ → List ℕ → List ℕ → Request
   OfServe : Serving → List ℕ → Request
@@ -45,11 +46,11 @@ asked a = option_map (λ q. OfFile a.file (question a.spelling q)) (query_of (qu
 
 -- the index of a file
 abbrev pub indexed : Indexed → Option Request
-indexed i = Some (OfIndex i.kind i.file i.out)
+indexed i = Some (OfIndex i.form i.file i.out)
 
 -- a file with its index
 abbrev pub with_index : Indexed → Option Request
-with_index i = Some (OfAdd i.kind i.file i.out)
+with_index i = Some (OfAdd i.form i.file i.out)
 
 -- the query of a line, if a `.gdb_index` answers it
 abbrev pub offered_gdb : List ℕ → Option Query
@@ -119,8 +120,8 @@ request_of words = option_and_then requested (command_of words)
 -- a file that is read, with the most bytes that it may have: the program, the index that is asked, its strings, or a script
 abbrev pub AsksFile : Option Request → (List ℕ → ℕ → Type 0) → Type 0
 AsksFile (Some (OfFile file q)) P = P file MAX_FILE_BYTES
-AsksFile (Some (OfIndex kind file out)) P = P file MAX_FILE_BYTES
-AsksFile (Some (OfAdd kind file out)) P = P file MAX_FILE_BYTES
+AsksFile (Some (OfIndex form file out)) P = P file MAX_FILE_BYTES
+AsksFile (Some (OfAdd form file out)) P = P file MAX_FILE_BYTES
 AsksFile (Some (OfGdb index q)) P = P index MAX_FILE_BYTES
 AsksFile (Some (OfNames look index strings name)) P = P index MAX_FILE_BYTES ⊎ P strings MAX_FILE_BYTES
 AsksFile (Some (OfServe how file)) P = P file MAX_FILE_BYTES
@@ -136,23 +137,23 @@ AsksFile None P = ⊥
 -- the program file that is asked or indexed, gets its index, has a table that is asked, or an index that is kept
 abbrev pub AsksProgram : Option Request → (List ℕ → Type 0) → Type 0
 AsksProgram (Some (OfFile file q)) P = P file
-AsksProgram (Some (OfIndex kind file out)) P = P file
-AsksProgram (Some (OfAdd kind file out)) P = P file
+AsksProgram (Some (OfIndex form file out)) P = P file
+AsksProgram (Some (OfAdd form file out)) P = P file
 AsksProgram (Some (OfAranges file)) P = P file
 AsksProgram (Some (OfFiles file name)) P = P file
 AsksProgram (Some (OfCached file store q)) P = P file
 AsksProgram other P = ⊥
 
--- the index of a kind of a file, to be stored under a name, alone or in the file
-abbrev pub AsksIndex : Option Request → (CacheKind → List ℕ → List ℕ → Type 0) → Type 0
-AsksIndex (Some (OfIndex kind file out)) P = P kind file out
-AsksIndex (Some (OfAdd kind file out)) P = P kind file out
+-- the index in a form of a file, to be stored under a name, alone or in the file
+abbrev pub AsksIndex : Option Request → (IndexForm → List ℕ → List ℕ → Type 0) → Type 0
+AsksIndex (Some (OfIndex form file out)) P = P form file out
+AsksIndex (Some (OfAdd form file out)) P = P form file out
 AsksIndex other P = ⊥
 
 -- nothing is to be stored
 abbrev pub StoresNothing : Option Request → Type 0
-StoresNothing (Some (OfIndex kind file out)) = ⊥
-StoresNothing (Some (OfAdd kind file out)) = ⊥
+StoresNothing (Some (OfIndex form file out)) = ⊥
+StoresNothing (Some (OfAdd form file out)) = ⊥
 StoresNothing (Some (OfCached file store q)) = ⊥
 StoresNothing other = ⊤
 

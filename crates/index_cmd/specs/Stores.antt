@@ -3,25 +3,26 @@ use Rattle.std.specs.Prelude.{◌⊎◌, Option, Some}
 use Rattle.outside.specs.Files.{Files, SameFiles, Stored, StoredOrPrefix}
 use Rattle.command_base.specs.declared.status.Status.{Status}
 use Rattle.command_base.specs.declared.status.Status.TheVariants.{Answered, StoreFault, WriteFault}
-use Rattle.index_commands.specs.Stores.{ForIndex, Keeps, KeepsPart}
-use Rattle.add_command.specs.Adds.{ForNamedProgram, OfAdded}
+use Rattle.store_commands.specs.Stores.{ForIndex, Keeps, KeepsPart}
+use Rattle.store_commands.specs.Adds.{ForNamedProgram, OfAdded}
 use Rattle.command_base.specs.Replies.{OfFileBytes}
 use Rattle.cached_command.specs.Cached.{MayKeep}
+use Rattle.index_forms.specs.Forms.{kind_of}
 use Rattle.index_cmd.specs.Requests.{Request, OfIndex, OfAdd, OfCached}
 
 -- the index is stored, or the program with its index, where that was asked for; an index that is asked may be kept; nothing else is
 -- stored
 abbrev pub IsStored : Option Request → Option Files → Option Files → Type 0
-IsStored (Some (OfIndex kind file out)) old new = ForIndex old file kind (Keeps old new out)
-IsStored (Some (OfAdd kind file out)) old new = ForNamedProgram old file kind (OfAdded kind (Stored old new out))
+IsStored (Some (OfIndex form file out)) old new = ForIndex old file form (Keeps old new out)
+IsStored (Some (OfAdd form file out)) old new = ForNamedProgram old file form (OfAdded (kind_of form) (Stored old new out))
 IsStored (Some (OfCached file store q)) old new = OfFileBytes old file (λ bytes. MayKeep old new bytes store)
 IsStored other old new = SameFiles old new
 
 -- A store of the index, or of the program with it, failed, and left this. Where an index may be kept, a store that failed changes no
 -- status.
 abbrev pub IsPartStored : Option Request → Option Files → Option Files → Type 0
-IsPartStored (Some (OfIndex kind file out)) old new = ForIndex old file kind (KeepsPart old new out)
-IsPartStored (Some (OfAdd kind file out)) old new = ForNamedProgram old file kind (OfAdded kind (StoredOrPrefix old new out))
+IsPartStored (Some (OfIndex form file out)) old new = ForIndex old file form (KeepsPart old new out)
+IsPartStored (Some (OfAdd form file out)) old new = ForNamedProgram old file form (OfAdded (kind_of form) (StoredOrPrefix old new out))
 IsPartStored other old new = ⊥
 
 -- an index that was asked may be kept, wholly or in part

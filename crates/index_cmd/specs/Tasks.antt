@@ -21,8 +21,8 @@ query_words other = []
 -- what is asked of the bytes of the file with this name
 abbrev pub request_on : List ℕ → Action → Request
 request_on file (actions.Ask q) = OfFile file (question_seen q)
-request_on file (actions.Index kind out) = OfIndex kind file out.now
-request_on file (actions.Add kind out) = OfAdd kind file out.now
+request_on file (actions.Index form out) = OfIndex form file out.now
+request_on file (actions.Add form out) = OfAdd form file out.now
 request_on file (actions.LookGdb q) = OfGdb file (question_seen q)
 request_on file (actions.LookNames look strings name) = OfNames look file strings.now name.now
 request_on file (actions.Serve how) = OfServe how file

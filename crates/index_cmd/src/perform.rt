@@ -15,13 +15,12 @@ ghost use Rattle.index_cmd.specs.Tasks.{request_on, request_seen, IsActionInBoun
 use crate::about::{HELP, VERSION};
 use crate::say::say;
 use crate::task::{Action, OnFile, Racing, Requested};
-use add_command::add_file;
 use aranges_command::aranges_file;
 use cached_command::cached_file;
 use command_base::{Status, look_gdb, read_file};
 use drill_command::run_drill;
 use files_command::list_files;
-use index_commands::{NamesLook, ask_file, index_file, look_names};
+use index_commands::{NamesLook, ask_file, look_names};
 use index_pool::Crew;
 use ix_base::MAX_FILE_BYTES;
 use outside::{Gate, Shelf, Sink, Source};
@@ -30,6 +29,7 @@ use serve_command::serve_file;
 use std::alloc::Global;
 use std::sync::Wait;
 use std::thread::Threads;
+use store_commands::{add_file, index_file};
 
 /// Does what is asked for. Of the statuses that aren't a result nothing is written here.
 pub(crate) fn perform<
@@ -91,8 +91,8 @@ fn act<R: Threads + Wait + Sync, F: Shelf, S: Source + Send, K: Sink + Send, G: 
 {
     match action {
         Action::Ask(question) => ask_file(crew, bytes, question, out),
-        Action::Index { kind, out: name } => index_file(crew, bytes, *kind, name, shelf, out),
-        Action::Add { kind, out: name } => add_file(crew, bytes, *kind, name, shelf, out),
+        Action::Index { form, out: name } => index_file(crew, bytes, *form, name, shelf, out),
+        Action::Add { form, out: name } => add_file(crew, bytes, *form, name, shelf, out),
         Action::LookGdb(question) => look_gdb(crew.alloc, bytes, question, out),
         Action::LookNames {
             look,

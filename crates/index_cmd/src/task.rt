@@ -10,7 +10,7 @@ ghost use Rattle.index_cmd.specs.Tasks.{query_words, request_on, request_seen, I
 use crate::line::{offered_gdb, offered_name};
 use command_words::{Ask, Cached, Command, LookGdb, LookNames};
 use index_commands::NamesLook;
-use index_model::CacheKind;
+use index_forms::IndexForm;
 use name_quotes::Spelling;
 use query_text::{Question, parse};
 
@@ -54,12 +54,12 @@ pub(crate) struct Racing {
 pub(crate) enum Action<'w> {
     Ask(Question<'w>),
     Index {
-        kind: CacheKind,
+        form: IndexForm,
         /// The name under which the index is stored.
         out: &'w str,
     },
     Add {
-        kind: CacheKind,
+        form: IndexForm,
         /// The name under which the program with its index is stored.
         out: &'w str,
     },
@@ -137,12 +137,12 @@ pub(crate) fn task_for<'w>(command: &Command<'w>, line: &'w [u8]) -> Option<Requ
         Command::Version => Some(Requested::Version),
         Command::Ask(words) => asked(words, line),
         Command::Index(words) => {
-            let (kind, out) = (words.kind, words.out);
-            on_file(words.file, Action::Index { kind, out })
+            let (form, out) = (words.form, words.out);
+            on_file(words.file, Action::Index { form, out })
         }
         Command::Add(words) => {
-            let (kind, out) = (words.kind, words.out);
-            on_file(words.file, Action::Add { kind, out })
+            let (form, out) = (words.form, words.out);
+            on_file(words.file, Action::Add { form, out })
         }
         Command::LookGdb(words) => looked(words, line),
         Command::LookNames(words) => looked_names(words, line),

@@ -1,3 +1,2 @@
 mod AskLaws
-mod StoreLaws
 mod HitCounts

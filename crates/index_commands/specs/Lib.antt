@@ -1,3 +1,1 @@
 pub mod NamesLooks
-pub mod Stores
-pub mod Indexes

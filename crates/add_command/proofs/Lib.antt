@@ -1,2 +1,0 @@
-pub mod AddingLaws
-pub mod KindLaws

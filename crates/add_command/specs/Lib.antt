@@ -1,3 +1,0 @@
-pub mod Adds
-pub mod Programs
-pub mod Stops

@@ -1,0 +1,4 @@
+pub mod AddingLaws
+pub mod KindLaws
+mod ByGdbLaws
+mod StoreLaws
