@@ -26,11 +26,13 @@ NO_MEMORY = 7
 
 ASK = ["ask", "--workers", "1", "FILE", "main"]
 GDB8 = ["index", "--as", "gdb8", "--workers", "1", "FILE", "OUT"]
+BY_GDB = ["index", "--as", "gdb8", "--rules", "gdb", "--workers", "1", "FILE", "OUT"]
 NAMES = ["index", "--as", "names", "--workers", "1", "FILE", "OUT"]
 LOOK_GDB = ["look", "gdb", "FILE", "name", "y"]
 LOOK_NAMES = ["look", "names", "FILE", "STRINGS", "name", "zz"]
 # Why a row may grow with the square.
 TABLES = "tables of abbreviations that overlap are read each by itself"
+TURNS = "of the tables of abbreviations one is at hand, so two that take turns are read again and again"
 TEXTS = "names that are one text are compared one by one"
 LONG = "the answer itself is that long"
 LISTS = "lists of ranges that begin inside one another are read one by one"
@@ -42,9 +44,13 @@ ROWS = [
     (programs.signatures_of_the_last, 4000, ASK, None),
     (programs.a_wide_root, 4000, ASK, None),
     (programs.tables_by_turns, 8000, ASK, None),
+    (programs.references_to_the_last, 4000, BY_GDB, None),
     (programs.chains_along_scopes, 250, ASK, None),
+    (programs.chains_along_scopes, 250, BY_GDB, None),
     (programs.deep_scopes, 2000, ASK, None),
+    (programs.deep_scopes, 2000, BY_GDB, None),
     (programs.two_tables, 8000, ASK, None),
+    (programs.two_tables, 2000, BY_GDB, TURNS),
     (programs.many_tables, 8000, ASK, TABLES),
     (programs.one_table, 8000, ASK, None),
     (programs.a_wide_abbreviation, 16000, ASK, None),
@@ -54,8 +60,10 @@ ROWS = [
     (programs.ada_names, 1000, GDB8, LONG),
     (programs.one_hash, 10000, GDB8, None),
     (programs.one_hash, 10000, NAMES, None),
+    (programs.one_hash, 10000, BY_GDB, None),
     (programs.many_names, 50000, GDB8, None),
     (programs.many_names, 50000, NAMES, None),
+    (programs.many_names, 50000, BY_GDB, None),
     (programs.ranges_of_all_units, 8000, ASK, None),
     (programs.ranges_of_all_functions, 8000, ASK, None),
     (programs.ends_of_a_list, 500, ASK, LISTS),

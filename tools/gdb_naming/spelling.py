@@ -1,16 +1,12 @@
 """How gdb spells names of C and C++ anew, as its own index of a unit made of them tells."""
 import os
-import re
 import subprocess
 import tempfile
 
-from reading import gdb_rules
 from reading.gdb_entries import GdbNames, as_stands
+from reading.gdb_rules import may_change
 from . import compare
 
-# One word stands as it is, but for these.
-WORD = re.compile(rb"[A-Za-z_][A-Za-z0-9_]*")
-ALONE = (b"signed", b"unsigned")
 HEAD = """
  .section .debug_abbrev,"",@progbits
  .byte 1,0x11,1,0x13,0x0b,0,0, 2,0x39,1,3,8,0,0, 3,0x13,0,3,8,0x0b,0x0b,0,0, 0
@@ -21,12 +17,6 @@ HEAD = """
  .byte 8, 1, 4
 """
 TAIL = " .byte 0\n9:\n"
-
-
-def may_change(language_class, name):
-    if language_class == gdb_rules.C:
-        return b" " in name or name in ALONE
-    return language_class == gdb_rules.CXX and (name in ALONE or not WORD.fullmatch(name))
 
 
 def _bytes(text):

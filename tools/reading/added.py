@@ -1,7 +1,7 @@
 """A program with sections added (gABI, ch. 4), and with its index."""
 import struct
 
-from . import limits
+from . import gdb_entries, limits
 from .gdb_index import gdb_index_bytes
 from .name_index import name_index
 from .sections import HEADER, NO_BITS, NULL, Header
@@ -18,14 +18,17 @@ class TooManySections(Exception):
     """The program would have more sections than it may."""
 
 
-def index_of_kind(program, kind):
-    """The bytes that are stored: those of the index, and the strings that it adds or None."""
+def index_of_kind(program, kind, rules):
+    """The bytes that are stored: those of the index, by gdb's rules where they are asked for, and the strings that it adds or None."""
     if kind == "names":
         return name_index(program)
-    return gdb_index_bytes(program, 9 if kind == "gdb9" else 8), None
+    version = 9 if kind == "gdb9" else 8
+    if rules:
+        return gdb_entries.gdb_index_bytes(program, version, gdb_entries.unchanged), None
+    return gdb_index_bytes(program, version), None
 
 
-def with_index(program, kind):
+def with_index(program, kind, rules):
     sections = program.sections
     name = b".debug_names" if kind == "names" else b".gdb_index"
     if sections.index_of(name) is not None:
@@ -33,7 +36,7 @@ def with_index(program, kind):
     more = 2 if kind == "names" and sections.index_of(DEBUG_STR) is None else 1
     if len(sections.headers) + more > limits.SECTIONS:
         raise TooManySections
-    index, strings = index_of_kind(program, kind)
+    index, strings = index_of_kind(program, kind, rules)
     return added(sections, [(name, index)], strings)
 
 

@@ -4,6 +4,7 @@ from .added import AlreadyIndexed, TooManySections, index_of_kind, with_index
 from .addresses import unit_at
 from .address_table import first_difference
 from .faults import Fault
+from .gdb_entries import Unspelled
 from .gdb_index import TooLarge, gdb_index_bytes
 from .gdb_index_read import GdbIndex
 from .line_tables import files_named
@@ -62,7 +63,11 @@ def _ask(task, shelf):
 
 def _index(task, shelf):
     name, out = task.files
-    index, strings = index_of_kind(_built(shelf.read(name)), task.options["--as"])
+    program = _built(shelf.read(name))
+    try:
+        index, strings = index_of_kind(program, task.options["--as"], task.options["--rules"])
+    except Unspelled:
+        raise Unread from None
     shelf.store(out, index)
     if strings is not None:
         shelf.store(out + ".debug_str", strings)
@@ -73,7 +78,9 @@ def _add(task, shelf):
     name, out = task.files
     program = _built(shelf.read(name))
     try:
-        shelf.store(out, with_index(program, task.options["--as"]))
+        shelf.store(out, with_index(program, task.options["--as"], task.options["--rules"]))
+    except Unspelled:
+        raise Unread from None
     except AlreadyIndexed:
         raise Ended(12, b"already indexed\n") from None
     except TooManySections:

@@ -6,8 +6,19 @@ from .gdb_rules import ADA, C, CXX
 from .gdb_units import GdbUnits
 
 
+class Unspelled(Exception):
+    """A name of which no reading says how gdb spells it."""
+
+
 def as_stands(_, name):
     """The spelling of a component: as the file has it."""
+    return name
+
+
+def unchanged(language_class, name):
+    """The spelling of a component that gdb doesn't change."""
+    if gdb_rules.may_change(language_class, name):
+        raise Unspelled(name)
     return name
 
 
@@ -125,6 +136,8 @@ def entries_of(program, spelled=as_stands):
 
 
 def gdb_index_bytes(program, version, spelled=as_stands):
-    """The bytes of the index of a built program by gdb's own rules."""
+    """The bytes of the index of a built program by gdb's own rules. Main stands in it where its name is listed."""
     listed = [(entry.name, entry.unit, kind, entry.static) for entry in entries_of(program, spelled) for kind in entry.kinds]
-    return gdb_index_of(program, version, listed)
+    names = {entry[0] for entry in listed}
+    main = program.main if program.main and program.main[1] in names else None
+    return gdb_index_of(program, version, listed, main)

@@ -68,20 +68,20 @@ def _slots(vectors, vector_places, name_places):
 
 def gdb_index_bytes(program, version):
     own = [entry for entry in program.entries if not entry.linkage]
-    return gdb_index_of(program, version, [(entry.name, entry.unit, entry.kind, entry.static) for entry in own])
+    return gdb_index_of(program, version, [(entry.name, entry.unit, entry.kind, entry.static) for entry in own], program.main)
 
 
-def gdb_index_of(program, version, listed):
-    """The index in which these are listed: names with their unit, kind and whether they are static."""
+def gdb_index_of(program, version, listed, main):
+    """The index with this main in which these are listed: names with their unit, kind and whether they are static."""
     numbers = index_numbers(program.units)
     vectors = _vectors(listed, numbers)
-    pool, vector_places, name_places = _pool(vectors, program.main[1] if program.main and version == 9 else None)
+    pool, vector_places, name_places = _pool(vectors, main[1] if main and version == 9 else None)
     areas = list(_unit_lists(program.units))
     areas.append(b"".join(struct.pack("<QQI", low, end, numbers[unit]) for low, end, unit in program.pieces))
     areas.append(_slots(vectors, vector_places, name_places))
     if version == 9:
-        language, name = program.main or (0, None)
-        areas.append(struct.pack("<II", language, name_places[name] if program.main else 0))
+        language, name = main or (0, None)
+        areas.append(struct.pack("<II", language, name_places[name] if main else 0))
     areas.append(pool)
     return _with_header(version, areas)
 

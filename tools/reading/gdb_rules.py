@@ -2,6 +2,8 @@
 
 They are those of gdb 13 and 16 (gdb/dwarf2/read.c, abbrev.c, cooked-index.c, index-write.c); docs/GDB.md has them in words. Where the
 two differ 16's form stands here."""
+import re
+
 from . import attributes
 from .rules import FUNCTION, OTHER, TYPE, VARIABLE
 
@@ -13,6 +15,9 @@ CLASSES = {**dict.fromkeys((0x01, 0x02, 0x0C, 0x12, 0x1D, 0x2C, 0x3E), C),
            **dict.fromkeys((0x07, 0x08, 0x0E, 0x22, 0x23, 0x2D, 0x3F), FORTRAN)}
 SEPARATORS = {CXX: b"::", RUST: b"::", D: b".", GO: b".", ADA: b"."}
 GO_COMPILER = b"GNU Go "
+# One word stands as it is, but for these.
+WORD = re.compile(rb"[A-Za-z_][A-Za-z0-9_]*")
+ALONE = (b"signed", b"unsigned")
 PRODUCER, EXTENSION = 0x25, 0x54
 
 ENTRY_POINT, ENUMERATION, IMPORTED_DECLARATION, INLINED_SUBROUTINE, MODULE = 0x03, 0x04, 0x08, 0x1D, 0x1E
@@ -30,6 +35,13 @@ NAMES = (attributes.NAME, attributes.LINKAGE_NAME, attributes.OLD_LINKAGE_NAME)
 CALLED = (SUBPROGRAM, INLINED_SUBROUTINE, ENTRY_POINT)
 # what may be declared and still gives its name to what stands in it
 DECLARED_SCOPES = (CLASS, STRUCTURE, UNION, NAMESPACE)
+
+
+def may_change(language_class, name):
+    """Whether gdb may spell a name otherwise than it stands."""
+    if language_class == C:
+        return b" " in name or name in ALONE
+    return language_class == CXX and (name in ALONE or not WORD.fullmatch(name))
 
 
 def class_of(language, producer):

@@ -7,6 +7,7 @@ from . import limits, queries
 Task = namedtuple("Task", "command options files query")
 NUMBER = re.compile(r"0|[1-9][0-9]*", re.ASCII)
 KINDS = ("gdb8", "gdb9", "names")
+GDB_RULES = "gdb"
 ALL_QUERIES = (queries.NAME, queries.SIMPLE, queries.ADDRESS, queries.MAIN, queries.CACHE)
 GDB_QUERIES = (queries.NAME, queries.ADDRESS, queries.MAIN)
 
@@ -23,16 +24,21 @@ def _kind(word):
     return word if word in KINDS else None
 
 
+def _rules(word):
+    return word if word == GDB_RULES else None
+
+
 WORKERS = ("--workers", _number(1, limits.WORKERS), 4)
 AS = ("--as", _kind, None)
+RULES = ("--rules", _rules, "")
 QUOTE = ("--quote", None, False)
 
 # Of each command its options in their order, each with how its value is read (None where it has none) and its default (None where
 # it must be there), how many file names follow, and which queries it offers.
 GRAMMAR = {
     "ask": ((WORKERS, QUOTE), 1, ALL_QUERIES),
-    "index": ((AS, WORKERS), 2, None),
-    "add": ((AS, WORKERS), 2, None),
+    "index": ((AS, RULES, WORKERS), 2, None),
+    "add": ((AS, RULES, WORKERS), 2, None),
     "aranges": ((WORKERS,), 1, None),
     "files": ((WORKERS,), 2, None),
     "cached": ((WORKERS, QUOTE), 2, GDB_QUERIES),
@@ -81,6 +87,8 @@ def task_of(words):
     if read is None:
         return None
     options, rest = read
+    if options.get("--rules") and options["--as"] == "names":
+        return None
     files, rest = rest[:file_count], rest[file_count:]
     if len(files) < file_count or not all(map(_is_file_name, files)):
         return None
