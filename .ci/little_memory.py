@@ -23,6 +23,7 @@ COMMANDS = [
     (["ask", "--workers", "4", "FILE", "main"], b""),
     (["index", "--as", "gdb8", "--workers", "2", "FILE", "OUT"], b""),
     (["index", "--as", "names", "--workers", "1", "FILE", "OUT"], b""),
+    (["index", "--as", "gdb8", "--rules", "gdb", "--workers", "2", "FILE", "OUT"], b""),
     (["add", "--as", "gdb8", "--workers", "2", "FILE", "OUT"], b""),
     (["add", "--as", "names", "--workers", "1", "FILE", "OUT"], b""),
     (["aranges", "--workers", "2", "FILE"], b""),

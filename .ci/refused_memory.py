@@ -24,6 +24,7 @@ COMMANDS = [
     (["index", "--as", "gdb8", "FILE", "OUT"], b""),
     (["index", "--as", "gdb9", "METHOD", "OUT"], b""),
     (["index", "--as", "names", "FILE", "OUT"], b""),
+    (["index", "--as", "gdb9", "--rules", "gdb", "FILE", "OUT"], b""),
     (["add", "--as", "gdb8", "FILE", "OUT"], b""),
     (["add", "--as", "names", "FILE", "OUT"], b""),
     (["aranges", "TABLE"], b""),
@@ -52,7 +53,10 @@ STORED = ("OUT", "OUT.debug_str", "kept_ab01.gdb-index")
 
 def with_workers(words, number):
     before = BEFORE_WORKERS.get(words[0])
-    return words if before is None else words[:before] + ["--workers", str(number)] + words[before:]
+    if before is None:
+        return words
+    before += 2 if "--rules" in words else 0
+    return words[:before] + ["--workers", str(number)] + words[before:]
 
 
 def run(program, shim, words, given, folder, number):

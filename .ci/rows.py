@@ -41,7 +41,7 @@ def runs_of(words):
     """The words as they stand, and with each number of workers, where they can name one and don't."""
     yield words
     if words[:1] and words[0] in BEFORE_WORKERS and "--workers" not in words:
-        before = BEFORE_WORKERS[words[0]]
+        before = BEFORE_WORKERS[words[0]] + (2 if "--rules" in words else 0)
         for number in WORKERS:
             yield words[:before] + ["--workers", str(number)] + words[before:]
 
