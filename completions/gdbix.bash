@@ -19,7 +19,7 @@ _gdbix() {
     cached) files=2 options="--workers --quote" queries="name addr main" ;;
     serve) files=1 options="--workers --wait --quote" queries="" ;;
     race) files=2 options="--workers --readers --quote" queries="" ;;
-    index | add) files=2 options="--as --workers" queries="" ;;
+    index | add) files=2 options="--as --rules --workers" queries="" ;;
     aranges) files=1 options="--workers" queries="" ;;
     files) files=1 options="--workers" queries="" ;;
     look)
@@ -39,6 +39,10 @@ _gdbix() {
     case $before in
     --as)
         _gdbix_offer "gdb8 gdb9 names" "$word"
+        return
+        ;;
+    --rules)
+        _gdbix_offer "gdb" "$word"
         return
         ;;
     --workers | --readers | --wait | --base) return ;;
