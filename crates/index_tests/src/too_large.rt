@@ -3,7 +3,7 @@
 
 ghost use Rattle.std.specs.Prelude.{◌<◌, ◌≤◌, All, IfOk, IsTrue, length};
 ghost use Rattle.query_engine.specs.Asked.{TailsFit};
-ghost use Rattle.gdbindex_write.specs.Writable.{IsInUnits};
+ghost use Rattle.gdbindex_write.specs.Writable.{HasUnit};
 ghost use Rattle.debugnames_write.specs.Conditions.{IsInside};
 
 use crate::program::{UNIT, table};
@@ -46,7 +46,7 @@ fn function<'f>(name: &'f [u8]) -> Entry<'f>
 
 // Whether each entry lies in the only unit.
 fn are_inside(units: &[Unit; 1], entries: &[Entry<'_>]) -> bool
-    ensures gdb { IsTrue result → All (IsInUnits units.now) entries.now }
+    ensures gdb { IsTrue result → All (HasUnit units.now) entries.now }
     ensures names { IsTrue result → All (IsInside units.now) entries.now }
 {
     for entry in entries {
@@ -58,7 +58,7 @@ fn are_inside(units: &[Unit; 1], entries: &[Entry<'_>]) -> bool
 }
 
 fn is_inside(units: &[Unit; 1], entry: &Entry<'_>) -> bool
-    ensures gdb { IsTrue result → IsInUnits units.now entry.now }
+    ensures gdb { IsTrue result → HasUnit units.now entry.now }
     ensures names { IsTrue result → IsInside units.now entry.now }
 {
     let [unit] = units;

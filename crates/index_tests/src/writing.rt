@@ -2,7 +2,7 @@
 
 ghost use Rattle.std.specs.Prelude.{◌≡◌, ◌<◌, ◌⊎◌, All, IsTrue, length, option_map};
 ghost use Rattle.index_model.specs.Seen.{main_seen};
-ghost use Rattle.gdbindex_write.specs.Writable.{IsInUnits, IsMainOf};
+ghost use Rattle.gdbindex_write.specs.Writable.{HasUnit, IsMainOf};
 ghost use Rattle.debugnames_write.specs.Conditions.{IsInside};
 
 use crate::program::{UNIT, table};
@@ -29,7 +29,7 @@ fn is_piece(pieces: &[UnitRange]) -> bool
 
 // Whether the only entry lies in the only unit, and has the name of main.
 fn is_main(units: &[Unit; 1], entries: &[Entry<'_>], main: Option<MainName<'_>>) -> bool
-    ensures gdb { IsTrue result → All (IsInUnits units.now) entries.now }
+    ensures gdb { IsTrue result → All (HasUnit units.now) entries.now }
     ensures names { IsTrue result → All (IsInside units.now) entries.now }
     ensures main { IsTrue result → IsMainOf entries.now (option_map main_seen main.entry) }
 {
