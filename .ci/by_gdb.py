@@ -6,6 +6,7 @@ with several numbers of workers, and compares its bytes with those of the readin
 are spelled. Then gdb itself opens the programs with these indexes and has to answer as it does without, also of 100 names of each.
 The last line is 'by gdb: N passed, M failed'."""
 import os
+import resource
 import shutil
 import subprocess
 import sys
@@ -121,6 +122,8 @@ def main():
     if not shutil.which("gdb"):
         print("by gdb: not asked, since gdb is missing")
         return 0
+    # A gdb that stops leaves no core behind.
+    resource.setrlimit(resource.RLIMIT_CORE, (0, 0))
     speller, passed, failed = spelling.Speller("gdb"), 0, 0
     with tempfile.TemporaryDirectory() as folder:
         files = ((path, path) for path in sys.argv[2:]) if sys.argv[2:] else programs.made(folder, "")
