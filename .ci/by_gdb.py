@@ -26,7 +26,7 @@ WORKERS = (1, 3, 64)
 # Of the names of a program so many are asked, evenly spread: what they are, by their kinds, and the question.
 ASKED = ((3, 60, "break"), (1, 40, "ptype"))
 # What gdb says where it finds nothing, or stops.
-LESS = ("not defined.", "No symbol", "internal-error")
+LESS = ("not defined.", "No symbol", "overlong character literal", "internal-error")
 # What gdb is asked of the programs of a compiler.
 QUESTIONS = {
     "gcc": ("break main", "info line main", "ptype struct point"),
