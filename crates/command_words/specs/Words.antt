@@ -1,6 +1,6 @@
 -- The words of a command line, each as its bytes: `ask [--workers N] [--quote] FILE QUERY`, `index --as KIND [--rules gdb] [--workers N] FILE OUT`,
 -- `look gdb [--quote] INDEX QUERY`, `look names [--base B] [--quote] INDEX STRINGS QUERY`, `aranges`, `files`, `cached`, `serve`, `race`, `drill`, `--help`, `--version`.
-use Rattle.std.specs.Prelude.{ℕ, ◌&&◌, nat_lt, ◌==◌, if◌then◌else◌, List, [], ◌∷◌, length, bytes_eq, codes, Option, Some, None, option_map, option_and_then}
+use Rattle.std.specs.Prelude.{ℕ, ◌&&◌, nat_lt, if◌then◌else◌, List, [], ◌∷◌, length, bytes_eq, codes, Option, Some, None, option_map, option_and_then}
 use Rattle.std.specs.List.{join_with_byte}
 use Rattle.command_words.specs.Numbers.{number_between}
 use Rattle.command_words.specs.DrillWords.{Drilled, drill_of}

@@ -1,4 +1,3 @@
-mod UnitLaws
 mod ProducerLaws
 mod RootLaws
 mod ImportLaws

@@ -17,7 +17,7 @@ use Rattle.gdb_units.specs.Given.{root_facts, AreOwnersOf}
 use Rattle.gdb_classes.specs.declared.by_owner.Reading.{Reading}
 use Rattle.gdb_classes.specs.Readings.{reading_of, reading_with, reading_at, own_reading}
 use Rattle.file_image.specs.Images.{Image, image_of}
-use Rattle.gdb_classes.proofs.UnitLaws.{walks_count}
+use Rattle.shard_build.proofs.WalkOfUnit.{walks_count}
 use Rattle.gdb_classes.proofs.PartLaws.{by_number}
 
 -- ---- owners

@@ -15,7 +15,7 @@ use Rattle.index_forms.specs.declared.form.GdbVersion.{GdbVersion}
 use Rattle.index_forms.specs.declared.form.GdbVersion.TheVariants.{Eight, Nine}
 use Rattle.gdb_index.specs.Indexes.{main_listed}
 use Rattle.gdb_index.proofs.EntryLaws.{have_units, main_among}
-use Rattle.gdb_index.proofs.WalkLaws.{walks_count}
+use Rattle.shard_build.proofs.WalkOfUnit.{walks_count}
 
 version_is : (version : GdbVersion) → (version_number version ≡ 8) ⊎ (version_number version ≡ 9)
 version_is Eight = inl refl

@@ -6,7 +6,6 @@ pub mod TagLaws
 pub mod ItemNameLaws
 pub mod ItemLaws
 pub mod UnitLaws
-mod WalkLaws
 mod RangeLaws
 mod TailLaws
 mod EntryLaws

@@ -12,7 +12,7 @@ use Rattle.gdb_entries.specs.Owners.{owner_of}
 use Rattle.gdb_index.specs.Listed.{listed_of}
 use Rattle.gdb_scopes.specs.Places.{ForUnit}
 use Rattle.gdb_index.specs.Ranges.{AreListed, listed_below}
-use Rattle.gdb_index.proofs.WalkLaws.{unit_with, walks_count}
+use Rattle.shard_build.proofs.WalkOfUnit.{unit_with, walks_count}
 
 -- ---- ranges
 

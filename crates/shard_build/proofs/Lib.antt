@@ -27,3 +27,4 @@ pub mod UnitNodes
 mod UnitRead
 pub mod MapLaws
 mod UnkeptLaws
+pub mod WalkOfUnit

@@ -4,7 +4,7 @@ use Rattle.std.proofs.Math.Seq.{take-length}
 use Rattle.index_model.specs.declared.shard.Import.{Import}
 use Rattle.index_model.specs.Program.{Walked}
 use Rattle.index_model.specs.ShardParts.{imports_in}
-use Rattle.gdb_classes.proofs.UnitLaws.{walks_count, unit_with}
+use Rattle.shard_build.proofs.WalkOfUnit.{walks_count, unit_with}
 use Rattle.gdb_classes.proofs.PartLaws.{flat_more}
 use Rattle.gdb_classes.proofs.imports.imports.Goals as goal
 

@@ -4,7 +4,8 @@ use Rattle.std.proofs.lemmas.Option.{same_Some}
 use Rattle.index_model.specs.Sections.{Section, section_bytes}
 use Rattle.shard_build.specs.declared.tables.AbbrevTable.{AbbrevTable}
 use Rattle.shard_build.specs.Runs.{IsAtOffset}
-use Rattle.gdb_items.proofs.UnitLaws.{has_table, is_sound, kept_there}
+use Rattle.shard_build.proofs.WalkOfUnit.{has_table, is_sound}
+use Rattle.gdb_items.proofs.UnitLaws.{kept_there}
 use Rattle.gdb_items.proofs.unit.unit_items_with.Goals as goal
 
 pub of_sound-requires-clause-sound : goal.of_sound-requires-clause-sound

@@ -3,7 +3,7 @@ use Rattle.std.proofs.Math.Seq.{take-length}
 use Rattle.index_model.specs.Program.{Walked}
 use Rattle.gdb_entries.specs.declared.language.LanguageClass.{LanguageClass}
 use Rattle.gdb_units.specs.declared.units.UnitRoot.{UnitRoot}
-use Rattle.gdb_classes.proofs.UnitLaws.{walks_count, unit_with}
+use Rattle.shard_build.proofs.WalkOfUnit.{walks_count, unit_with}
 use Rattle.gdb_classes.proofs.RootsLaws.{AreRootsTo, roots_more}
 use Rattle.gdb_classes.proofs.roots.Roots.of.Goals as goal
 

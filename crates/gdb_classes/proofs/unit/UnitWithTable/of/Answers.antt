@@ -2,7 +2,7 @@ use Rattle.std.proofs.Common.{◌≡◌, ℕ, List, ap, subst, ◌∙◌}
 use Rattle.std.specs.Prelude.{codes}
 use Rattle.index_model.specs.Sections.{Section, section_bytes}
 use Rattle.shard_build.specs.Runs.{IsAtOffset}
-use Rattle.gdb_classes.proofs.UnitLaws.{has_table, is_sound, its_own, its_sections, its_walk}
+use Rattle.shard_build.proofs.WalkOfUnit.{has_table, is_sound, its_own, its_sections, its_walk}
 use Rattle.gdb_classes.proofs.unit.UnitWithTable.of.Goals as goal
 
 pub of_sound-requires-clause-sound : goal.of_sound-requires-clause-sound

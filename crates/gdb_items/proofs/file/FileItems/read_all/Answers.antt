@@ -1,4 +1,4 @@
-use Rattle.std.proofs.Common.{◌≡◌, ◌<◌, length, Some, Ok, refl, sym, ap, subst, ◌∙◌}
+use Rattle.std.proofs.Common.{◌≡◌, ◌<◌, length, Some, Ok, refl, sym, ap, subst, ◌∙◌, arith}
 use Rattle.file_image.specs.Images.{Image}
 use Rattle.index_model.specs.Faults.{program_of}
 use Rattle.shard_build.specs.Found.{IsUnitAt}
@@ -7,7 +7,7 @@ use Rattle.gdb_items.specs.declared.which.Which.TheVariants.{All}
 use Rattle.gdb_items.specs.Items.{AreItemsOf}
 use Rattle.gdb_items.specs.Read.{items_in}
 use Rattle.gdb_items.proofs.PlaceLaws.{offsets_rise, all_there}
-use Rattle.gdb_items.proofs.UnitLaws.{unit_with}
+use Rattle.shard_build.proofs.WalkOfUnit.{unit_with}
 use Rattle.gdb_items.proofs.file.FileItems.read_all.Goals as goal
 
 pub returns-clause-value : goal.returns-clause-value
@@ -23,6 +23,7 @@ returns-clause-value c p given =
     let here = subst (λ (e : Image). AreItemsOf e.file unit read.which items) (sym c.self.view_is) c.in_ok-read.ensures.value in
     let are : AreItemsOf im.file unit All items = subst (λ (which : Which). AreItemsOf im.file unit which items) c.in_ok-read.ensures.which here in
     let w = unit_with im c.units-units.ensures.of_file p is unit within in
-    let rise = offsets_rise im.file p is All items w.0 w.1 (are p is w.0 w.1 w.2) in
+    let number : w.walk.number ≡ unit = omega (arith, w.number) in
+    let rise = offsets_rise im.file p is All items w.walk w.member (are p is w.walk w.member number) in
     let at = subst (λ f. IsUnitAt f o (Some unit)) (sym file) c.requires.unit in
-    all_there im.file p is All items o unit at are (λ d. refl) w.0 w.1 w.2 c.at.result (c.at.ensures rise)
+    all_there im.file p is All items o unit at are (λ d. refl) w.walk w.member number c.at.result (c.at.ensures rise)

@@ -1,4 +1,4 @@
--- The unit with a number, by its own bytes.
+-- The unit with a number: the walk of the program that is its own, and that its own bytes give it.
 use Rattle.std.proofs.Common.{◌≡◌, ℕ, zero, suc, ◌+◌, ◌<◌, ◌≤◌, List, [], ◌∷◌, ◌++◌, length, take, Some, Ok, sym, ap, subst, ◌∙◌, arith, refl}
 use Rattle.std.specs.Prelude.{Contains, IsSome, codes, slice_get}
 use Rattle.std.proofs.lemmas.List.{length-map}
