@@ -8,16 +8,18 @@ ghost use Rattle.index_model.specs.Program.{item_with_offset};
 ghost use Rattle.shard_build.specs.Found.{IsUnitAt};
 ghost use Rattle.gdb_entries.specs.Files.{ForProgram, HasProgram};
 ghost use Rattle.gdb_items.specs.Files.{IsItemIn, IsReadOf};
+ghost use Rattle.gdb_items.specs.Items.{AreItemsOf};
 ghost use Rattle.gdb_items.specs.declared.which.Which.TheVariants.{All};
 
 use crate::item::UnitItem;
 use crate::read_unit::ReadUnit;
+use crate::tables::ReadTables;
 use crate::unit::unit_items_with;
 use crate::which::Which;
 use file_image::Image;
 use indexmap::IndexMap;
 use ix_base::NoMemory;
-use shard_build::{AbbrevTable, unit_at};
+use shard_build::unit_at;
 use std::alloc::Global;
 use std::marker::Model;
 use std::sync::Arc;
@@ -26,17 +28,16 @@ use std::sync::Arc;
 #[derive(Drop)]
 pub struct FileItems<'s, 'f> {
     image: &'s Image<'f>,
-    at_hand: Option<AbbrevTable>,
+    tables: ReadTables,
     // What was read of units, by their numbers.
     units: IndexMap<u32, ReadUnit<'f>>,
 }
 
 impl<'s, 'f> Model for FileItems<'s, 'f> {
     ghost use Rattle.std.specs.Prelude.{codes};
-    ghost use Rattle.std.specs.Option.{ForSome};
     ghost use Rattle.file_image.specs.Images.{Image as ImageOf};
     ghost use Rattle.index_model.specs.Sections.{section_bytes};
-    ghost use Rattle.shard_build.specs.Runs.{IsAtOffset};
+    ghost use Rattle.shard_build.specs.Runs.{AreAtOffsets};
     ghost use Rattle.gdb_entries.specs.Files.{HasProgram};
     ghost use Rattle.gdb_items.specs.Files.{AreUnitsOf};
 
@@ -44,7 +45,7 @@ impl<'s, 'f> Model for FileItems<'s, 'f> {
 
     ghost view = { λ e. e.image.now };
 
-    ghost invariant = { λ e. HasProgram e.image.now.file × ForSome e.at_hand (IsAtOffset (section_bytes e.image.now.sections (codes ".debug_abbrev"))) × AreUnitsOf e.image.now.file e.units };
+    ghost invariant = { λ e. HasProgram e.image.now.file × AreAtOffsets (section_bytes e.image.now.sections (codes ".debug_abbrev")) e.tables.kept × AreUnitsOf e.image.now.file e.units };
 }
 
 impl<'s, 'f> FileItems<'s, 'f> {
@@ -55,7 +56,7 @@ impl<'s, 'f> FileItems<'s, 'f> {
     {
         FileItems {
             image,
-            at_hand: None,
+            tables: ReadTables::new(alloc, image.sections().debug_abbrev().len()),
             units: IndexMap::new(alloc),
         }
     }
@@ -120,13 +121,33 @@ impl<'s, 'f> FileItems<'s, 'f> {
         ensures value { IfOk result (IsReadOf self.old.file unit) }
         ensures kept { self.new ≡ self.old }
     {
-        let items = unit_items_with(alloc, self.image, unit, which, &mut self.at_hand)?;
+        let items = self.unit_items(alloc, unit, which)?;
         let read = ReadUnit {
             which,
             items: Arc::new(alloc, items)?,
         };
         self.units.insert(unit, read.share()?)?;
         Ok(read)
+    }
+
+    // These items of a unit, whose table of abbreviations is kept from then on.
+    fn unit_items(
+        &mut self,
+        alloc: Global,
+        unit: u32,
+        which: Which,
+    ) -> Result<Vec<UnitItem<'f>>, NoMemory>
+        requires { unit < length self.old.units }
+        ensures items { IfOk result (λ items. AreItemsOf self.old.file unit which items.items) }
+        ensures kept { self.new ≡ self.old }
+    {
+        let offset = self.image.units()[unit as usize].abbrev;
+        let mut at_hand = self.tables.take(offset);
+        let items = unit_items_with(alloc, self.image, unit, which, &mut at_hand)?;
+        if let Some(table) = at_hand {
+            self.tables.put(table)?;
+        }
+        Ok(items)
     }
 
     // The item at an offset of a unit.

@@ -10,6 +10,7 @@ mod facts;
 mod file;
 mod item;
 mod read_unit;
+mod tables;
 mod unit;
 mod which;
 
