@@ -1,5 +1,6 @@
 -- The list of entries of a file (gdb/dwarf2/read.c, index_dies; index-write.c, write_cooked_index).
-use Rattle.std.specs.Prelude.{ℕ, Bool, true, false, ◌==◌, if◌then◌else◌, List, [], ◌∷◌, ◌++◌, map, flat_map, filter, Option, Some, None, option_to_list}
+use Rattle.std.specs.Prelude.{ℕ, Bool, true, false, ◌==◌, if◌then◌else◌, List, [], ◌∷◌, ◌++◌, map, flat_map, filter, Option, Some, None, option_to_list, unwrap_or}
+use Rattle.ix_base.specs.Reading.{before_zero}
 use Rattle.index_model.specs.declared.entry.Entry.{Entry}
 use Rattle.index_model.specs.declared.entry.Kind.{Kind}
 use Rattle.index_model.specs.Meaning.{value_of}
@@ -83,9 +84,13 @@ entries_in None = []
 unfoldable pub gdb_entries : List ℕ → List Entry
 gdb_entries file = entries_in (value_of (program_of file))
 
+-- a name as an index has it: a text of an index ends at its first zero byte (GDB manual, index section format)
+abbrev pub text_of_index : List ℕ → List ℕ
+text_of_index name = unwrap_or (before_zero name) name
+
 -- an entry as an index lists it: a linkage entry stands there as others do
 abbrev pub as_listed : Entry → Entry
-as_listed e = record e { linkage = false }
+as_listed e = record e { linkage = false; name = text_of_index e.name }
 
 -- the entries as an index lists them
 abbrev pub listed : Program → List Entry

@@ -70,7 +70,7 @@ module _ (p : Program) where
 
 plainly : (name : List ℕ) (es : List Entry) → list_any (is_plainly_named name) (map as_listed es) ≡ list_any (is_named name) (map as_listed es)
 plainly name [] = refl
-plainly name (e ∷ es) = ap (λ (b : Bool). bytes_eq e.name name || b) (plainly name es)
+plainly name (e ∷ es) = ap (λ (b : Bool). bytes_eq (as_listed e).name name || b) (plainly name es)
 
 pub main_among : (es : List Entry) (m : Option Main) → IsMainOf (map as_listed es) (main_listed (map as_listed es) m)
 main_among es None = tt

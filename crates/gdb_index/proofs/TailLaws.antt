@@ -15,17 +15,18 @@ all_parts : {A B : Type 0} (P : B → Type 0) (f : A → List B) (xs : List A) �
 all_parts P f [] each = All-nil P
 all_parts P f (x ∷ xs) each = All-append P (f x) (flat_map f xs) (each x) (all_parts P f xs each)
 
+-- as it is listed, an entry has no tail above the length of its name
 abbrev Fits : Entry → Type 0
-Fits e = e.tail ≤ length e.name
+Fits e = e.tail ≤ length (as_listed e).name
 
-item_tails : (p : Program) (owner : Walked) (class : LanguageClass) (d : Located) → TailsFit (entries_of_item p owner class d)
+item_tails : (p : Program) (owner : Walked) (class : LanguageClass) (d : Located) → All Fits (entries_of_item p owner class d)
 unfolding entries_of_item
 item_tails p owner class d =
     let static = is_item_static p class d in
     all_parts Fits (λ (n : Bool × List ℕ). map (entry_as owner d static n.0 n.1) (kinds_in (kinds_of d.item.tag))) (names_of p class d)
     (λ n. All-map Fits (entry_as owner d static n.0 n.1) (kinds_in (kinds_of d.item.tag)) (λ k e lt. omega arith))
 
-unit_tails : (p : Program) (owner : Option Walked) (w : Walked) → TailsFit (entries_with p owner w)
+unit_tails : (p : Program) (owner : Option Walked) (w : Walked) → All Fits (entries_with p owner w)
 unit_tails p (Some owner) w =
     let class = own_class p owner in
     all_parts Fits (entries_of_item p owner class) (filter (is_seen p class) (located w)) (item_tails p owner class)
@@ -35,4 +36,4 @@ unit_tails p None w = All-nil Fits
 pub listed_tails : (p : Program) → TailsFit (listed p)
 unfolding entries_of
 listed_tails p =
-    All-map Fits as_listed (entries_of p) (all_parts Fits (λ w. entries_with p (owner_of p w) w) p.walks (λ w. unit_tails p (owner_of p w) w))
+    All-map (λ (e : Entry). e.tail ≤ length e.name) as_listed (entries_of p) (all_parts Fits (λ w. entries_with p (owner_of p w) w) p.walks (λ w. unit_tails p (owner_of p w) w))

@@ -15,9 +15,8 @@ use Rattle.gdb_entries.specs.Owners.{class_read, own_class, owner_of}
 use Rattle.gdb_entries.specs.Reached.{is_seen}
 use Rattle.gdb_classes.specs.declared.by_owner.Reading.{Reading}
 use Rattle.gdb_classes.specs.Readings.{reading_of}
-use Rattle.gdb_items.specs.declared.item.UnitItem.{UnitItem}
-use Rattle.gdb_items.specs.Items.{IsItemOf}
-use Rattle.gdb_scopes.specs.Places.{seen_by, seen_of}
+use Rattle.gdb_scopes.specs.declared.seen.SeenItem.{SeenItem}
+use Rattle.gdb_scopes.specs.Places.{seen_by, seen_of, IsSeenIn}
 use Rattle.gdb_scopes.proofs.AroundLaws.{StandsIn, stands_there}
 use Rattle.gdb_scopes.proofs.ScopeLaws.{told_there}
 use Rattle.gdb_scopes.proofs.UnitLaws.{class_in, class_is}
@@ -32,23 +31,23 @@ module _ (p : Program) (owner : Walked) (class : LanguageClass) (ds : List Locat
   entries es = flat_map (listed_of_item p owner class) es
 
   -- these items are still to come
-  pub record IsListedTo (now : List Entry) (items : List UnitItem) : Type 0 where
+  pub record IsListedTo (now : List Entry) (items : List SeenItem) : Type 0 where
     pub rest : List Located
     pub are : AllZip (IsLookedAt p class) items rest
     pub whole : now ++ entries rest ≡ old ++ entries ds
 
-  pub lists_none : (items : List UnitItem) → AllZip (IsLookedAt p class) items ds → IsListedTo old items
+  pub lists_none : (items : List SeenItem) → AllZip (IsLookedAt p class) items ds → IsListedTo old items
   lists_none items are = record { rest = ds; are = are; whole = refl }
 
   -- the next of them
-  record NextListed (now : List Entry) (i : UnitItem) (is : List UnitItem) : Type 0 where
+  record NextListed (now : List Entry) (i : SeenItem) (is : List SeenItem) : Type 0 where
     pub item : Located
     pub rest : List Located
     pub own : IsLookedAt p class i item
     pub are : AllZip (IsLookedAt p class) is rest
     pub whole : now ++ entries (item ∷ rest) ≡ old ++ entries ds
 
-  next : (now : List Entry) (i : UnitItem) (is : List UnitItem) → IsListedTo now (i ∷ is) → NextListed now i is
+  next : (now : List Entry) (i : SeenItem) (is : List SeenItem) → IsListedTo now (i ∷ is) → NextListed now i is
   next now i is s = by s.rest s.are s.whole
     where
       by : (rest : List Located) → AllZip (IsLookedAt p class) (i ∷ is) rest → now ++ entries rest ≡ old ++ entries ds → NextListed now i is
@@ -56,10 +55,10 @@ module _ (p : Program) (owner : Walked) (class : LanguageClass) (ds : List Locat
       by (d ∷ rest) are whole = record { item = d; rest = rest; own = are.0; are = are.1; whole = whole }
 
   -- one more of them
-  pub lists_one : (now : List Entry) (items : List UnitItem) (n : ℕ) (x : UnitItem) → n < length items → IsListedTo now (drop n items) →
+  pub lists_one : (now : List Entry) (items : List SeenItem) (n : ℕ) (x : SeenItem) → n < length items → IsListedTo now (drop n items) →
       (more : List Entry) → ((d : Located) → IsLookedAt p class (get_or items n x) d → more ≡ now ++ listed_of_item p owner class d) → IsListedTo more (drop (n + 1) items)
   lists_one now items n x lt s more add =
-      let i : UnitItem = get_or items n x in
+      let i : SeenItem = get_or items n x in
       let first : drop n items ≡ i ∷ drop (n + 1) items = rw add-one (drop-cons items n x lt) in
       let m = next now i (drop (n + 1) items) (subst (IsListedTo now) first s) in
       record {
@@ -69,8 +68,8 @@ module _ (p : Program) (owner : Walked) (class : LanguageClass) (ds : List Locat
       }
 
   -- behind the last
-  pub lists_all : (now : List Entry) (items : List UnitItem) (n : ℕ) → length items ≤ n → IsListedTo now (drop n items) → now ≡ old ++ entries ds
-  lists_all now items n le s = by s.rest (subst (λ (is : List UnitItem). AllZip (IsLookedAt p class) is s.rest) (drop_of_length-le items le) s.are) s.whole
+  pub lists_all : (now : List Entry) (items : List SeenItem) (n : ℕ) → length items ≤ n → IsListedTo now (drop n items) → now ≡ old ++ entries ds
+  lists_all now items n le s = by s.rest (subst (λ (is : List SeenItem). AllZip (IsLookedAt p class) is s.rest) (drop_of_length-le items le) s.are) s.whole
     where
       by : (rest : List Located) → AllZip (IsLookedAt p class) [] rest → now ++ entries rest ≡ old ++ entries ds → now ≡ old ++ entries ds
       by [] are whole = sym (append-nil now) ∙ whole
@@ -79,13 +78,13 @@ module _ (p : Program) (owner : Walked) (class : LanguageClass) (ds : List Locat
 -- ---- the items of a unit
 
 module _ (f : List ℕ) (p : Program) (is : program_of f ≡ Ok p) (w : Walked) (wc : Contains p.walks w) (class : LanguageClass) (read : class_read p w ≡ Some class) where
-  one_looked_at : (i : UnitItem) (d : Located) → Contains (located w) d → IsItemOf p.sections i d → IsLookedAt p class i d
+  one_looked_at : (i : SeenItem) (d : Located) → Contains (located w) d → IsSeenIn p (Some class) i d → IsLookedAt p class i d
   one_looked_at i d dc own =
       let m = of_located w d dc in
       let stands : StandsIn w d = record { home = m.0; member = m.1 } in
-      record { item = own; there = told_there f p is d.item.at d (stands_there f p is w wc d stands) i own; class_is = ap (class_read p) m.0 ∙ read }
+      record { seen = own; there = told_there f p is d.item.at d (stands_there f p is w wc d stands) i.item own.item; class_is = ap (class_read p) m.0 ∙ read }
 
-  all_looked_at : (items : List UnitItem) (ds : List Located) → ((d : Located) → Contains ds d → Contains (located w) d) → AllZip (IsItemOf p.sections) items ds → AllZip (IsLookedAt p class) items ds
+  all_looked_at : (items : List SeenItem) (ds : List Located) → ((d : Located) → Contains ds d → Contains (located w) d) → AllZip (IsSeenIn p (Some class)) items ds → AllZip (IsLookedAt p class) items ds
   all_looked_at [] [] within are = tt
   all_looked_at [] (d ∷ ds) within are = absurd are
   all_looked_at (i ∷ items) [] within are = absurd are
@@ -93,10 +92,10 @@ module _ (f : List ℕ) (p : Program) (is : program_of f ≡ Ok p) (w : Walked) 
       (one_looked_at i d (within d (contains_here d ds)) are.0, all_looked_at items ds (λ e c. within e (contains_later d ds e c)) are.1)
 
   -- those that are seen
-  pub seen_looked_at : (items : List UnitItem) → AllZip (IsItemOf p.sections) items (seen_of p w) → AllZip (IsLookedAt p class) items (filter (is_seen p class) (located w))
+  pub seen_looked_at : (items : List SeenItem) → AllZip (IsSeenIn p (class_read p w)) items (seen_of p w) → AllZip (IsLookedAt p class) items (filter (is_seen p class) (located w))
   seen_looked_at items are =
       all_looked_at items (filter (is_seen p class) (located w)) (λ d c. (of_filter (is_seen p class) (located w) d c).0)
-      (subst (λ (o : Option LanguageClass). AllZip (IsItemOf p.sections) items (seen_by p o w)) read are)
+      (subst (λ (o : Option LanguageClass). AllZip (IsSeenIn p o) items (seen_by p o w)) read are)
 
 -- ---- how the unit is read
 

@@ -6,12 +6,11 @@ use Rattle.index_model.specs.declared.entry.Entry.{Entry}
 use Rattle.index_model.specs.declared.entry.Kind.{Kind}
 use Rattle.index_model.specs.Program.{Program, Walked, Located}
 use Rattle.gdb_entries.specs.declared.language.LanguageClass.{LanguageClass}
-use Rattle.gdb_entries.specs.Entries.{as_listed, entries_of_item}
+use Rattle.gdb_entries.specs.Entries.{as_listed, entries_of_item, text_of_index}
 use Rattle.gdb_entries.specs.Kinds.{kinds_in}
 use Rattle.gdb_entries.specs.Owners.{class_read}
-use Rattle.gdb_items.specs.declared.item.UnitItem.{UnitItem}
-use Rattle.gdb_items.specs.Items.{IsItemOf}
-use Rattle.gdb_scopes.specs.Places.{IsAt}
+use Rattle.gdb_scopes.specs.declared.seen.SeenItem.{SeenItem}
+use Rattle.gdb_scopes.specs.Places.{IsAt, IsSeenIn}
 use Rattle.gdb_index.specs.declared.entries.ItemEntries.{ItemEntries}
 use Rattle.gdb_index.specs.declared.item_names.ListedNames.{ListedNames}
 
@@ -20,9 +19,9 @@ abbrev pub listed_of_item : Program → Walked → LanguageClass → Located →
 listed_of_item p owner class d = map as_listed (entries_of_item p owner class d)
 
 -- the item is this one, and stands in a unit that is read by this class
-pub record IsLookedAt (p : Program) (class : LanguageClass) (i : UnitItem) (d : Located) : Type 0 where
-  pub item : IsItemOf p.sections i d
-  pub there : IsAt p i.offset d
+pub record IsLookedAt (p : Program) (class : LanguageClass) (s : SeenItem) (d : Located) : Type 0 where
+  pub seen : IsSeenIn p (Some class) s d
+  pub there : IsAt p s.item.offset d
   pub class_is : class_read p d.home ≡ Some class
 
 -- the bytes of a name, if there is one
@@ -48,4 +47,4 @@ entry_under common name kind = record {
 
 -- those of a name, one under each kind
 abbrev pub entries_under : ItemEntries → List ℕ → List Entry
-entries_under common name = map (entry_under common name) (kinds_in (Some common.kinds))
+entries_under common name = map (entry_under common (text_of_index name)) (kinds_in (Some common.kinds))

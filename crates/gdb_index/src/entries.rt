@@ -2,13 +2,14 @@
 
 ghost use Rattle.std.specs.Prelude.{◌≡◌, ◌++◌, flat_map, option_map, option_to_list, IfOk, OnOk};
 ghost use Rattle.cxx_spelling.specs.Spelling.{spelling_bytes};
+ghost use Rattle.gdb_entries.specs.Entries.{text_of_index};
 ghost use Rattle.gdb_index.specs.Items.{entries_under, entry_under, texts_of};
 
 use crate::item_names::ListedNames;
 use cxx_spelling::SpelledName;
 use gdb_entries::Kinds;
 use index_model::{Entry, Kind, Text};
-use ix_base::NoMemory;
+use ix_base::{Cursor, NoMemory};
 use std::alloc::Global;
 
 /// What the entries of an item have in common.
@@ -91,22 +92,41 @@ impl ItemEntries {
     }
 }
 
-// A name as an entry has it.
+// A name as an index has it. No name that is formed of a file's texts is known to have a zero byte, but no clause says that none has.
 fn text_of<'f>(name: SpelledName<'f>) -> Text<'f>
-    ensures { result ≡ spelling_bytes name.entry }
+    ensures { result ≡ text_of_index (spelling_bytes name.entry) }
 {
     match name {
-        SpelledName::Lent(bytes) => Text::lent(bytes),
-        SpelledName::Owned(text) => Text::owned(text),
+        SpelledName::Lent(bytes) => Text::lent(text_of_index(bytes)),
+        SpelledName::Owned(text) => Text::owned(shortened(text)),
     }
 }
 
 // The same, with bytes of its own where those of the name are.
 fn copy_of<'f>(alloc: Global, name: &SpelledName<'f>) -> Result<Text<'f>, NoMemory>
-    ensures { IfOk result (λ text. text ≡ spelling_bytes name.now) }
+    ensures { IfOk result (λ text. text ≡ text_of_index (spelling_bytes name.now)) }
 {
     match name {
-        SpelledName::Lent(bytes) => Ok(Text::lent(bytes)),
-        SpelledName::Owned(text) => Ok(Text::owned(text.as_slice().to_vec(alloc)?)),
+        SpelledName::Lent(bytes) => Ok(Text::lent(text_of_index(bytes))),
+        SpelledName::Owned(text) => Ok(Text::owned(text_of_index(text.as_slice()).to_vec(alloc)?)),
+    }
+}
+
+// The bytes up to the first zero, in the same room.
+fn shortened(mut text: Vec<u8>) -> Vec<u8>
+    ensures { result.items ≡ text_of_index text.items }
+{
+    let length = text_of_index(text.as_slice()).len();
+    text.truncate(length);
+    text
+}
+
+// The bytes up to the first zero.
+fn text_of_index(bytes: &[u8]) -> &[u8]
+    ensures { result.now ≡ text_of_index bytes.now }
+{
+    match Cursor::new(bytes, 0).zstr() {
+        Some(text) => text,
+        None => bytes,
     }
 }

@@ -10,7 +10,7 @@ use crate::item_names::listed_names;
 use crate::names::FileNames;
 use gdb_classes::Reading;
 use gdb_entries::kinds_of;
-use gdb_items::UnitItem;
+use gdb_scopes::SeenItem;
 use index_model::Entry;
 use ix_base::NoMemory;
 use std::alloc::Global;
@@ -20,17 +20,19 @@ pub(crate) fn list_item<'f>(
     alloc: Global,
     names: &mut FileNames<'_, '_, 'f>,
     reading: Reading,
-    item: &UnitItem<'f>,
+    seen: &SeenItem<'f>,
     entries: &mut Vec<Entry<'f>>,
 ) -> Result<(), NoMemory>
-    ensures value { ForProgram names.old.file (λ p. (owner : Walked) (d : Located) → reading.owner ≡ owner.number → IsLookedAt p reading.class item.now d → OnOk result (entries.new.items ≡ entries.old.items ++ listed_of_item p owner reading.class d)) }
+    ensures value { ForProgram names.old.file (λ p. (owner : Walked) (d : Located) → reading.owner ≡ owner.number → IsLookedAt p reading.class seen.now d → OnOk result (entries.new.items ≡ entries.old.items ++ listed_of_item p owner reading.class d)) }
     ensures kept { names.new ≡ names.old }
 {
+    let item = &seen.item;
     let Some(kinds) = kinds_of(item.facts.tag) else {
         return Ok(());
     };
-    let local = names.is_static(alloc, item)?;
-    let listed = listed_names(alloc, names, reading.class, item)?;
+    let chain = names.chain(alloc, item)?;
+    let local = names.is_static(alloc, reading.class, item, &chain)?;
+    let listed = listed_names(alloc, names, reading.class, seen, &chain)?;
     let common = ItemEntries {
         unit: reading.owner,
         offset: item.offset,

@@ -1,20 +1,21 @@
 //! The names of an item as they are listed.
 
-ghost use Rattle.std.specs.Prelude.{◌≡◌, map, option_map, IfOk};
+ghost use Rattle.std.specs.Prelude.{◌≡◌, map, option_map, IfOk, Some};
 ghost use Rattle.cxx_spelling.specs.Spelling.{spelling_bytes};
 ghost use Rattle.gdb_entries.specs.Entries.{names_of, second_listed};
 ghost use Rattle.gdb_entries.specs.Names.{full_name};
-ghost use Rattle.gdb_items.specs.Items.{IsItemOf};
+ghost use Rattle.gdb_entries.specs.Owners.{class_read};
+ghost use Rattle.gdb_items.specs.Chains.{IsChainOf};
 ghost use Rattle.gdb_names.specs.Seen.{bytes_of, second_seen};
-ghost use Rattle.gdb_scopes.specs.Places.{ForItem};
+ghost use Rattle.gdb_scopes.specs.Places.{ForItem, IsSeenIn};
 ghost use Rattle.gdb_index.specs.Items.{texts_of};
 
 use crate::names::FileNames;
 use cxx_spelling::SpelledName;
 use gdb_entries::LanguageClass;
-use gdb_items::UnitItem;
+use gdb_items::Chain;
 use gdb_names::{SecondName, item_names};
-use gdb_scopes::name_of;
+use gdb_scopes::{SeenItem, name_of};
 use ix_base::NoMemory;
 use std::alloc::Global;
 
@@ -27,37 +28,38 @@ pub(crate) struct ListedNames<'f> {
     pub second: Option<SpelledName<'f>>,
 }
 
-/// The names of an item that is looked at in a unit of this class.
+/// The names of an item that is looked at in a unit of this class, and whose chain this is.
 pub(crate) fn listed_names<'f>(
     alloc: Global,
     names: &mut FileNames<'_, '_, 'f>,
     class: LanguageClass,
-    item: &UnitItem<'f>,
+    seen: &SeenItem<'f>,
+    chain: &Chain<'f>,
 ) -> Result<ListedNames<'f>, NoMemory>
-    ensures value { ForItem names.old.file item.now.offset (λ p d. IsItemOf p.sections item.now d → IfOk result (λ listed. texts_of listed ≡ map (λ n. n.1) (names_of p class d))) }
+    ensures value { ForItem names.old.file seen.now.item.offset (λ p d. IsSeenIn p (Some class) seen.now d → class_read p d.home ≡ Some class → IsChainOf p d chain.now → IfOk result (λ listed. texts_of listed ≡ map (λ n. n.1) (names_of p class d))) }
     ensures kept { names.new ≡ names.old }
 {
-    let chain = names.chain(alloc, item)?;
-    let name = name_of(class, item.facts.tag, chain.name);
-    let own = item_names(class, &item.facts, name, chain.linkage);
-    let full = full_name(alloc, names, class, item.offset, own.name)?;
+    let name = name_of(class, seen.item.facts.tag, chain.name);
+    let own = item_names(class, &seen.item.facts, name, chain.linkage);
+    let full = full_name(alloc, names, class, seen, chain, own.name)?;
     let second = second_name(alloc, class, own.second)?;
     Ok(ListedNames { full, second })
 }
 
-// The full name of the item at a joint offset, if it has a name.
+// The full name of the item, if it has a name.
 fn full_name<'f>(
     alloc: Global,
     names: &mut FileNames<'_, '_, 'f>,
     class: LanguageClass,
-    offset: u64,
+    seen: &SeenItem<'f>,
+    chain: &Chain<'f>,
     name: Option<&'f [u8]>,
 ) -> Result<Option<SpelledName<'f>>, NoMemory>
-    ensures value { ForItem names.old.file offset (λ p d. IfOk result (λ text. option_map spelling_bytes text ≡ option_map (full_name p class d) (bytes_of name.entry))) }
+    ensures value { ForItem names.old.file seen.now.item.offset (λ p d. IsSeenIn p (Some class) seen.now d → class_read p d.home ≡ Some class → IsChainOf p d chain.now → IfOk result (λ text. option_map spelling_bytes text ≡ option_map (full_name p class d) (bytes_of name.entry))) }
     ensures kept { names.new ≡ names.old }
 {
     match name {
-        Some(name) => Ok(Some(names.full_name(alloc, class, offset, name)?)),
+        Some(name) => Ok(Some(names.full_name(alloc, class, seen, chain, name)?)),
         None => Ok(None),
     }
 }

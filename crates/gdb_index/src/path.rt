@@ -1,9 +1,11 @@
 //! Along the scope path of an item.
 
-ghost use Rattle.std.specs.Prelude.{◌≡◌, ◌++◌, filter_map, map, option_map, option_to_list, IfOk, OnOk};
+ghost use Rattle.std.specs.Prelude.{◌≡◌, ◌++◌, filter_map, map, option_map, option_to_list, ℕ, IfOk, OnOk};
+ghost use Rattle.index_model.specs.Program.{Located};
+ghost use Rattle.gdb_entries.specs.Files.{ForProgram};
 ghost use Rattle.gdb_entries.specs.Names.{component};
-ghost use Rattle.gdb_entries.specs.Scopes.{scope_path};
-ghost use Rattle.gdb_scopes.specs.Places.{ForItem};
+ghost use Rattle.gdb_entries.specs.Scopes.{scope_of, scope_path};
+ghost use Rattle.gdb_scopes.specs.Places.{offset_of, IsAt};
 ghost use Rattle.gdb_index.specs.Steps.{IsStepAt};
 ghost use Rattle.gdb_index.specs.Texts.{text_bytes};
 
@@ -14,18 +16,18 @@ use ix_base::{MAX_PATH_STEPS, NoMemory};
 use std::alloc::Global;
 
 impl<'s, 'r, 'f> FileNames<'s, 'r, 'f> {
-    /// The components of the scope path of the item at a joint offset, the innermost first. There are none where the path is too long.
+    /// The components of the scope path of an item with this scope, the innermost first. There are none where the path is too long.
     pub(crate) fn components(
         &mut self,
         alloc: Global,
-        offset: u64,
+        scope: Option<u64>,
     ) -> Result<Vec<ComponentText<'f>>, NoMemory>
-        ensures value { ForItem self.old.file offset (λ p d. IfOk result (λ texts. map text_bytes texts.items ≡ filter_map (component p) (scope_path p d))) }
+        ensures value { ForProgram self.old.file (λ p. (o : ℕ) (d : Located) → IsAt p o d → scope ≡ option_map offset_of (scope_of p d) → IfOk result (λ texts. map text_bytes texts.items ≡ filter_map (component p) (scope_path p d))) }
         ensures kept { self.new ≡ self.old }
     {
         let mut texts = Vec::new(alloc);
         let mut left = MAX_PATH_STEPS;
-        let mut next = self.scope(alloc, offset)?;
+        let mut next = scope;
         while let Some(member) = next {
             if left == 0 {
                 return Ok(Vec::new(alloc));

@@ -6,24 +6,24 @@ ghost use Rattle.index_model.specs.Program.{Located, item_with_offset};
 ghost use Rattle.gdb_entries.specs.Entries.{is_item_static};
 ghost use Rattle.gdb_entries.specs.Owners.{class_read};
 ghost use Rattle.gdb_entries.specs.Scopes.{scope_of};
-ghost use Rattle.gdb_entries.specs.declared.language.LanguageClass.{LanguageClass as Class};
 ghost use Rattle.gdb_items.specs.Chains.{IsChainOf};
 ghost use Rattle.gdb_entries.specs.Files.{ForProgram};
 ghost use Rattle.gdb_items.specs.Files.{IsItemIn};
 ghost use Rattle.gdb_items.specs.Items.{IsItemOf};
-ghost use Rattle.gdb_scopes.specs.Places.{offset_of, seen_of, ForItem, ForUnit};
+ghost use Rattle.gdb_scopes.specs.Places.{offset_of, seen_of, ForItem, ForUnit, IsSeenIn};
 
 use crate::names::FileNames;
 use gdb_entries::LanguageClass;
 use gdb_items::{Chain, UnitItem};
+use gdb_scopes::SeenItem;
 use ix_base::NoMemory;
 use std::alloc::Global;
 
 impl<'s, 'r, 'f> FileNames<'s, 'r, 'f> {
     /// The items of a unit that gdb looks at, in section order. In a unit that isn't read there is none.
-    pub fn seen(&mut self, alloc: Global, unit: u32) -> Result<Vec<UnitItem<'f>>, NoMemory>
+    pub fn seen(&mut self, alloc: Global, unit: u32) -> Result<Vec<SeenItem<'f>>, NoMemory>
         requires { unit < length self.old.units }
-        ensures value { ForUnit self.old.file unit (λ p w. IfOk result (λ seen. AllZip (IsItemOf p.sections) seen.items (seen_of p w))) }
+        ensures value { ForUnit self.old.file unit (λ p w. IfOk result (λ seen. AllZip (IsSeenIn p (class_read p w)) seen.items (seen_of p w))) }
         ensures kept { self.new ≡ self.old }
     {
         self.places.seen(alloc, unit)
@@ -53,20 +53,33 @@ impl<'s, 'r, 'f> FileNames<'s, 'r, 'f> {
         self.places.class_at(offset)
     }
 
-    /// Whether the names of an item that is looked at are static: they count in its unit alone. Those of an entry point are as those of
-    /// its subprogram.
-    pub fn is_static(&mut self, alloc: Global, item: &UnitItem<'f>) -> Result<bool, NoMemory>
-        ensures value { ForItem self.old.file item.now.offset (λ p d. (class : Class) → IsItemOf p.sections item.now d → class_read p d.home ≡ Some class → IfOk result (λ is. is ≡ is_item_static p class d)) }
+    /// Whether the names of an item that is looked at in a unit of this class, and whose chain this is, are static: they count in its unit
+    /// alone. Those of an entry point are as those of its subprogram.
+    pub fn is_static(
+        &mut self,
+        alloc: Global,
+        class: LanguageClass,
+        item: &UnitItem<'f>,
+        chain: &Chain<'f>,
+    ) -> Result<bool, NoMemory>
+        ensures value { ForItem self.old.file item.now.offset (λ p d. IsItemOf p.sections item.now d → class_read p d.home ≡ Some class → IsChainOf p d chain.now → IfOk result (λ is. is ≡ is_item_static p class d)) }
         ensures kept { self.new ≡ self.old }
     {
-        self.places.is_static(alloc, item)
+        self.places.is_static(alloc, class, item, chain)
     }
 
-    /// The scope of the item at a joint offset: the joint offset of the open item that its name stands behind, if there is one.
-    pub(crate) fn scope(&mut self, alloc: Global, offset: u64) -> Result<Option<u64>, NoMemory>
-        ensures value { ForItem self.old.file offset (λ p d. IfOk result (λ scope. scope ≡ option_map offset_of (scope_of p d))) }
+    /// The scope of an item that is looked at in a unit of this class, and whose chain this is: the joint offset of the open item that its
+    /// name stands behind, if there is one.
+    pub(crate) fn scope_of(
+        &mut self,
+        alloc: Global,
+        class: LanguageClass,
+        seen: &SeenItem<'f>,
+        chain: &Chain<'f>,
+    ) -> Result<Option<u64>, NoMemory>
+        ensures value { ForItem self.old.file seen.now.item.offset (λ p d. IsSeenIn p (Some class) seen.now d → class_read p d.home ≡ Some class → IsChainOf p d chain.now → IfOk result (λ scope. scope ≡ option_map offset_of (scope_of p d))) }
         ensures kept { self.new ≡ self.old }
     {
-        self.places.scope(alloc, offset)
+        self.places.scope_of(alloc, class, seen, chain)
     }
 }

@@ -12,7 +12,7 @@ ghost use Rattle.gdb_index.specs.Listed.{listed_of};
 use crate::item::list_item;
 use crate::names::FileNames;
 use gdb_classes::Reading;
-use gdb_items::UnitItem;
+use gdb_scopes::SeenItem;
 use index_model::Entry;
 use ix_base::NoMemory;
 use std::alloc::Global;
@@ -63,7 +63,7 @@ fn list_items<'f>(
     alloc: Global,
     names: &mut FileNames<'_, '_, 'f>,
     reading: Reading,
-    items: &[UnitItem<'f>],
+    items: &[SeenItem<'f>],
     entries: &mut Vec<Entry<'f>>,
 ) -> Result<(), NoMemory>
     ensures value { ForProgram names.old.file (λ p. (owner : Walked) (ds : List Located) → reading.owner ≡ owner.number → AllZip (IsLookedAt p reading.class) items.now ds → OnOk result (entries.new.items ≡ entries.old.items ++ flat_map (listed_of_item p owner reading.class) ds)) }

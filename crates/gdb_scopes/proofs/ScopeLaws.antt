@@ -1,6 +1,6 @@
 -- Scopes, step by step.
 use Rattle.std.proofs.Common.{◌≡◌, ℕ, ◌+◌, ◌<◌, ◌≤◌, Bool, true, false, cond, eqb, not, List, [], ◌∷◌, length, drop, get_or, Option, Some, None, option_map, is_some, Ok, refl, sym, ap, subst, ◌∙◌, drop-cons, add-one}
-use Rattle.std.specs.Prelude.{filter_map, option_and_then, unwrap_or}
+use Rattle.std.specs.Prelude.{filter_map, option_and_then}
 use Rattle.std.specs.Option.{option_or}
 use Rattle.std.specs.List.{AllZip, cons_option}
 use Rattle.std.proofs.Math.ListN.{drop_of_length-le}
@@ -154,22 +154,17 @@ scope_of_subprogram p d on = ap (λ (b : Bool). cond b (option_and_then (scope_i
 
 -- ---- whether a scope is sought on the chain
 
-abbrev pub have_scopes : Option LanguageClass → Bool
-have_scopes class = unwrap_or (option_map (λ (c : LanguageClass). not (is_c c)) class) false
-
--- without names that have scopes it isn't
-pub not_sought : (p : Program) (d : Located) (class : Option LanguageClass) → have_scopes class ≡ false → None ≡ option_map offset_of (around_target p class d)
-not_sought p d None off = refl
-not_sought p d (Some class) off = by (is_c class) off
+-- where names have no scopes it isn't
+pub not_sought : (p : Program) (d : Located) (class : LanguageClass) → not (is_c class) ≡ false → None ≡ option_map offset_of (around_target p (Some class) d)
+not_sought p d class off = by (is_c class) off
   where
     by : (b : Bool) → not b ≡ false → None ≡ option_map offset_of (cond b None (first_open p (targets_of p d)))
     by true h = refl
     by false h = absurd (cc)
 
 -- else it is the open item around the first target that has one
-pub is_sought : (p : Program) (d : Located) (class : Option LanguageClass) → have_scopes class ≡ true → first_open p (targets_of p d) ≡ around_target p class d
-is_sought p d None on = absurd (cc)
-is_sought p d (Some class) on = by (is_c class) on
+pub is_sought : (p : Program) (d : Located) (class : LanguageClass) → not (is_c class) ≡ true → first_open p (targets_of p d) ≡ around_target p (Some class) d
+is_sought p d class on = by (is_c class) on
   where
     by : (b : Bool) → not b ≡ true → first_open p (targets_of p d) ≡ cond b None (first_open p (targets_of p d))
     by true h = absurd (cc)

@@ -22,7 +22,8 @@ use Rattle.gdb_items.specs.declared.which.Which.{Which}
 use Rattle.gdb_items.specs.declared.which.Which.TheVariants.{Listed, All}
 use Rattle.gdb_items.specs.Items.{keeps, kept_of, IsItemOf}
 use Rattle.gdb_scopes.specs.declared.place.Place.{Place}
-use Rattle.gdb_scopes.specs.Places.{place_of}
+use Rattle.gdb_scopes.specs.declared.seen.SeenItem.{SeenItem}
+use Rattle.gdb_scopes.specs.Places.{place_of, IsSeenIn}
 
 -- ---- what is seen is kept
 
@@ -59,27 +60,27 @@ seen_of_kept p class which w = filter_within (λ (d : Located). keeps which d.it
 -- ---- one item after the other
 
 -- some items are behind, and these with their places are still to come
-pub record IsSeenTo (p : Program) (class : LanguageClass) (ds : List Located) (seen : List UnitItem) (items : List UnitItem) (places : List Place) : Type 0 where
+pub record IsSeenTo (p : Program) (class : LanguageClass) (ds : List Located) (seen : List SeenItem) (items : List UnitItem) (places : List Place) : Type 0 where
   pub before : List Located
   pub rest : List Located
   pub whole : before ++ rest ≡ ds
   pub are : AllZip (IsItemOf p.sections) items rest
   pub placed : places ≡ map (place_of p class) rest
-  pub taken : AllZip (IsItemOf p.sections) seen (filter (is_seen p class) before)
+  pub taken : AllZip (IsSeenIn p (Some class)) seen (filter (is_seen p class) before)
 
 module _ (p : Program) (class : LanguageClass) (ds : List Located) where
-  pub sees_none : (seen items : List UnitItem) (places : List Place) → seen ≡ [] → AllZip (IsItemOf p.sections) items ds → places ≡ map (place_of p class) ds → IsSeenTo p class ds seen items places
+  pub sees_none : (seen : List SeenItem) (items : List UnitItem) (places : List Place) → seen ≡ [] → AllZip (IsItemOf p.sections) items ds → places ≡ map (place_of p class) ds → IsSeenTo p class ds seen items places
   sees_none seen items places none are placed = record {
     before = [];
     rest = ds;
     whole = refl;
     are = are;
     placed = placed;
-    taken = subst (λ (is : List UnitItem). AllZip (IsItemOf p.sections) is []) (sym none) tt;
+    taken = subst (λ (is : List SeenItem). AllZip (IsSeenIn p (Some class)) is []) (sym none) tt;
   }
 
   -- the next of them
-  pub record NextSeen (seen : List UnitItem) (i : UnitItem) (is : List UnitItem) (x : Place) (xs : List Place) : Type 0 where
+  pub record NextSeen (seen : List SeenItem) (i : UnitItem) (is : List UnitItem) (x : Place) (xs : List Place) : Type 0 where
     pub before : List Located
     pub item : Located
     pub rest : List Located
@@ -88,9 +89,9 @@ module _ (p : Program) (class : LanguageClass) (ds : List Located) where
     pub place : x ≡ place_of p class item
     pub are : AllZip (IsItemOf p.sections) is rest
     pub placed : xs ≡ map (place_of p class) rest
-    pub taken : AllZip (IsItemOf p.sections) seen (filter (is_seen p class) before)
+    pub taken : AllZip (IsSeenIn p (Some class)) seen (filter (is_seen p class) before)
 
-  next : (seen : List UnitItem) (i : UnitItem) (is : List UnitItem) (x : Place) (xs : List Place) → IsSeenTo p class ds seen (i ∷ is) (x ∷ xs) → NextSeen seen i is x xs
+  next : (seen : List SeenItem) (i : UnitItem) (is : List UnitItem) (x : Place) (xs : List Place) → IsSeenTo p class ds seen (i ∷ is) (x ∷ xs) → NextSeen seen i is x xs
   next seen i is x xs s = by s.rest s.whole s.are s.placed
     where
       by : (rest : List Located) → s.before ++ rest ≡ ds → AllZip (IsItemOf p.sections) (i ∷ is) rest → x ∷ xs ≡ map (place_of p class) rest → NextSeen seen i is x xs
@@ -100,7 +101,7 @@ module _ (p : Program) (class : LanguageClass) (ds : List Located) where
           let others : xs ≡ map (place_of p class) rest = cc in
           record { before = s.before; item = d; rest = rest; whole = whole; own = are.0; place = first; are = are.1; placed = others; taken = s.taken }
 
-  module _ (seen : List UnitItem) (i : UnitItem) (is : List UnitItem) (x : Place) (xs : List Place) (s : IsSeenTo p class ds seen (i ∷ is) (x ∷ xs)) where
+  module _ (seen : List SeenItem) (i : UnitItem) (is : List UnitItem) (x : Place) (xs : List Place) (s : IsSeenTo p class ds seen (i ∷ is) (x ∷ xs)) where
     abbrev n : NextSeen seen i is x xs
     n = next seen i is x xs s
 
@@ -110,15 +111,22 @@ module _ (p : Program) (class : LanguageClass) (ds : List Located) where
     with_one : (b : Bool) → x.is_seen ≡ b → filter (is_seen p class) (n.before ++ n.item ∷ []) ≡ filter (is_seen p class) n.before ++ cond b (n.item ∷ []) []
     with_one b is = filter-append (is_seen p class) n.before (n.item ∷ []) ∙ ap (λ (c : Bool). filter (is_seen p class) n.before ++ cond c (n.item ∷ []) []) (sym shown ∙ is)
 
-    pub sees_one : x.is_seen ≡ true → (more : List UnitItem) → more ≡ seen ++ i ∷ [] → IsSeenTo p class ds more is xs
+    -- as it is taken
+    abbrev shown_item : SeenItem
+    shown_item = record { item = i; around = x.around }
+
+    shown_is : IsSeenIn p (Some class) shown_item n.item
+    shown_is = record { item = n.own; around = ap (λ (y : Place). y.around) n.place }
+
+    pub sees_one : x.is_seen ≡ true → (more : List SeenItem) → more ≡ seen ++ (record { item = i; around = x.around }) ∷ [] → IsSeenTo p class ds more is xs
     sees_one on more push = record {
       before = n.before ++ n.item ∷ [];
       rest = n.rest;
       whole = append_assoc n.before (n.item ∷ []) n.rest ∙ n.whole;
       are = n.are;
       placed = n.placed;
-      taken = subst (λ (es : List UnitItem). AllZip (IsItemOf p.sections) es (filter (is_seen p class) (n.before ++ n.item ∷ []))) (sym push)
-          (subst (AllZip (IsItemOf p.sections) (seen ++ i ∷ [])) (sym (with_one true on)) (all_zip_append (IsItemOf p.sections) seen (filter (is_seen p class) n.before) (i ∷ []) (n.item ∷ []) n.taken (n.own, tt)));
+      taken = subst (λ (es : List SeenItem). AllZip (IsSeenIn p (Some class)) es (filter (is_seen p class) (n.before ++ n.item ∷ []))) (sym push)
+          (subst (AllZip (IsSeenIn p (Some class)) (seen ++ shown_item ∷ [])) (sym (with_one true on)) (all_zip_append (IsSeenIn p (Some class)) seen (filter (is_seen p class) n.before) (shown_item ∷ []) (n.item ∷ []) n.taken (shown_is, tt)));
     }
 
     pub passes_one : x.is_seen ≡ false → IsSeenTo p class ds seen is xs
@@ -128,15 +136,15 @@ module _ (p : Program) (class : LanguageClass) (ds : List Located) where
       whole = append_assoc n.before (n.item ∷ []) n.rest ∙ n.whole;
       are = n.are;
       placed = n.placed;
-      taken = subst (AllZip (IsItemOf p.sections) seen) (sym (with_one false off ∙ append-nil (filter (is_seen p class) n.before))) n.taken;
+      taken = subst (AllZip (IsSeenIn p (Some class)) seen) (sym (with_one false off ∙ append-nil (filter (is_seen p class) n.before))) n.taken;
     }
 
   -- behind the last
-  pub sees_all : (seen items : List UnitItem) (places : List Place) → IsSeenTo p class ds seen items places → (items ≡ []) ⊎ (places ≡ []) → AllZip (IsItemOf p.sections) seen (filter (is_seen p class) ds)
+  pub sees_all : (seen : List SeenItem) (items : List UnitItem) (places : List Place) → IsSeenTo p class ds seen items places → (items ≡ []) ⊎ (places ≡ []) → AllZip (IsSeenIn p (Some class)) seen (filter (is_seen p class) ds)
   sees_all seen items places s none = by s.rest s.whole s.are s.placed
     where
-      by : (rest : List Located) → s.before ++ rest ≡ ds → AllZip (IsItemOf p.sections) items rest → places ≡ map (place_of p class) rest → AllZip (IsItemOf p.sections) seen (filter (is_seen p class) ds)
-      by [] whole are placed = subst (λ (es : List Located). AllZip (IsItemOf p.sections) seen (filter (is_seen p class) es)) (sym (append-nil s.before) ∙ whole) s.taken
+      by : (rest : List Located) → s.before ++ rest ≡ ds → AllZip (IsItemOf p.sections) items rest → places ≡ map (place_of p class) rest → AllZip (IsSeenIn p (Some class)) seen (filter (is_seen p class) ds)
+      by [] whole are placed = subst (λ (es : List Located). AllZip (IsSeenIn p (Some class)) seen (filter (is_seen p class) es)) (sym (append-nil s.before) ∙ whole) s.taken
       by (d ∷ rest) whole are placed = ⊎_elim
           (λ (e : items ≡ []). absurd (subst (λ (is : List UnitItem). AllZip (IsItemOf p.sections) is (d ∷ rest)) e are))
           (λ (e : places ≡ []). absurd (let clash : [] ≡ map (place_of p class) (d ∷ rest) = sym e ∙ placed in cc))
@@ -144,7 +152,7 @@ module _ (p : Program) (class : LanguageClass) (ds : List Located) where
 
 -- ---- the pair at a place
 
-module _ (p : Program) (class : LanguageClass) (ds : List Located) (seen items : List UnitItem) (places : List Place) (n : ℕ) (i : UnitItem) (x : Place) where
+module _ (p : Program) (class : LanguageClass) (ds : List Located) (seen : List SeenItem) (items : List UnitItem) (places : List Place) (n : ℕ) (i : UnitItem) (x : Place) where
   abbrev later_items : List UnitItem
   later_items = drop (n + 1) items
 
@@ -159,7 +167,7 @@ module _ (p : Program) (class : LanguageClass) (ds : List Located) (seen items :
         subst (λ (ys : List Place). IsSeenTo p class ds seen (i ∷ later_items) ys) second (subst (λ (ys : List UnitItem). IsSeenTo p class ds seen ys (drop n places)) first s)
 
     -- one more, where it is seen
-    pub sees_pair : (k : ℕ) → k ≡ n + 1 → x.is_seen ≡ true → (more : List UnitItem) → more ≡ seen ++ i ∷ [] → IsSeenTo p class ds more (drop k items) (drop k places)
+    pub sees_pair : (k : ℕ) → k ≡ n + 1 → x.is_seen ≡ true → (more : List SeenItem) → more ≡ seen ++ (record { item = i; around = x.around }) ∷ [] → IsSeenTo p class ds more (drop k items) (drop k places)
     sees_pair k one on more push = subst (λ (j : ℕ). IsSeenTo p class ds more (drop j items) (drop j places)) (sym one) (sees_one p class ds seen i later_items x later_places next_pair on more push)
 
     -- where it isn't
@@ -167,7 +175,7 @@ module _ (p : Program) (class : LanguageClass) (ds : List Located) (seen items :
     passes_pair k one off = subst (λ (j : ℕ). IsSeenTo p class ds seen (drop j items) (drop j places)) (sym one) (passes_one p class ds seen i later_items x later_places next_pair off)
 
 -- behind as many as the shorter list has
-pub sees_whole : (p : Program) (class : LanguageClass) (ds : List Located) (seen items : List UnitItem) (places : List Place) (n : ℕ) → n ≡ min (length items) (length places) → IsSeenTo p class ds seen (drop n items) (drop n places) → AllZip (IsItemOf p.sections) seen (filter (is_seen p class) ds)
+pub sees_whole : (p : Program) (class : LanguageClass) (ds : List Located) (seen : List SeenItem) (items : List UnitItem) (places : List Place) (n : ℕ) → n ≡ min (length items) (length places) → IsSeenTo p class ds seen (drop n items) (drop n places) → AllZip (IsSeenIn p (Some class)) seen (filter (is_seen p class) ds)
 sees_whole p class ds seen items places n all s = sees_all p class ds seen (drop n items) (drop n places) s (⊎_elim
     (λ (gt : length places < length items). inr (drop_of_length-le places (omega (arith, gt, all))))
     (λ (le : length items ≤ length places). inl (drop_of_length-le items (omega (arith, le, all))))

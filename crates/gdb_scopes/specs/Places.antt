@@ -5,9 +5,11 @@ use Rattle.index_model.specs.Program.{Program, Walked, Located, located, item_wi
 use Rattle.gdb_entries.specs.declared.language.LanguageClass.{LanguageClass}
 use Rattle.gdb_entries.specs.Owners.{class_read}
 use Rattle.gdb_entries.specs.Reached.{is_seen, reach_of}
-use Rattle.gdb_entries.specs.Scopes.{around_in, open_around}
+use Rattle.gdb_entries.specs.Scopes.{around_by, around_in, open_around}
+use Rattle.gdb_items.specs.Items.{IsItemOf}
 use Rattle.gdb_reach.specs.Standing.{UnitRead}
 use Rattle.gdb_scopes.specs.declared.place.Place.{Place}
+use Rattle.gdb_scopes.specs.declared.seen.SeenItem.{SeenItem}
 
 -- the joint offset of an item
 abbrev pub offset_of : Located → ℕ
@@ -21,6 +23,11 @@ place_of p class d = record {
   around = option_map offset_of (around_in (reach_of p class d));
   open_around = option_map offset_of (open_around p d);
 }
+
+-- the item is told, with the open item around it where its unit is read by this class
+pub record IsSeenIn (p : Program) (class : Option LanguageClass) (s : SeenItem) (d : Located) : Type 0 where
+  pub item : IsItemOf p.sections s.item d
+  pub around : s.around ≡ option_map offset_of (around_by p class d)
 
 -- a unit as it is gone over: each item has its offset for a token
 abbrev pub unit_read : Program → LanguageClass → Walked → UnitRead

@@ -15,12 +15,13 @@ ghost use Rattle.gdb_entries.specs.Files.{ForProgram, HasProgram};
 ghost use Rattle.gdb_items.specs.Files.{IsItemIn, IsReadOf};
 ghost use Rattle.gdb_items.specs.Items.{IsItemOf};
 ghost use Rattle.gdb_items.specs.declared.which.Which.TheVariants.{All};
-ghost use Rattle.gdb_scopes.specs.Places.{place_of, seen_of, ForItem, ForUnit};
+ghost use Rattle.gdb_scopes.specs.Places.{place_of, seen_of, ForItem, ForUnit, IsSeenIn};
 ghost use Rattle.gdb_scopes.specs.Units.{IsPlaced};
 
 use crate::place::Place;
 use crate::placed::UnitPlaces;
 use crate::reading::reading_at;
+use crate::seen::SeenItem;
 use crate::unit::places_of;
 use file_image::Image;
 use gdb_classes::Reading;
@@ -71,9 +72,9 @@ impl<'s, 'r, 'f> FilePlaces<'s, 'r, 'f> {
     }
 
     /// The items of a unit that gdb looks at, in section order. In a unit that isn't read there is none.
-    pub fn seen(&mut self, alloc: Global, unit: u32) -> Result<Vec<UnitItem<'f>>, NoMemory>
+    pub fn seen(&mut self, alloc: Global, unit: u32) -> Result<Vec<SeenItem<'f>>, NoMemory>
         requires { unit < length self.old.units }
-        ensures value { ForUnit self.old.file unit (λ p w. IfOk result (λ seen. AllZip (IsItemOf p.sections) seen.items (seen_of p w))) }
+        ensures value { ForUnit self.old.file unit (λ p w. IfOk result (λ seen. AllZip (IsSeenIn p (class_read p w)) seen.items (seen_of p w))) }
         ensures kept { self.new ≡ self.old }
     {
         match self.class_of(unit) {

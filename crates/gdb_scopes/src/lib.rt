@@ -11,9 +11,11 @@ mod place;
 mod placed;
 mod reading;
 mod scope;
+mod seen;
 mod statics;
 mod tags;
 mod unit;
 
 pub use file::FilePlaces;
 pub use name::name_of;
+pub use seen::SeenItem;

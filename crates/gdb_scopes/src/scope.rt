@@ -1,6 +1,6 @@
 //! The scopes of items (gdb/dwarf2/read.c, `scan_attributes` and `recurse`; parent-map.h).
 
-ghost use Rattle.std.specs.Prelude.{◌≡◌, false, filter_map, not, option_and_then, option_map, unwrap_or, IfOk, List};
+ghost use Rattle.std.specs.Prelude.{◌≡◌, filter_map, not, option_and_then, option_map, IfOk, List, Some};
 ghost use Rattle.std.specs.List.{AllZip};
 ghost use Rattle.index_model.specs.Chains.{first};
 ghost use Rattle.index_model.specs.Program.{Located};
@@ -8,13 +8,15 @@ ghost use Rattle.gdb_entries.specs.Classes.{is_c};
 ghost use Rattle.gdb_entries.specs.Owners.{class_read};
 ghost use Rattle.gdb_entries.specs.Scopes.{around_by, around_target, open_around, scope_in_place, scope_of};
 ghost use Rattle.gdb_entries.specs.Files.{ForProgram};
+ghost use Rattle.gdb_items.specs.Chains.{IsChainOf};
 ghost use Rattle.gdb_items.specs.Items.{IsItemOf};
-ghost use Rattle.gdb_scopes.specs.Places.{offset_of, ForItem, IsAt};
+ghost use Rattle.gdb_scopes.specs.Places.{offset_of, ForItem, IsAt, IsSeenIn};
 
 use crate::file::FilePlaces;
+use crate::seen::SeenItem;
 use crate::tags::DW_TAG_ENTRY_POINT;
 use gdb_entries::LanguageClass;
-use gdb_items::UnitItem;
+use gdb_items::{Chain, UnitItem};
 use ix_base::NoMemory;
 use std::alloc::Global;
 
@@ -33,6 +35,26 @@ impl<'s, 'r, 'f> FilePlaces<'s, 'r, 'f> {
         } else {
             self.scope_in_place(alloc, &item)
         }
+    }
+
+    /// The same of an item that is looked at in a unit of this class, whose chain this is.
+    pub fn scope_of(
+        &mut self,
+        alloc: Global,
+        class: LanguageClass,
+        seen: &SeenItem<'f>,
+        chain: &Chain<'f>,
+    ) -> Result<Option<u64>, NoMemory>
+        ensures value { ForItem self.old.file seen.now.item.offset (λ p d. IsSeenIn p (Some class) seen.now d → class_read p d.home ≡ Some class → IsChainOf p d chain.now → IfOk result (λ scope. scope ≡ option_map offset_of (scope_of p d))) }
+        ensures kept { self.new ≡ self.old }
+    {
+        if seen.item.facts.tag == DW_TAG_ENTRY_POINT {
+            return self.scope(alloc, seen.item.offset);
+        }
+        if seen.around.is_some() {
+            return Ok(seen.around);
+        }
+        self.around_chain(alloc, class, chain)
     }
 
     // The scope of what stands around an entry point.
@@ -74,10 +96,26 @@ impl<'s, 'r, 'f> FilePlaces<'s, 'r, 'f> {
         ensures value { ForItem self.old.file item.now.offset (λ p d. IsItemOf p.sections item.now d → IfOk result (λ around. around ≡ option_map offset_of (around_target p (class_read p d.home) d))) }
         ensures kept { self.new ≡ self.old }
     {
-        if !names_have_scopes(self.class_at(item.offset)) {
+        let Some(class) = self.class_at(item.offset) else {
+            return Ok(None);
+        };
+        let chain = self.chain(alloc, item)?;
+        self.around_chain(alloc, class, &chain)
+    }
+
+    // The same by the chain, in a unit of this class.
+    fn around_chain(
+        &mut self,
+        alloc: Global,
+        class: LanguageClass,
+        chain: &Chain<'f>,
+    ) -> Result<Option<u64>, NoMemory>
+        ensures value { ForProgram self.old.file (λ p. (d : Located) → IsChainOf p d chain.now → IfOk result (λ around. around ≡ option_map offset_of (around_target p (Some class) d))) }
+        ensures kept { self.new ≡ self.old }
+    {
+        if !names_have_scopes(class) {
             return Ok(None);
         }
-        let chain = self.chain(alloc, item)?;
         self.first_around(alloc, chain.targets.as_slice())
     }
 
@@ -118,12 +156,9 @@ impl<'s, 'r, 'f> FilePlaces<'s, 'r, 'f> {
     }
 }
 
-// Whether a scope is sought on chains in a unit that is read by this class, if it is read. In C names have no scopes.
-fn names_have_scopes(class: Option<LanguageClass>) -> bool
-    ensures { result ≡ unwrap_or (option_map (λ c. not (is_c c)) class) false }
+// Whether a scope is sought on chains in a unit that is read by this class. In C names have no scopes.
+fn names_have_scopes(class: LanguageClass) -> bool
+    ensures { result ≡ not (is_c class) }
 {
-    match class {
-        Some(class) => class != LanguageClass::C,
-        None => false,
-    }
+    class != LanguageClass::C
 }

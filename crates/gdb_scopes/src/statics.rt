@@ -5,33 +5,35 @@ ghost use Rattle.index_model.specs.Program.{Located};
 ghost use Rattle.gdb_entries.specs.Entries.{is_item_static, is_static_around, is_static_itself};
 ghost use Rattle.gdb_entries.specs.Owners.{class_read};
 ghost use Rattle.gdb_entries.specs.Scopes.{around_by};
-ghost use Rattle.gdb_entries.specs.declared.language.LanguageClass.{LanguageClass as Class};
 ghost use Rattle.gdb_entries.specs.Files.{ForProgram};
+ghost use Rattle.gdb_items.specs.Chains.{IsChainOf};
 ghost use Rattle.gdb_items.specs.Items.{IsItemOf};
 ghost use Rattle.gdb_scopes.specs.Places.{ForItem};
 
 use crate::file::FilePlaces;
 use crate::tags::DW_TAG_ENTRY_POINT;
 use gdb_entries::{LanguageClass, is_static};
-use gdb_items::UnitItem;
+use gdb_items::{Chain, UnitItem};
 use ix_base::NoMemory;
 use std::alloc::Global;
 
 impl<'s, 'r, 'f> FilePlaces<'s, 'r, 'f> {
-    /// Whether the names of an item that is looked at are static: they count in its unit alone. Those of an entry point are as those of
-    /// its subprogram.
-    pub fn is_static(&mut self, alloc: Global, item: &UnitItem<'f>) -> Result<bool, NoMemory>
-        ensures value { ForItem self.old.file item.now.offset (λ p d. (class : Class) → IsItemOf p.sections item.now d → class_read p d.home ≡ Some class → IfOk result (λ is. is ≡ is_item_static p class d)) }
+    /// Whether the names of an item that is looked at in a unit of this class, and whose chain this is, are static: they count in its unit
+    /// alone. Those of an entry point are as those of its subprogram.
+    pub fn is_static(
+        &mut self,
+        alloc: Global,
+        class: LanguageClass,
+        item: &UnitItem<'f>,
+        chain: &Chain<'f>,
+    ) -> Result<bool, NoMemory>
+        ensures value { ForItem self.old.file item.now.offset (λ p d. IsItemOf p.sections item.now d → class_read p d.home ≡ Some class → IsChainOf p d chain.now → IfOk result (λ is. is ≡ is_item_static p class d)) }
         ensures kept { self.new ≡ self.old }
     {
-        let Some(class) = self.class_at(item.offset) else {
-            return Ok(false);
-        };
         if item.facts.tag == DW_TAG_ENTRY_POINT {
-            self.is_static_around(alloc, class, item.offset)
-        } else {
-            self.is_static_itself(alloc, class, item)
+            return self.is_static_around(alloc, class, item.offset);
         }
+        Ok(is_static(class, item.facts.tag, chain.external))
     }
 
     // Whether those of the open item around the item at a joint offset are, in a unit of this class.

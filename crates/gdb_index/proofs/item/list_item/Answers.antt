@@ -12,26 +12,29 @@ use Rattle.gdb_index.proofs.TagLaws.{tag_fits}
 use Rattle.gdb_index.proofs.item.list_item.Goals as goal
 
 pub overflow_cast-common : goal.overflow_cast-common
-overflow_cast-common c = omega (arith, tag_fits c.args.item.now.facts.tag c.in-Some.kinds (sym c.kinds_of.ensures ∙ c.in-Some.is))
+overflow_cast-common c = omega (arith, tag_fits c.args.seen.now.item.facts.tag c.in-Some.kinds (sym c.kinds_of.ensures ∙ c.in-Some.is))
 
 pub returns-in_default-clause-value : goal.returns-in_default-clause-value
 returns-in_default-clause-value c p is owner d number looked =
     let old = c.args.entries.now.items in
-    let tag = told_tag p.sections d c.args.item.now looked.item in
+    let tag = told_tag p.sections d c.args.seen.now.item looked.seen.item in
     let none : kinds_of d.item.tag ≡ None = ap (λ (t : ℕ). kinds_of t) (sym tag) ∙ sym c.kinds_of.ensures ∙ c.in_default.is in
     sym (append-nil old) ∙ ap (λ (es : List Entry). old ++ es) (sym (none_listed p owner c.args.reading.class d none))
 
 pub returns-clause-value : goal.returns-clause-value
 returns-clause-value c p is owner d number looked =
-    let i = c.args.item.now in
+    let i = c.args.seen.now.item in
     let class = c.args.reading.class in
     let kinds = c.in-Some.kinds in
-    let after : program_of c.is_static.new.self.file ≡ Ok p = ap (λ (e : Image). program_of e.file) c.is_static.ensures.kept ∙ is in
-    let tag = told_tag p.sections d i looked.item in
+    let here : program_of c.chain.new.self.file ≡ Ok p = ap (λ (e : Image). program_of e.file) c.chain.ensures.kept ∙ is in
+    let after : program_of c.is_static.new.self.file ≡ Ok p = ap (λ (e : Image). program_of e.file) c.is_static.ensures.kept ∙ here in
+    let own = looked.seen.item in
+    let told = c.in_ok-chain.ensures.value p is d own in
+    let tag = told_tag p.sections d i own in
     let some : kinds_of d.item.tag ≡ Some kinds = ap (λ (t : ℕ). kinds_of t) (sym tag) ∙ sym c.kinds_of.ensures ∙ c.in-Some.is in
-    let local = c.in_ok-local.ensures.value p is d looked.there class looked.item looked.class_is in
-    let texts = c.in_ok-listed.ensures.value p after d looked.there looked.item in
-    let common = common_told p owner class d kinds c.args.reading.owner i.offset i.facts.tag c.in_ok-local.local number looked.item.offset tag local in
+    let local = c.in_ok-local.ensures.value p here d looked.there own looked.class_is told in
+    let texts = c.in_ok-listed.ensures.value p after d looked.there looked.seen looked.class_is told in
+    let common = common_told p owner class d kinds c.args.reading.owner i.offset i.facts.tag c.in_ok-local.local number own.offset tag local in
     let same =
     ap (λ (x : ItemEntries). flat_map (entries_under x) (texts_of c.in_ok-listed.listed)) common
     ∙ ap (λ (ts : List (List ℕ)). flat_map (entries_under (common_of p owner class d kinds)) ts) texts

@@ -1,4 +1,4 @@
-use Rattle.std.proofs.Common.{◌≡◌, ℕ, ◌-◌, ◌++◌, List, Ok, Option, map, ap, ◌∙◌, arith}
+use Rattle.std.proofs.Common.{◌≡◌, ℕ, ◌-◌, ◌++◌, List, Ok, Option, map, refl, ap, ◌∙◌, arith}
 use Rattle.std.specs.Prelude.{option_to_list}
 use Rattle.file_image.specs.Images.{Image}
 use Rattle.index_model.specs.Faults.{program_of}
@@ -8,18 +8,18 @@ use Rattle.gdb_index.proofs.names.FileNames.components.Goals as goal
 
 pub loop-next-init : goal.loop-next-init
 loop-next-init c = record {
-  same = c.scope.ensures.kept;
+  same = refl;
   range = omega arith;
-  followed = λ p is d here. follow_none c.args.self.now.file p is c.args.offset d here c.new-texts.result.items c.new-texts.ensures.items c.in_ok-next.next (c.in_ok-next.ensures.value p is d here);
+  followed = λ p is o d here scope. follow_none c.args.self.now.file p is o d here c.new-texts.result.items c.new-texts.ensures.items c.args.scope scope;
 }
 
 pub loop-next-preserved : goal.loop-next-preserved
 loop-next-preserved c = record {
   same = c.step.ensures.kept ∙ c.loop-next.invariant.same;
   range = omega (arith, c.loop-next.invariant.range);
-  followed = λ p is d here.
+  followed = λ p is o d here scope.
       let f = c.args.self.now.file in
-      let s = c.loop-next.invariant.followed p is d here in
+      let s = c.loop-next.invariant.followed p is o d here scope in
       let after : program_of c.loop-next.self.file ≡ Ok p = ap (λ (e : Image). program_of e.file) c.loop-next.invariant.same ∙ is in
       let m = next_member f p is d c.loop-next.left c.loop-next.texts.items c.loop-next.next s c.in-Some.member c.in-Some.is in
       let own = c.in_ok-step.ensures.value p after m.located m.is in
@@ -29,12 +29,12 @@ loop-next-preserved c = record {
 }
 
 pub returns-then-left-eq0-clause-value : goal.returns-then-left-eq0-clause-value
-returns-then-left-eq0-clause-value c p is d here =
+returns-then-left-eq0-clause-value c p is o d here scope =
     let f = c.args.self.now.file in
-    let s = c.loop-next.invariant.followed p is d here in
+    let s = c.loop-next.invariant.followed p is o d here scope in
     let m = next_member f p is d c.loop-next.left c.loop-next.texts.items c.loop-next.next s c.in-Some.member c.in-Some.is in
     ap (map text_bytes) c.new.ensures.items ∙ follow_long f p is d c.loop-next.left c.loop-next.texts.items c.loop-next.next s c.in-Some.member m c.if-left-eq0.true
 
 pub returns-clause-value : goal.returns-clause-value
-returns-clause-value c p is d here =
-    follow_end c.args.self.now.file p is d c.loop-next.left c.loop-next.texts.items c.loop-next.next (c.loop-next.invariant.followed p is d here) c.in_default.not-Some
+returns-clause-value c p is o d here scope =
+    follow_end c.args.self.now.file p is d c.loop-next.left c.loop-next.texts.items c.loop-next.next (c.loop-next.invariant.followed p is o d here scope) c.in_default.not-Some

@@ -1,5 +1,8 @@
-use Rattle.std.proofs.Common.{◌≡◌, ◌<◌, ◌^◌}
-use Rattle.gdb_scopes.specs.Places.{ForItem}
+use Rattle.std.proofs.Common.{◌≡◌, ◌<◌, ◌^◌, ℕ, option_map}
+use Rattle.index_model.specs.Program.{Located}
+use Rattle.gdb_entries.specs.Files.{ForProgram}
+use Rattle.gdb_entries.specs.Scopes.{scope_of}
+use Rattle.gdb_scopes.specs.Places.{offset_of, IsAt}
 use Rattle.gdb_index.proofs.PathLaws.{IsFollowedTo}
 use Rattle.gdb_index.proofs.names.FileNames.components.Given as goal
 
@@ -8,7 +11,7 @@ abbrev pub invariant-loop-next : goal.invariant-loop-next
 invariant-loop-next l = record {
   same : l.self ≡ l.fn.self;
   range : l.left < 2 ^ 32;
-  followed : ForItem l.fn.self.file l.offset (λ p d. IsFollowedTo p d l.left l.texts.items l.next);
+  followed : ForProgram l.fn.self.file (λ p. (o : ℕ) (d : Located) → IsAt p o d → l.fn.scope ≡ option_map offset_of (scope_of p d) → IsFollowedTo p d l.left l.texts.items l.next);
 }
 
 abbrev pub decreases-loop-next : goal.decreases-loop-next

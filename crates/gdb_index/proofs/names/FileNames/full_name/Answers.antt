@@ -10,16 +10,16 @@ use Rattle.gdb_index.proofs.NameLaws.{alone_behind, stands_behind, wanted_bytes}
 use Rattle.gdb_index.proofs.names.FileNames.full_name.Goals as goal
 
 pub returns-in-Some-clause-value : goal.returns-in-Some-clause-value
-returns-in-Some-clause-value c p is d here =
+returns-in-Some-clause-value c p is d here own read told =
     let class = c.args.class in
     let name = c.args.name.now in
     let names = reverse (filter_map (component p) (scope_path p d)) in
     IfOk-weaker c.behind_path.result (λ (t : SpelledName). spelling_bytes t ≡ name_behind class names name) (λ (t : SpelledName). spelling_bytes t ≡ full_name p class d name)
     (λ t same. same ∙ stands_behind p class d name)
-    (c.behind_path.ensures.value p is d here)
+    (c.behind_path.ensures.value p is d here own read told)
 
 pub returns-in_ok-spelled-in-None-clause-value : goal.returns-in_ok-spelled-in-None-clause-value
-returns-in_ok-spelled-in-None-clause-value c p is d here =
+returns-in_ok-spelled-in-None-clause-value c p is d here _ _ _ =
     let class = c.args.class in
     let name = c.args.name.now in
     let names = reverse (filter_map (component p) (scope_path p d)) in
