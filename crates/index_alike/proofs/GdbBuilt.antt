@@ -35,7 +35,7 @@ use Rattle.index_model.proofs.Scans.{AreScans, program_parts}
 use Rattle.index_model.proofs.PieceLaws.{pieces_are}
 use Rattle.index_model.proofs.MaximalLaws.{pieces_are_maximal}
 use Rattle.index_model.proofs.Orders.{bytes_order, ascending_only}
-use Rattle.index_alike.specs.GdbAlike.{units_in, ReadsAlike, GdbIndex8ReadsAlike, GdbIndex9ReadsAlike}
+use Rattle.index_alike.specs.GdbAlike.{units_in, ReadsAs, GdbIndex8ReadsAlike, GdbIndex9ReadsAlike}
 use Rattle.index_alike.proofs.GdbAddresses.{IsWide}
 use Rattle.index_alike.proofs.GdbChains.{find_member}
 use Rattle.index_alike.proofs.GdbEntries.{of_each, entry_clean, main_is_of}
@@ -106,15 +106,24 @@ piece_wide rs kept p c =
     let end = kept_end u.0.range (kept u.0 u.1) in
     (omega (arith, m.some, u.2, end), omega (arith, m.some, u.2, end))
 
+-- ---- the bytes that fit
+
+pub cache_fits : (x bytes : List ℕ) → gdb_cache x ≡ GdbBytes bytes → (length x < 2 ^ 32) × (x ≡ bytes)
+cache_fits x bytes is = by (leb (length x) 4294967295) refl is
+  where
+    by : (c : Bool) → leb (length x) 4294967295 ≡ c → cond c (GdbBytes x) DoesNotFit ≡ GdbBytes bytes → (length x < 2 ^ 32) × (x ≡ bytes)
+    by true e is = (omega (arith, leb-true (length x) 4294967295 e), cc)
+    by false e is = absurd cc
+
 -- ---- the parts of an accepted file
 
-record IsMade (b : Built) : Type 0 where
+pub record IsMade (b : Built) : Type 0 where
   units : List UnitHeader
   scans : AreScans b.program.sections 0 units b.program.walks
   links : links_in b.program b.program.walks ≡ Ok b.links
   ranges : all_ranges b.program b.links ≡ Ok b.ranges
 
-is_made : (file : List ℕ) (b : Built) → built_of file ≡ Ok b → IsMade b
+pub is_made : (file : List ℕ) (b : Built) → built_of file ≡ Ok b → IsMade b
 unfolding built_of links_of
 is_made file b is =
     let p = bind_ok (program_of file) _ b is in
@@ -122,6 +131,13 @@ is_made file b is =
     let r = bind_ok (all_ranges p.0 k.0) _ b k.2 in
     let parts = program_parts file p.0 p.1 in
     subst IsMade (same_ok {E = Fault} (record { program = p.0; links = k.0; ranges = r.0 }) b r.2) (record { units = parts.0; scans = parts.3; links = k.1; ranges = r.1 })
+
+-- entries and a main of an accepted file, with which an index can be read; a file without units has none
+pub record AreReadable (b : Built) (entries : List Entry) (main : Option Main) : Type 0 where
+  pub clean : (name : List ℕ) → Contains (index_names entries) name → HasNoZero name
+  pub main_is : AreMain (pool_of (units_in b) entries) main
+  pub no_entries : b.program.walks ≡ [] → entries ≡ []
+  pub no_main : b.program.walks ≡ [] → main ≡ None
 
 module _ (b : Built) (made : IsMade b) where
   abbrev own_units : List UnitHeader
@@ -150,16 +166,9 @@ module _ (b : Built) (made : IsMade b) where
       let named : Contains (index_names own_entries) m.name = subst (λ (n : List ℕ). Contains (index_names own_entries) n) i.named (is_named own_entries i.entry i.there i.plain) in
       record { some = i.some; low = i.low; named = subst (λ (ns : List (List ℕ)). Contains ns m.name) (sym (names_of_pool own_units own_entries)) named }
 
-  main_is : AreMain (pool_of own_units own_entries) own_main
-  main_is = main_there own_main refl
-
-  fit : 0 < length own_units → Fit own_units own_pieces own_entries own_main
-  fit some = record {
-    some = some;
-    wide = λ k d lt. piece_wide b.ranges (all_kept b.program b.links b.ranges made.ranges) (get_or own_pieces k d) (Contains-get_or own_pieces k d lt);
-    clean = names_clean;
-    main_is = main_is;
-  }
+  -- main's language
+  pub language_fits : (m : Main) → own_main ≡ Some m → (0 < m.language) × (m.language < 2 ^ 16)
+  language_fits m e = let i = main_is_of b.program made.units made.scans b.links m e in (i.some, i.low)
 
   -- ---- a file without units
 
@@ -178,13 +187,24 @@ module _ (b : Built) (made : IsMade b) where
   unfolding entries_of
   no_entries none = ap (λ (ks : List Link). entries_of b.program ks) none
 
-  no_main : b.links ≡ [] → own_main ≡ None
+  main_of_none : b.links ≡ [] → own_main ≡ None
   unfolding main_of main_in
-  no_main none = ap (λ (ks : List Link). main_of b.program ks) none
+  main_of_none none = ap (λ (ks : List Link). main_of b.program ks) none
+
+  pub no_main : b.program.walks ≡ [] → own_main ≡ None
+  no_main none = main_of_none (no_links none)
 
   no_pieces : b.ranges ≡ [] → own_pieces ≡ []
   unfolding pieces between ascending
   no_pieces none = ap (λ (rs : List UnitRange). pieces rs) none
+
+  own : AreReadable b own_entries own_main
+  own = record {
+    clean = names_clean;
+    main_is = main_there own_main refl;
+    no_entries = λ none. no_entries (no_links none);
+    no_main = no_main;
+  }
 
 empty_8 : Reads [] [] [] None (gdb_index_bytes [] [] None [] 8)
 unfolding gdb_index_bytes pool_of index_names ascending distinct symbol_table slot_count slots_of slots_behind gdb_index areas version_of offsets_from areas_at whole_items is_table_size shortcut_at vector unit_at
@@ -204,43 +224,49 @@ empty_9 = record {
   main_is = refl;
 }
 
-module _ (b : Built) (made : IsMade b) where
-  abbrev bytes_of : ℕ → List ℕ
-  bytes_of version = gdb_index_bytes (units_in b) (pieces b.ranges) (main_of b.program b.links) (entries_in b) version
+-- the bytes of an index of these entries with this main
+abbrev pub bytes_with : Built → List Entry → Option Main → ℕ → List ℕ
+bytes_with b entries main version = gdb_index_bytes (units_in b) (pieces b.ranges) main entries version
 
+module _ (b : Built) (made : IsMade b) (entries : List Entry) (main : Option Main) (are : AreReadable b entries main) where
   abbrev IsRead : ℕ → Option Main → Type 0
-  IsRead version main = Reads (units_in b) (pieces b.ranges) (entries_in b) main (bytes_of version)
+  IsRead version said = Reads (units_in b) (pieces b.ranges) entries said (bytes_with b entries main version)
 
-  without_units : (version : ℕ) → length (units_in b) ≡ 0 → Reads [] [] [] None (gdb_index_bytes [] [] None [] version) → Reads (units_in b) (pieces b.ranges) (entries_in b) None (bytes_of version)
+  fit : 0 < length (units_in b) → Fit (units_in b) (pieces b.ranges) entries main
+  fit some = record {
+    some = some;
+    wide = λ k d lt. piece_wide b.ranges (all_kept b.program b.links b.ranges made.ranges) (get_or (pieces b.ranges) k d) (Contains-get_or (pieces b.ranges) k d lt);
+    clean = are.clean;
+    main_is = are.main_is;
+  }
+
+  without_units : (version : ℕ) → length (units_in b) ≡ 0 → Reads [] [] [] None (gdb_index_bytes [] [] None [] version) → IsRead version None
   without_units version none empty =
       let walks = no_walks b made b.program.walks none in
-      let links = no_links b made walks in
       let us : units_in b ≡ [] = nil_from_length (units_in b) none in
       let ps = no_pieces b made (no_ranges b made walks) in
-      let es = no_entries b made links in
-      let m = no_main b made links in
-      subst (λ (us : List UnitHeader). Reads us (pieces b.ranges) (entries_in b) None (gdb_index_bytes us (pieces b.ranges) (main_of b.program b.links) (entries_in b) version)) (sym us)
-      (subst (λ (ps : List UnitRange). Reads [] ps (entries_in b) None (gdb_index_bytes [] ps (main_of b.program b.links) (entries_in b) version)) (sym ps)
-      (subst (λ (m : Option Main). Reads [] [] (entries_in b) None (gdb_index_bytes [] [] m (entries_in b) version)) (sym m)
-      (subst (λ (es : List Entry). Reads [] [] es None (gdb_index_bytes [] [] None es version)) (sym es) empty)))
+      subst (λ (us : List UnitHeader). Reads us (pieces b.ranges) entries None (gdb_index_bytes us (pieces b.ranges) main entries version)) (sym us)
+      (subst (λ (ps : List UnitRange). Reads [] ps entries None (gdb_index_bytes [] ps main entries version)) (sym ps)
+      (subst (λ (m : Option Main). Reads [] [] entries None (gdb_index_bytes [] [] m entries version)) (sym (are.no_main walks))
+      (subst (λ (es : List Entry). Reads [] [] es None (gdb_index_bytes [] [] None es version)) (sym (are.no_entries walks)) empty)))
 
-  read_8 : length (bytes_of 8) < 2 ^ 32 → IsRead 8 None
+  read_8 : length (bytes_with b entries main 8) < 2 ^ 32 → IsRead 8 None
   read_8 small = by (length (units_in b)) refl
     where
       by : (n : ℕ) → length (units_in b) ≡ n → IsRead 8 None
       by zero e = without_units 8 e empty_8
-      by (suc n) e = reads_8 (units_in b) (pieces b.ranges) (entries_in b) (main_of b.program b.links) (fit b made (omega (arith, e))) small
+      by (suc n) e = reads_8 (units_in b) (pieces b.ranges) entries main (fit (omega (arith, e))) small
 
-  read_9 : length (bytes_of 9) < 2 ^ 32 → IsRead 9 (main_of b.program b.links)
+  read_9 : length (bytes_with b entries main 9) < 2 ^ 32 → IsRead 9 main
   read_9 small = by (length (units_in b)) refl
     where
-      by : (n : ℕ) → length (units_in b) ≡ n → IsRead 9 (main_of b.program b.links)
-      by zero e = subst (IsRead 9) (sym (no_main b made (no_links b made (no_walks b made b.program.walks e)))) (without_units 9 e empty_9)
-      by (suc n) e = reads_9 (units_in b) (pieces b.ranges) (entries_in b) (main_of b.program b.links) (fit b made (omega (arith, e))) small
+      by : (n : ℕ) → length (units_in b) ≡ n → IsRead 9 main
+      by zero e = subst (IsRead 9) (sym (are.no_main (no_walks b made b.program.walks e))) (without_units 9 e empty_9)
+      by (suc n) e = reads_9 (units_in b) (pieces b.ranges) entries main (fit (omega (arith, e))) small
 
   -- read over lists, and so over the file
-  alike : (version : ℕ) (main : Option Main) → (main >>=? λ m. cond (leb m.language 65535) (Some m) None) ≡ main → IsRead version main → ReadsAlike b main (bytes_of version)
-  alike version main fits r = record {
+  alike : (version : ℕ) (said : Option Main) → (said >>=? λ m. cond (leb m.language 65535) (Some m) None) ≡ said → IsRead version said → ReadsAs b entries said (bytes_with b entries main version)
+  alike version said fits r = record {
     index = r.index;
     is = r.is;
     hits = r.answers.hits;
@@ -248,26 +274,25 @@ module _ (b : Built) (made : IsMade b) where
     main_is = ap (λ (o : Option Main). o >>=? λ m. cond (leb m.language 65535) (Some m) None) r.main_is ∙ fits;
   }
 
--- ---- the bytes that fit
+  -- the index of version 8 and that of version 9, where it isn't too large
+  pub reads_as_8 : (bytes : List ℕ) → gdb_cache (bytes_with b entries main 8) ≡ GdbBytes bytes → ReadsAs b entries None bytes
+  reads_as_8 bytes cache =
+      let fits = cache_fits (bytes_with b entries main 8) bytes cache in
+      subst (ReadsAs b entries None) fits.1 (alike 8 None refl (read_8 fits.0))
 
-pub cache_fits : (x bytes : List ℕ) → gdb_cache x ≡ GdbBytes bytes → (length x < 2 ^ 32) × (x ≡ bytes)
-cache_fits x bytes is = by (leb (length x) 4294967295) refl is
-  where
-    by : (c : Bool) → leb (length x) 4294967295 ≡ c → cond c (GdbBytes x) DoesNotFit ≡ GdbBytes bytes → (length x < 2 ^ 32) × (x ≡ bytes)
-    by true e is = (omega (arith, leb-true (length x) 4294967295 e), cc)
-    by false e is = absurd cc
+  pub reads_as_9 : (bytes : List ℕ) → gdb_cache (bytes_with b entries main 9) ≡ GdbBytes bytes → ReadsAs b entries main bytes
+  reads_as_9 bytes cache =
+      let fits = cache_fits (bytes_with b entries main 9) bytes cache in
+      subst (ReadsAs b entries main) fits.1 (alike 9 main (main_reads (units_in b) entries main are.main_is) (read_9 fits.0))
 
 pub alike_8 : GdbIndex8ReadsAlike
 unfolding cache_in cache_of
 alike_8 file b bytes is cache =
     let made = is_made file b is in
-    let fits = cache_fits (bytes_of b made 8) bytes cache in
-    subst (ReadsAlike b None) fits.1 (alike b made 8 None refl (read_8 b made fits.0))
+    reads_as_8 b made (entries_in b) (main_of b.program b.links) (own b made) bytes cache
 
 pub alike_9 : GdbIndex9ReadsAlike
 unfolding cache_in cache_of
 alike_9 file b bytes is cache =
     let made = is_made file b is in
-    let fits = cache_fits (bytes_of b made 9) bytes cache in
-    let main : Option Main = main_of b.program b.links in
-    subst (ReadsAlike b main) fits.1 (alike b made 9 main (main_reads (units_in b) (entries_in b) main (main_is b made)) (read_9 b made fits.0))
+    reads_as_9 b made (entries_in b) (main_of b.program b.links) (own b made) bytes cache

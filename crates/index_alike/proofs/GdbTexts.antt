@@ -1,14 +1,16 @@
 -- Texts without a zero.
-use Rattle.std.proofs.Common.{◌≡◌, ℕ, zero, suc, ◌-◌, ◌<◌, ◌≤◌, Bool, true, false, not, ◌&&◌, cond, eqb, List, [], ◌∷◌, ◌++◌, length, get_or, take, drop, position, Option, Some, None, refl, sym, ap, ◌∙◌, subst, arith}
+use Rattle.std.proofs.Common.{◌≡◌, ℕ, zero, suc, ◌-◌, ◌<◌, ◌≤◌, Bool, true, false, not, ◌&&◌, cond, eqb, List, [], ◌∷◌, ◌++◌, length, get_or, take, drop, position, Option, Some, None, unwrap_or, refl, sym, ap, ◌∙◌, subst, arith}
 use Rattle.std.specs.Prelude.{flat_map, filter_map, reverse, codes, All, ⊤, ◌==◌}
-use Rattle.std.specs.List.{list_all, join_by, cons_option, onto_first, AllByRecursion, suffix_len}
+use Rattle.std.specs.List.{list_all, join_by, cons_option, onto_first, position_or_len, AllByRecursion, suffix_len}
 use Rattle.std.proofs.lemmas.Bool.{and_parts, and_from}
 use Rattle.std.proofs.lemmas.List.{take-append-drop, get_or-reverse, length-reverse, length-take-le, get_or-take}
 use Rattle.std.proofs.lemmas.List.Elements.{All-from_recursion, recursion_from_All, All-append, All-cons, All-nil}
 use Rattle.std.proofs.lemmas.List.Folds.{list_all-append}
 use Rattle.std.proofs.lemmas.List.Quantifiers.{position-Some}
+use Rattle.std.proofs.lemmas.List.Sums.{fails_before_first}
+use Rattle.std.proofs.lemmas.Grind.{common_steps}
 use Rattle.std.proofs.lemmas.Option.{same_Some}
-use Rattle.ix_base.specs.Reading.{before_zero}
+use Rattle.ix_base.specs.Reading.{before_zero, ◌>>=◌ as ◌>>=?◌}
 use Rattle.index_model.specs.declared.rules.Class.{Class}
 use Rattle.index_model.specs.declared.rules.Class.TheVariants.{C, Cxx, Ada, Plain}
 use Rattle.index_model.specs.AdaNames.{pieces, shortened, is_coded, is_line, decoded, without_prefix, without_number, before_digits}
@@ -43,6 +45,23 @@ before_clean bytes text e =
     let p = position-Some (λ b. b == 0) bytes b.0 0 b.1 in
     let size : length (take b.0 bytes) ≡ b.0 = length-take-le b.0 bytes (omega (arith, p.0)) in
     subst HasNoZero (same_Some (take b.0 bytes) text b.2) (none_passes (take b.0 bytes) (λ k lt. ap (λ (n : ℕ). eqb n 0) (get_or-take b.0 bytes k 0 (omega (arith, lt, size))) ∙ p.2 k (omega (arith, lt, size))))
+
+-- what stands before the first zero, or all where there is none
+pub prefix_clean : (text : List ℕ) → HasNoZero (unwrap_or (before_zero text) text)
+prefix_clean text = by (before_zero text) refl
+  where
+    none_found : position (λ b. b == 0) text ≡ None → length text ≤ position_or_len (λ b. b == 0) text
+    none_found at = grind (arith, common_steps)
+
+    none_at : (o : Option ℕ) → position (λ b. b == 0) text ≡ o → (o >>=? λ k. Some (take k text)) ≡ None → HasNoZero text
+    none_at (Some k) at e = absurd cc
+    none_at None at e =
+        let end : length text ≤ position_or_len (λ b. b == 0) text = none_found at in
+        none_passes text (λ k lt. fails_before_first (λ b. b == 0) text k 0 (omega (arith, end, lt)))
+
+    by : (o : Option (List ℕ)) → before_zero text ≡ o → HasNoZero (unwrap_or o text)
+    by (Some front) e = before_clean text front e
+    by None e = none_at (position (λ b. b == 0) text) refl e
 
 -- ---- pieces and joins
 

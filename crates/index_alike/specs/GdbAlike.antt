@@ -17,15 +17,19 @@ use Rattle.index_model.specs.GdbIndexRead.{GdbIndex, gdb_index, gdb_index_hits, 
 abbrev pub units_in : Built → List UnitHeader
 units_in b = map (λ w. w.unit) b.program.walks
 
--- the bytes are an index without a fault, which answers as the accepted file does and says this main
-pub record ReadsAlike (b : Built) (main : Option Main) (bytes : List ℕ) : Type 0 where
+-- the bytes are an index without a fault, which answers of these entries of the accepted file and of its addresses, and says this main
+pub record ReadsAs (b : Built) (entries : List Entry) (main : Option Main) (bytes : List ℕ) : Type 0 where
   pub index : GdbIndex
   pub is : gdb_index bytes ≡ Ok index
   -- of each name the ascending distinct elements of the entries that have it and aren't linkage entries
-  pub hits : (name : List ℕ) → gdb_index_hits index name ≡ vector (units_in b) (entries_in b) name
+  pub hits : (name : List ℕ) → gdb_index_hits index name ≡ vector (units_in b) entries name
   -- of each address the number that the unit at the address has in the index
   pub numbers : (a : ℕ) → number_at index a ≡ option_map (index_number (units_in b)) (unit_at b.ranges a)
   pub main_is : main_name index ≡ main
+
+-- it answers as the file does
+abbrev pub ReadsAlike : Built → Option Main → List ℕ → Type 0
+ReadsAlike b main bytes = ReadsAs b (entries_in b) main bytes
 
 -- the index of a kind, of an accepted file, where it isn't too large
 abbrev ReadsAlikeOf : CacheKind → (Built → Option Main) → Type 0
