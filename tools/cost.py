@@ -32,7 +32,7 @@ LOOK_GDB = ["look", "gdb", "FILE", "name", "y"]
 LOOK_NAMES = ["look", "names", "FILE", "STRINGS", "name", "zz"]
 # Why a row may grow with the square.
 TABLES = "tables of abbreviations that overlap are read each by itself"
-TURNS = "of the tables of abbreviations one is at hand, so two that take turns are read again and again"
+TURNS = "of the tables of abbreviations one is at hand for roots, so two that take turns are read again and again"
 TEXTS = "names that are one text are compared one by one"
 LONG = "the answer itself is that long"
 LISTS = "lists of ranges that begin inside one another are read one by one"

@@ -137,7 +137,8 @@ def entries_of(program, spelled=as_stands):
 
 def gdb_index_bytes(program, version, spelled=as_stands):
     """The bytes of the index of a built program by gdb's own rules. Main stands in it where its name is listed."""
-    listed = [(entry.name, entry.unit, kind, entry.static) for entry in entries_of(program, spelled) for kind in entry.kinds]
+    # A text of an index ends at its first zero byte.
+    listed = [(entry.name.partition(b"\0")[0], entry.unit, kind, entry.static) for entry in entries_of(program, spelled) for kind in entry.kinds]
     names = {entry[0] for entry in listed}
     main = program.main if program.main and program.main[1] in names else None
     return gdb_index_of(program, version, listed, main)
