@@ -1,6 +1,7 @@
 -- Chains, target by target.
 use Rattle.std.proofs.Common.{◌≡◌, ℕ, zero, suc, ◌+◌, ◌-◌, ◌<◌, Bool, true, false, cond, ◌||◌, List, [], ◌∷◌, ◌++◌, length, Option, Some, None, refl, sym, ap, subst, ◌∙◌, arith, append_assoc, append-nil, length-append}
-use Rattle.std.specs.Prelude.{filter_map, option_and_then, option_map, IfOk, Result, Ok, Err}
+use Rattle.std.specs.Prelude.{filter_map, is_some, option_and_then, option_map, IfOk, Result, Ok, Err}
+use Rattle.std.specs.Borrow.{Bor}
 use Rattle.std.specs.Option.{option_or}
 use Rattle.std.specs.List.{list_any, cons_option}
 use Rattle.std.proofs.lemmas.List.Elements.{filter_map-append}
@@ -11,6 +12,7 @@ use Rattle.index_model.specs.Chains.{first}
 use Rattle.index_model.specs.Program.{Program, Located, item_with_offset}
 use Rattle.index_model.specs.References.{target_of}
 use Rattle.index_model.specs.Sections.{Section}
+use Rattle.index_model.specs.Strings.{own_linkage_name}
 use Rattle.gdb_entries.specs.Chains.{facts_of, origin_of, next_of, with_others, targets_from, targets_of, linkage_of, is_external, is_scoped}
 use Rattle.gdb_entries.specs.declared.item.ItemFacts.{ItemFacts}
 use Rattle.gdb_entries.specs.Rules.{gives_scope_alone}
@@ -110,19 +112,19 @@ module _ (p : Program) (d : Located) (c : Chain) (last : UnitItem) (h : IsFollow
 
 -- where each target is followed what is told of these is what the chain gives
 pub chain_told : (p : Program) (d : Located) (c : Chain) → gives_scope_alone (facts_of d.item) ≡ false → IsToldOf p.sections d (targets_from MAX_CHAIN_HOPS p d) c → IsChainOf p d c
-unfolding targets_of linkage_of is_external is_scoped
+unfolding targets_of is_external is_scoped
 chain_told p d c off told = by (sym (ap (λ (b : Bool). cond b [] (targets_from MAX_CHAIN_HOPS p d)) off))
   where
     by : targets_from MAX_CHAIN_HOPS p d ≡ targets_of p d → IsChainOf p d c
-    by same = let here = subst (λ (es : List Located). IsToldOf p.sections d es c) same told in record { name = here.name; linkage = here.linkage; external = here.external; scoped = here.scoped; targets = here.targets }
+    by same = let here = subst (λ (es : List Located). IsToldOf p.sections d es c) same told in record { name = here.name; external = here.external; scoped = here.scoped; targets = here.targets }
 
 -- of one that gives scope alone the chain is the item
 pub scope_told : (p : Program) (d : Located) (c : Chain) → gives_scope_alone (facts_of d.item) ≡ true → IsToldOf p.sections d [] c → IsChainOf p d c
-unfolding targets_of linkage_of is_external is_scoped
+unfolding targets_of is_external is_scoped
 scope_told p d c on told = by (sym (ap (λ (b : Bool). cond b [] (targets_from MAX_CHAIN_HOPS p d)) on))
   where
     by : [] ≡ targets_of p d → IsChainOf p d c
-    by same = let here = subst (λ (es : List Located). IsToldOf p.sections d es c) same told in record { name = here.name; linkage = here.linkage; external = here.external; scoped = here.scoped; targets = here.targets }
+    by same = let here = subst (λ (es : List Located). IsToldOf p.sections d es c) same told in record { name = here.name; external = here.external; scoped = here.scoped; targets = here.targets }
 
 -- ---- an item that was sought
 
@@ -159,3 +161,53 @@ or_false false = refl
 pub told_in : {E : Type 0} (p : Program) (d : Located) → gives_scope_alone (facts_of d.item) ≡ false → (r : Result Chain E) → IfOk r (IsToldOf p.sections d (targets_from MAX_CHAIN_HOPS p d)) → IfOk r (IsChainOf p d)
 told_in p d off (Ok c) told = chain_told p d c off told
 told_in p d off (Err e) told = tt
+
+-- ---- linkage names
+
+pub none_of : {X Y : Type 0} (f : X → Y) (o : Option X) → is_some o ≡ false → None ≡ option_map f o
+none_of f None e = refl
+none_of f (Some x) e = absurd cc
+
+first_of : {B : Type 0} (o : Option B) (ys : List B) → first (cons_option o ys) ≡ option_or o (first ys)
+first_of None ys = refl
+first_of (Some y) ys = refl
+
+module _ (p : Program) (d : Located) where
+  -- the first linkage name of an item and n targets of its chain at most
+  abbrev pub linkage_to : ℕ → Option (List ℕ)
+  linkage_to n = first (filter_map (own_linkage_name p.sections) (d ∷ targets_from n p d))
+
+  -- its own is first
+  pub linkage_own : {X : Type 0} (f : X → List ℕ) (n : ℕ) (own : Option X) → option_map f own ≡ own_linkage_name p.sections d → is_some own ≡ true → option_map f own ≡ linkage_to n
+  linkage_own f n None is h = absurd cc
+  linkage_own f n (Some x) is h = ap (λ (o : Option (List ℕ)). option_or o (first (filter_map (own_linkage_name p.sections) (targets_from n p d)))) is ∙ sym (first_of (own_linkage_name p.sections d) (filter_map (own_linkage_name p.sections) (targets_from n p d)))
+
+  -- without targets there is no other
+  pub linkage_last : (n : ℕ) (own : Option (List ℕ)) → own ≡ own_linkage_name p.sections d → n ≡ 0 → own ≡ linkage_to n
+  linkage_last n own is none = is ∙ sym (first_one (own_linkage_name p.sections d)) ∙ ap (λ (es : List Located). first (filter_map (own_linkage_name p.sections) (d ∷ es))) (sym (ap (λ (k : ℕ). targets_from k p d) none ∙ no_hops p d))
+
+  -- it is that of the targets where it has none itself
+  pub linkage_behind : (n m : ℕ) (e : Located) → None ≡ own_linkage_name p.sections d → next_of p d ≡ Some e → n ≡ suc m → linkage_to n ≡ first (filter_map (own_linkage_name p.sections) (e ∷ targets_from m p e))
+  linkage_behind n m e none some more =
+      first_of (own_linkage_name p.sections d) (filter_map (own_linkage_name p.sections) (targets_from n p d))
+      ∙ ap (λ (o : Option (List ℕ)). option_or o (first (filter_map (own_linkage_name p.sections) (targets_from n p d)))) (sym none)
+      ∙ ap (λ (es : List Located). first (filter_map (own_linkage_name p.sections) es)) (ap (λ (k : ℕ). targets_from k p d) more ∙ one_behind p m d e some)
+
+  pub no_linkage_behind : (n : ℕ) → None ≡ own_linkage_name p.sections d → next_of p d ≡ None → None ≡ linkage_to n
+  no_linkage_behind n none end =
+      none ∙ sym (first_one (own_linkage_name p.sections d))
+      ∙ ap (λ (es : List Located). first (filter_map (own_linkage_name p.sections) (d ∷ es))) (sym (nothing_behind p n d end))
+
+  -- of one that gives scope alone it is its own
+  pub linkage_alone : gives_scope_alone (facts_of d.item) ≡ true → own_linkage_name p.sections d ≡ linkage_of p d
+  unfolding linkage_of targets_of
+  linkage_alone on = sym (ap (λ (b : Bool). first (filter_map (own_linkage_name p.sections) (d ∷ cond b [] (targets_from MAX_CHAIN_HOPS p d)))) on ∙ first_one (own_linkage_name p.sections d))
+
+  -- elsewhere each target is followed
+  linkage_whole : gives_scope_alone (facts_of d.item) ≡ false → linkage_to MAX_CHAIN_HOPS ≡ linkage_of p d
+  unfolding linkage_of targets_of
+  linkage_whole off = sym (ap (λ (b : Bool). first (filter_map (own_linkage_name p.sections) (d ∷ cond b [] (targets_from MAX_CHAIN_HOPS p d)))) off)
+
+  pub linkage_in : {E : Type 0} → gives_scope_alone (facts_of d.item) ≡ false → (r : Result (Option (Bor (List ℕ))) E) → IfOk r (λ l. option_map (λ b. b.now) l ≡ linkage_to MAX_CHAIN_HOPS) → IfOk r (λ l. option_map (λ b. b.now) l ≡ linkage_of p d)
+  linkage_in off (Ok l) is = is ∙ linkage_whole off
+  linkage_in off (Err e) is = tt

@@ -1,7 +1,13 @@
+mod ProducerLaws
+mod RootLaws
+mod ImportLaws
+mod PartLaws
+mod RootsLaws
+mod ReadingLaws
 mod NamingLaws
+mod TextLaws
 mod ItemLaws
 mod ReadLaws
-mod UnitLaws
 mod PlaceLaws
 mod ChainLaws
 mod SharedLaws

@@ -5,14 +5,13 @@ use Rattle.index_model.specs.Attributes.{has_external, has_enum_class}
 use Rattle.index_model.specs.Chains.{first}
 use Rattle.index_model.specs.Program.{Program, Located}
 use Rattle.index_model.specs.Sections.{Section}
-use Rattle.index_model.specs.Strings.{own_name, own_linkage_name}
-use Rattle.gdb_entries.specs.Chains.{targets_of, first_name, linkage_of, is_external, is_scoped}
+use Rattle.index_model.specs.Strings.{own_name}
+use Rattle.gdb_entries.specs.Chains.{targets_of, first_name, is_external, is_scoped}
 use Rattle.gdb_items.specs.declared.chain.Chain.{Chain}
 
 -- what is told of a chain of these targets behind an item
 pub record IsToldOf (ss : List Section) (d : Located) (passed : List Located) (c : Chain) : Type 0 where
   pub name : option_map (λ b. b.now) c.name ≡ first (filter_map (own_name ss) (d ∷ passed))
-  pub linkage : option_map (λ b. b.now) c.linkage ≡ first (filter_map (own_linkage_name ss) (d ∷ passed))
   pub external : c.external ≡ list_any (λ e. has_external e.item) (d ∷ passed)
   pub scoped : c.scoped ≡ list_any (λ e. has_enum_class e.item) (d ∷ passed)
   pub targets : c.targets.items ≡ map (λ e. e.item.at) passed
@@ -20,7 +19,6 @@ pub record IsToldOf (ss : List Section) (d : Located) (passed : List Located) (c
 -- what is told is what the chain of the item gives
 pub record IsChainOf (p : Program) (d : Located) (c : Chain) : Type 0 where
   pub name : option_map (λ b. b.now) c.name ≡ first_name p d
-  pub linkage : option_map (λ b. b.now) c.linkage ≡ linkage_of p d
   pub external : c.external ≡ is_external p d
   pub scoped : c.scoped ≡ is_scoped p d
   pub targets : c.targets.items ≡ map (λ e. e.item.at) (targets_of p d)

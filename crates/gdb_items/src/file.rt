@@ -3,18 +3,20 @@
 //! A unit is read once there is need of it, and what may be listed of it is kept. Where an offset is that of something else, or of no
 //! item, the unit is read once more, and all its items are kept from then on.
 
-ghost use Rattle.std.specs.Prelude.{◌≡◌, ◌<◌, length, IfOk, IfSome, Some};
+ghost use Rattle.std.specs.Prelude.{◌≡◌, ◌<◌, length, option_map, IfOk, IfSome, Some};
 ghost use Rattle.index_model.specs.Program.{item_with_offset};
 ghost use Rattle.shard_build.specs.Found.{IsUnitAt};
 ghost use Rattle.gdb_entries.specs.Files.{ForProgram, HasProgram};
 ghost use Rattle.gdb_items.specs.Files.{IsItemIn, IsReadOf};
 ghost use Rattle.gdb_items.specs.Items.{AreItemsOf};
+ghost use Rattle.gdb_items.specs.Texts.{text_told};
 ghost use Rattle.gdb_items.specs.declared.which.Which.TheVariants.{All};
 
 use crate::item::UnitItem;
 use crate::read_unit::ReadUnit;
 use crate::tables::ReadTables;
-use crate::unit::unit_items_with;
+use crate::text::ItemText;
+use crate::unit::unit_items;
 use crate::which::Which;
 use file_image::Image;
 use indexmap::IndexMap;
@@ -28,16 +30,15 @@ use std::sync::Arc;
 #[derive(Drop)]
 pub struct FileItems<'s, 'f> {
     image: &'s Image<'f>,
-    tables: ReadTables,
+    tables: ReadTables<'f>,
     // What was read of units, by their numbers.
     units: IndexMap<u32, ReadUnit<'f>>,
 }
 
 impl<'s, 'f> Model for FileItems<'s, 'f> {
-    ghost use Rattle.std.specs.Prelude.{codes};
+    ghost use Rattle.std.specs.Prelude.{◌≡◌, codes};
     ghost use Rattle.file_image.specs.Images.{Image as ImageOf};
     ghost use Rattle.index_model.specs.Sections.{section_bytes};
-    ghost use Rattle.shard_build.specs.Runs.{AreAtOffsets};
     ghost use Rattle.gdb_entries.specs.Files.{HasProgram};
     ghost use Rattle.gdb_items.specs.Files.{AreUnitsOf};
 
@@ -45,7 +46,7 @@ impl<'s, 'f> Model for FileItems<'s, 'f> {
 
     ghost view = { λ e. e.image.now };
 
-    ghost invariant = { λ e. HasProgram e.image.now.file × AreAtOffsets (section_bytes e.image.now.sections (codes ".debug_abbrev")) e.tables.kept × AreUnitsOf e.image.now.file e.units };
+    ghost invariant = { λ e. HasProgram e.image.now.file × e.tables ≡ section_bytes e.image.now.sections (codes ".debug_abbrev") × AreUnitsOf e.image.now.file e.units };
 }
 
 impl<'s, 'f> FileItems<'s, 'f> {
@@ -56,7 +57,7 @@ impl<'s, 'f> FileItems<'s, 'f> {
     {
         FileItems {
             image,
-            tables: ReadTables::new(alloc, image.sections().debug_abbrev().len()),
+            tables: ReadTables::new(alloc, image.sections().debug_abbrev()),
             units: IndexMap::new(alloc),
         }
     }
@@ -86,6 +87,15 @@ impl<'s, 'f> FileItems<'s, 'f> {
             },
             None => None,
         }
+    }
+
+    /// The bytes of a text of an item of the file, borrowed from the file. An empty text is none.
+    pub(crate) fn text(&self, text: ItemText<'f>) -> Option<&'f [u8]>
+        ensures { ForProgram self.now.file (λ p. option_map (λ b. b.now) result ≡ text_told p.sections text.entry) }
+    {
+        // The sections are those of the image's file.
+        let _units = self.image.units();
+        text.bytes(self.image.sections())
     }
 
     /// What is read of a unit: the items that may be listed, or all where there was need of more.
@@ -130,7 +140,7 @@ impl<'s, 'f> FileItems<'s, 'f> {
         Ok(read)
     }
 
-    // These items of a unit, whose table of abbreviations is kept from then on.
+    // These items of a unit.
     fn unit_items(
         &mut self,
         alloc: Global,
@@ -141,13 +151,7 @@ impl<'s, 'f> FileItems<'s, 'f> {
         ensures items { IfOk result (λ items. AreItemsOf self.old.file unit which items.items) }
         ensures kept { self.new ≡ self.old }
     {
-        let offset = self.image.units()[unit as usize].abbrev;
-        let mut at_hand = self.tables.take(offset);
-        let items = unit_items_with(alloc, self.image, unit, which, &mut at_hand)?;
-        if let Some(table) = at_hand {
-            self.tables.put(table)?;
-        }
-        Ok(items)
+        unit_items(alloc, self.image, unit, which, &mut self.tables)
     }
 
     // The item at an offset of a unit.

@@ -5,15 +5,16 @@ ghost use Rattle.index_model.specs.Attributes.{has_enum_class};
 ghost use Rattle.index_model.specs.ShardParts.{as_next};
 ghost use Rattle.index_model.specs.Strings.{Texts as TextsMeant};
 ghost use Rattle.shard_build.specs.Kept.{target_by};
-ghost use Rattle.shard_build.specs.Texts.{texts_by, texts_seen, HoldsTexts};
+ghost use Rattle.shard_build.specs.Texts.{texts_by, HoldsTexts};
 ghost use Rattle.gdb_entries.specs.Chains.{facts_of, origin_of};
-ghost use Rattle.gdb_items.specs.Items.{texts_told};
+ghost use Rattle.gdb_items.specs.Texts.{texts_told};
 
 use crate::facts::{facts_of, origin_of};
+use crate::text::{ItemText, UnreadTexts};
 use dwarf_codes::attribute::DW_AT_enum_class;
 use entry_scan::Item;
 use gdb_entries::ItemFacts;
-use shard_build::{ItemTexts, UnitInFile};
+use shard_build::UnitInFile;
 
 /// An item as gdb's rules ask of it.
 #[derive(Clone, Copy)]
@@ -28,10 +29,10 @@ pub struct UnitItem<'f> {
     /// The joint offset that its specification, else its abstract origin, else its extension names, if it names one (DWARF 5,
     /// sections 2.13.2, 3.3.8.1 and 3.2.2). Nothing says that an item begins there.
     pub origin: Option<u64>,
-    /// Its own name, borrowed from the file. An empty one is none.
-    pub name: Option<&'f [u8]>,
-    /// Its own linkage name, borrowed from the file. An empty one is none.
-    pub linkage: Option<&'f [u8]>,
+    /// Its own name.
+    pub name: ItemText<'f>,
+    /// Its own linkage name.
+    pub linkage: ItemText<'f>,
 }
 
 impl<'f> UnitItem<'f> {
@@ -45,9 +46,9 @@ impl<'f> UnitItem<'f> {
         ensures facts { result.facts ≡ facts_of entry.now }
         ensures scoped { result.scoped ≡ has_enum_class entry.now }
         ensures origin { result.origin ≡ option_and_then (target_by home.now.sections.now (home.now.number, home.now.unit)) (option_map as_next (origin_of entry.now)) }
-        ensures texts { (t : TextsMeant) → texts_by home.now.sections.now base home.now.unit.wide entry.now ≡ Ok t → texts_told result ≡ t }
+        ensures texts { (t : TextsMeant) → texts_by home.now.sections.now base home.now.unit.wide entry.now ≡ Ok t → texts_told home.now.sections.now result.name result.linkage ≡ t }
     {
-        let texts = sound_texts(home, base, entry);
+        let texts = UnreadTexts::of(home, base, entry);
         UnitItem {
             offset: entry.offset(),
             depth: entry.depth(),
@@ -68,17 +69,5 @@ fn origin(home: &UnitInFile<'_, '_>, entry: &Item<'_>) -> Option<u64>
     match origin_of(entry) {
         Some(reference) => home.target(reference),
         None => None,
-    }
-}
-
-// The texts of an entry without a fault.
-fn sound_texts<'f>(home: &UnitInFile<'_, 'f>, base: Option<u64>, entry: &Item<'_>) -> ItemTexts<'f>
-    requires texts { HoldsTexts home.now.bytes.now home.now.unit entry.now }
-    requires sound { (t : TextsMeant) × (texts_by home.now.sections.now base home.now.unit.wide entry.now ≡ Ok t) }
-    ensures { (t : TextsMeant) → texts_by home.now.sections.now base home.now.unit.wide entry.now ≡ Ok t → texts_seen result ≡ t }
-{
-    match home.texts(base, entry) {
-        Ok(texts) => texts,
-        Err(_) => unreachable!(),
     }
 }

@@ -18,7 +18,7 @@ of-requires-clause-texts c =
     let d = c.in-Ok-Some.entry in
     let given = subst (λ (o : Option Read). GivesItem c.loop-entry.walk c.next.new.self (Ok o)) c.in-Ok-Some.field-0-is c.in-Ok-Some.ensures.value in
     let member = is_of_unit home.sections.now w c.args.which c.loop-entry.items.items c.loop-entry.walk c.loop-entry.invariant d c.next.new.self given.items in
-    holds_texts home.sections.now u w walk home.bytes.now c.requires.own d member
+    holds_texts home.sections.now u w walk home.bytes.now c.requires.within.own d member
 
 pub of-requires-clause-sound : goal.of-requires-clause-sound
 of-requires-clause-sound c =

@@ -1,20 +1,18 @@
 use Rattle.std.proofs.Common.{◌≡◌, ℕ, List, Option, Bool, ◌||◌, ◌∷◌, ◌++◌, [], rules, sym, ap, ◌∙◌}
-use Rattle.std.specs.Prelude.{option_map}
 use Rattle.std.specs.Option.{option_or}
 use Rattle.std.proofs.lemmas.List.{map-append}
 use Rattle.index_model.specs.Attributes.{has_external, has_enum_class}
 use Rattle.index_model.specs.Program.{Located}
-use Rattle.index_model.specs.Strings.{own_name, own_linkage_name}
-use Rattle.gdb_items.proofs.ChainLaws.{both, external_is, map_or, first_more, any_more}
+use Rattle.index_model.specs.Strings.{own_name}
+use Rattle.gdb_items.proofs.ChainLaws.{both, external_is, first_more, any_more}
 use Rattle.gdb_items.proofs.chain.Chain.add.Goals as goal
 
 pub returns-clause-told : goal.returns-clause-told
-returns-clause-told c ss d e passed was h =
+returns-clause-told c ss d e passed was h named =
     let external : c.if-self.self ≡ (c.args.self.now.external || c.args.target.now.facts.external) = search rules in
     let scoped : c.if-self-2.self ≡ (c.args.self.now.scoped || c.args.target.now.scoped) = search rules in
     record {
-      name = ap (λ o. option_map (λ b. b.now) o) c.or-self.ensures ∙ map_or (λ b. b.now) c.args.self.now.name c.args.target.now.name ∙ both (λ (x y : Option (List ℕ)). option_or x y) was.name h.name ∙ sym (first_more (own_name ss) (d ∷ passed) e);
-      linkage = ap (λ o. option_map (λ b. b.now) o) c.or-self-2.ensures ∙ map_or (λ b. b.now) c.args.self.now.linkage c.args.target.now.linkage ∙ both (λ (x y : Option (List ℕ)). option_or x y) was.linkage h.linkage ∙ sym (first_more (own_linkage_name ss) (d ∷ passed) e);
+      name = named ∙ ap (λ (x : Option (List ℕ)). option_or x (own_name ss e)) was.name ∙ sym (first_more (own_name ss) (d ∷ passed) e);
       external = external ∙ both (λ (x y : Bool). x || y) was.external (external_is ss c.args.target.now e h) ∙ sym (any_more (λ (l : Located). has_external l.item) (d ∷ passed) e);
       scoped = scoped ∙ both (λ (x y : Bool). x || y) was.scoped h.scoped ∙ sym (any_more (λ (l : Located). has_enum_class l.item) (d ∷ passed) e);
       targets = c.push.ensures.items ∙ both (λ (xs ys : List ℕ). xs ++ ys) was.targets (ap (λ (o : ℕ). o ∷ []) h.offset) ∙ sym (map-append (λ (l : Located). l.item.at) passed (e ∷ []));

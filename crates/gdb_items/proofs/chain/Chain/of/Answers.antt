@@ -1,12 +1,11 @@
 use Rattle.std.proofs.Common.{sym, ◌∙◌}
-use Rattle.index_model.specs.Strings.{own_name, own_linkage_name}
+use Rattle.index_model.specs.Strings.{own_name}
 use Rattle.gdb_items.proofs.ChainLaws.{external_is, first_one, or_false}
 use Rattle.gdb_items.proofs.chain.Chain.of.Goals as goal
 
 pub returns-clause-told : goal.returns-clause-told
-returns-clause-told c ss d h = record {
-  name = h.name ∙ sym (first_one (own_name ss d));
-  linkage = h.linkage ∙ sym (first_one (own_linkage_name ss d));
+returns-clause-told c ss d h named = record {
+  name = named ∙ sym (first_one (own_name ss d));
   external = external_is ss c.args.item.now d h ∙ or_false _;
   scoped = h.scoped ∙ or_false _;
   targets = c.new.ensures;

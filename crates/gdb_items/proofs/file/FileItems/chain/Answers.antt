@@ -7,7 +7,7 @@ use Rattle.gdb_items.proofs.file.FileItems.chain.Goals as goal
 pub returns-then-gives_scope_alone-clause-value : goal.returns-then-gives_scope_alone-clause-value
 returns-then-gives_scope_alone-clause-value c p is d h =
     let on = ap (λ (f : ItemFacts). gives_scope_alone f) (sym h.facts) ∙ sym c.gives_scope_alone.ensures ∙ c.if-gives_scope_alone.true in
-    scope_told p d c.of.result on (c.of.ensures.told p.sections d h)
+    scope_told p d c.of.result on (c.of.ensures.told p.sections d h (c.text.ensures p is ∙ h.name))
 
 pub returns-clause-value : goal.returns-clause-value
 returns-clause-value c p is d h =

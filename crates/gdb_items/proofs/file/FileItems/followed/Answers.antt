@@ -1,4 +1,6 @@
 use Rattle.std.proofs.Common.{◌≡◌, ℕ, List, Option, ◌<◌, Ok, length, rules, ap, subst, ◌∙◌, arith}
+use Rattle.std.specs.Prelude.{option_map}
+use Rattle.std.specs.Option.{option_or}
 use Rattle.std.proofs.lemmas.List.{length-map}
 use Rattle.file_image.specs.Images.{Image}
 use Rattle.index_model.specs.Faults.{program_of}
@@ -28,7 +30,9 @@ loop-last-preserved c = record {
       let x = one_there p.sections c.in-Some.target (next_of p f.item) (subst (λ (o : Option UnitItem). IsItemIn p.sections o (next_of p f.item)) c.in-Some.is said) in
       let long : length c.loop-last.chain.targets.items ≡ length f.passed = ap (λ (os : List ℕ). length os) f.told.targets ∙ length-map f.passed (λ (e : Located). e.item.at) in
       let less : length c.loop-last.chain.targets.items < 8 = search rules in
-      follow_one p d c.loop-last.chain c.loop-last.last f x.0 x.1 (omega (arith, long, less)) c.in-Some.target x.2 c.add.new.self (c.add.ensures.told p.sections d x.0 f.passed f.told x.2);
+      let same : program_of c.target.new.self.file ≡ Ok p = ap (λ (e : Image). program_of e.file) c.target.ensures.kept ∙ here in
+      let named = c.first_name-name.ensures p same ∙ ap (λ (o : Option (List ℕ)). option_or (option_map (λ b. b.now) c.loop-last.chain.name) o) x.2.name in
+      follow_one p d c.loop-last.chain c.loop-last.last f x.0 x.1 (omega (arith, long, less)) c.in-Some.target x.2 c.add.new.self (c.add.ensures.told p.sections d x.0 f.passed f.told x.2 named);
 }
 
 pub returns-clause-value : goal.returns-clause-value

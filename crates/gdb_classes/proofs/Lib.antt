@@ -1,6 +1,0 @@
-mod ProducerLaws
-mod RootLaws
-mod ImportLaws
-mod PartLaws
-mod RootsLaws
-mod ReadingLaws
