@@ -1,14 +1,13 @@
 -- What gdb lists has units of the file, and main is among it where it stands in the index.
-use Rattle.std.proofs.Common.{◌≡◌, ℕ, ◌+◌, ◌<◌, Bool, true, false, cond, not, ◌&&◌, List, [], ◌∷◌, length, get_or, filter, find, flat_map, map, Option, Some, None, refl, sym, ap, subst, ◌∙◌, arith, ⊎_elim}
+use Rattle.std.proofs.Common.{◌≡◌, ℕ, ◌+◌, ◌<◌, Bool, true, false, cond, not, ◌&&◌, List, [], ◌∷◌, length, get_or, filter, find, map, Option, Some, None, refl, sym, ap, subst, ◌∙◌, arith, ⊎_elim}
 use mathlib.Core.Bool.{◌||◌}
-use Rattle.std.specs.Prelude.{All, Contains, bytes_eq, ⊤}
+use Rattle.std.specs.Prelude.{All, Contains, bytes_eq}
 use Rattle.std.specs.List.{list_any}
 use Rattle.std.proofs.lemmas.List.Elements.{Contains-get_or}
 use Rattle.std.proofs.lemmas.Option.{same_Some}
 use Rattle.common_laws.proofs.Members.{contains_cases, of_find, of_flat_map, of_map}
 use Rattle.index_model.specs.declared.answer.Main.{Main}
 use Rattle.index_model.specs.declared.entry.Entry.{Entry}
-use Rattle.index_model.specs.declared.entry.Kind.{Kind}
 use Rattle.index_model.specs.Answers.{is_named}
 use Rattle.index_model.specs.Program.{Walked, Program, Located, located}
 use Rattle.index_model.proofs.ShardRoots.{Numbered}

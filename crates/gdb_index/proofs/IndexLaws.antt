@@ -1,5 +1,5 @@
 -- What gdb lists can be written.
-use Rattle.std.proofs.Common.{◌≡◌, ◌⊎◌, ◌<◌, ◌≤◌, ℕ, List, length, Option, Ok, refl, sym, subst, inl, inr}
+use Rattle.std.proofs.Common.{◌≡◌, ◌⊎◌, ◌<◌, List, length, Option, Ok, refl, sym, subst, inl, inr}
 use Rattle.std.specs.Prelude.{All}
 use Rattle.file_image.specs.Images.{Image, image_of}
 use Rattle.index_model.specs.declared.answer.Main.{Main}

@@ -13,8 +13,8 @@ use Rattle.gdb_entries.specs.declared.language.LanguageClass.{LanguageClass}
 use Rattle.gdb_entries.specs.Entries.{as_listed, entries_of_item, entries_with}
 use Rattle.gdb_entries.specs.Owners.{class_read, own_class, owner_of}
 use Rattle.gdb_entries.specs.Reached.{is_seen}
-use Rattle.gdb_classes.specs.declared.by_owner.Reading.{Reading}
-use Rattle.gdb_classes.specs.Readings.{reading_of}
+use Rattle.gdb_items.specs.declared.by_owner.Reading.{Reading}
+use Rattle.gdb_items.specs.Readings.{reading_of}
 use Rattle.gdb_scopes.specs.declared.seen.SeenItem.{SeenItem}
 use Rattle.gdb_scopes.specs.Places.{seen_by, seen_of, IsSeenIn}
 use Rattle.gdb_scopes.proofs.AroundLaws.{StandsIn, stands_there}

@@ -2,13 +2,13 @@
 
 ghost use Rattle.std.specs.Prelude.{◌≡◌, ◌≤◌, length, option_and_then, slice_get, IfOk, Ok};
 ghost use Rattle.file_image.specs.Images.{image_of};
-ghost use Rattle.gdb_classes.specs.Readings.{reading_of};
+ghost use Rattle.gdb_items.specs.Readings.{reading_of};
 ghost use Rattle.gdb_entries.specs.Files.{HasProgram};
 ghost use Rattle.gdb_scopes.specs.Places.{ForUnit};
 
 use crate::names::FileNames;
 use file_image::Image;
-use gdb_classes::{Reading, readings};
+use gdb_items::{Reading, readings};
 use gdb_scopes::FilePlaces;
 use index_model::Unit;
 use ix_base::{MAX_UNITS, NoMemory};

@@ -1,20 +1,25 @@
 //! The names of an item as they are listed.
 
 ghost use Rattle.std.specs.Prelude.{◌≡◌, map, option_map, IfOk, Some};
+ghost use Rattle.index_model.specs.Program.{Located};
 ghost use Rattle.cxx_spelling.specs.Spelling.{spelling_bytes};
+ghost use Rattle.gdb_entries.specs.Chains.{linkage_of};
 ghost use Rattle.gdb_entries.specs.Entries.{names_of, second_listed};
+ghost use Rattle.gdb_entries.specs.Files.{ForProgram};
+ghost use Rattle.gdb_entries.specs.ItemNames.{item_names};
 ghost use Rattle.gdb_entries.specs.Names.{full_name};
 ghost use Rattle.gdb_entries.specs.Owners.{class_read};
 ghost use Rattle.gdb_items.specs.Chains.{IsChainOf};
-ghost use Rattle.gdb_names.specs.Seen.{bytes_of, second_seen};
+ghost use Rattle.gdb_items.specs.Items.{IsItemOf};
+ghost use Rattle.gdb_names.specs.Seen.{bytes_of, names_seen, second_seen};
 ghost use Rattle.gdb_scopes.specs.Places.{ForItem, IsSeenIn};
 ghost use Rattle.gdb_index.specs.Items.{texts_of};
 
 use crate::names::FileNames;
 use cxx_spelling::SpelledName;
 use gdb_entries::LanguageClass;
-use gdb_items::Chain;
-use gdb_names::{SecondName, item_names};
+use gdb_items::{Chain, UnitItem};
+use gdb_names::{ItemNames, SecondName, item_names};
 use gdb_scopes::{SeenItem, name_of};
 use ix_base::NoMemory;
 use std::alloc::Global;
@@ -40,10 +45,30 @@ pub(crate) fn listed_names<'f>(
     ensures kept { names.new ≡ names.old }
 {
     let name = name_of(class, seen.item.facts.tag, chain.name);
-    let own = item_names(class, &seen.item.facts, name, chain.linkage);
+    let own = own_names(alloc, names, class, &seen.item, name)?;
     let full = full_name(alloc, names, class, seen, chain, own.name)?;
     let second = second_name(alloc, class, own.second)?;
     Ok(ListedNames { full, second })
+}
+
+// The names of an item with this name, as the file has them. The linkage name is sought where it may count: in C++ it doesn't beside
+// another name.
+fn own_names<'f>(
+    alloc: Global,
+    names: &mut FileNames<'_, '_, 'f>,
+    class: LanguageClass,
+    item: &UnitItem<'f>,
+    name: Option<&'f [u8]>,
+) -> Result<ItemNames<'f>, NoMemory>
+    ensures value { ForProgram names.old.file (λ p. (d : Located) → IsItemOf p.sections item.now d → IfOk result (λ own. names_seen own ≡ item_names class item.now.facts (bytes_of name.entry) (linkage_of p d))) }
+    ensures kept { names.new ≡ names.old }
+{
+    let linkage = if class == LanguageClass::Cxx && name.is_some() {
+        None
+    } else {
+        names.linkage_name(alloc, item)?
+    };
+    Ok(item_names(class, &item.facts, name, linkage))
 }
 
 // The full name of the item, if it has a name.

@@ -3,6 +3,7 @@
 ghost use Rattle.std.specs.Prelude.{◌≡◌, ◌<◌, length, option_map, IfOk, Some};
 ghost use Rattle.std.specs.List.{AllZip};
 ghost use Rattle.index_model.specs.Program.{Located, item_with_offset};
+ghost use Rattle.gdb_entries.specs.Chains.{linkage_of};
 ghost use Rattle.gdb_entries.specs.Entries.{is_item_static};
 ghost use Rattle.gdb_entries.specs.Owners.{class_read};
 ghost use Rattle.gdb_entries.specs.Scopes.{scope_of};
@@ -44,6 +45,18 @@ impl<'s, 'r, 'f> FileNames<'s, 'r, 'f> {
         ensures kept { self.new ≡ self.old }
     {
         self.places.chain(alloc, item)
+    }
+
+    /// The first linkage name on the chain of an item of the file, borrowed from the file.
+    pub fn linkage_name(
+        &mut self,
+        alloc: Global,
+        item: &UnitItem<'f>,
+    ) -> Result<Option<&'f [u8]>, NoMemory>
+        ensures value { ForProgram self.old.file (λ p. (d : Located) → IsItemOf p.sections item.now d → IfOk result (λ text. option_map (λ b. b.now) text ≡ linkage_of p d)) }
+        ensures kept { self.new ≡ self.old }
+    {
+        self.places.linkage_name(alloc, item)
     }
 
     /// The class by which the unit is read in which the item at a joint offset stands. None where the unit isn't read.

@@ -3,7 +3,7 @@
 ghost use Rattle.std.specs.Prelude.{◌≡◌, ◌<◌, ◌++◌, flat_map, length, List, OnOk, Some};
 ghost use Rattle.std.specs.List.{AllZip};
 ghost use Rattle.index_model.specs.Program.{Located, Walked};
-ghost use Rattle.gdb_classes.specs.Readings.{reading_of};
+ghost use Rattle.gdb_items.specs.Readings.{reading_of};
 ghost use Rattle.gdb_entries.specs.Files.{ForProgram};
 ghost use Rattle.gdb_scopes.specs.Places.{ForUnit};
 ghost use Rattle.gdb_index.specs.Items.{listed_of_item, IsLookedAt};
@@ -11,7 +11,7 @@ ghost use Rattle.gdb_index.specs.Listed.{listed_of};
 
 use crate::item::list_item;
 use crate::names::FileNames;
-use gdb_classes::Reading;
+use gdb_items::Reading;
 use gdb_scopes::SeenItem;
 use index_model::Entry;
 use ix_base::NoMemory;

@@ -7,8 +7,8 @@ use Rattle.index_model.specs.Program.{Program, Walked}
 use Rattle.index_model.proofs.ShardRoots.{Numbered, program_numbered}
 use Rattle.gdb_entries.specs.declared.language.LanguageClass.{LanguageClass}
 use Rattle.gdb_entries.specs.Owners.{own_class, owner_of, class_read}
-use Rattle.gdb_classes.specs.declared.by_owner.Reading.{Reading}
-use Rattle.gdb_classes.specs.Readings.{reading_of}
+use Rattle.gdb_items.specs.declared.by_owner.Reading.{Reading}
+use Rattle.gdb_items.specs.Readings.{reading_of}
 
 number_at : (n : ℕ) (ws : List Walked) (k : ℕ) (w : Walked) → Numbered n ws → k < length ws → (get_or ws k w).number ≡ n + k
 number_at n [] k w h lt = absurd (omega arith)

@@ -9,10 +9,10 @@ use Rattle.gdb_entries.specs.declared.language.LanguageClass.{LanguageClass}
 use Rattle.gdb_entries.specs.Files.{ForProgram}
 use Rattle.gdb_items.specs.Files.{IsReadOf}
 use Rattle.gdb_items.specs.Items.{kept_of}
-use Rattle.gdb_classes.specs.declared.by_owner.Reading.{Reading}
+use Rattle.gdb_items.specs.declared.by_owner.Reading.{Reading}
 use Rattle.gdb_scopes.specs.declared.placed.UnitPlaces.{UnitPlaces}
 use Rattle.gdb_scopes.specs.Places.{place_of, ForUnit}
-use Rattle.gdb_classes.specs.Readings.{reading_of}
+use Rattle.gdb_items.specs.Readings.{reading_of}
 
 -- of each unit it is told how it is read
 abbrev pub AreReadingsOf : List ℕ → List (Option Reading) → Type 0

@@ -8,8 +8,9 @@ ghost use Rattle.std.specs.Arc.{arc_value};
 ghost use Rattle.std.specs.List.{AllZip};
 ghost use Rattle.index_model.specs.Program.{Located, item_with_offset};
 ghost use Rattle.shard_build.specs.Found.{IsUnitAt};
+ghost use Rattle.gdb_entries.specs.Chains.{linkage_of};
 ghost use Rattle.gdb_entries.specs.Owners.{class_read};
-ghost use Rattle.gdb_classes.specs.Readings.{reading_of};
+ghost use Rattle.gdb_items.specs.Readings.{reading_of};
 ghost use Rattle.gdb_items.specs.Chains.{IsChainOf};
 ghost use Rattle.gdb_entries.specs.Files.{ForProgram, HasProgram};
 ghost use Rattle.gdb_items.specs.Files.{IsItemIn, IsReadOf};
@@ -24,9 +25,8 @@ use crate::reading::reading_at;
 use crate::seen::SeenItem;
 use crate::unit::places_of;
 use file_image::Image;
-use gdb_classes::Reading;
 use gdb_entries::LanguageClass;
-use gdb_items::{Chain, FileItems, ReadUnit, UnitItem, Which};
+use gdb_items::{Chain, FileItems, ReadUnit, Reading, UnitItem, Which};
 use indexmap::IndexMap;
 use ix_base::NoMemory;
 use std::alloc::Global;
@@ -101,6 +101,18 @@ impl<'s, 'r, 'f> FilePlaces<'s, 'r, 'f> {
         ensures kept { self.new ≡ self.old }
     {
         self.items.chain(alloc, item)
+    }
+
+    /// The first linkage name on the chain of an item of the file, borrowed from the file.
+    pub fn linkage_name(
+        &mut self,
+        alloc: Global,
+        item: &UnitItem<'f>,
+    ) -> Result<Option<&'f [u8]>, NoMemory>
+        ensures value { ForProgram self.old.file (λ p. (d : Located) → IsItemOf p.sections item.now d → IfOk result (λ text. option_map (λ b. b.now) text ≡ linkage_of p d)) }
+        ensures kept { self.new ≡ self.old }
+    {
+        self.items.linkage_name(alloc, item)
     }
 
     /// The class by which the unit is read in which the item at a joint offset stands. None where the unit isn't read.

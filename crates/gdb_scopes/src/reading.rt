@@ -2,7 +2,7 @@
 
 ghost use Rattle.std.specs.Prelude.{◌≡◌, option_and_then, slice_get};
 
-use gdb_classes::Reading;
+use gdb_items::Reading;
 
 /// How the unit with this number is read, if it is.
 pub(crate) fn reading_at(readings: &[Option<Reading>], unit: u32) -> Option<Reading>

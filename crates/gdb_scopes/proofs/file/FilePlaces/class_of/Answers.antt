@@ -1,7 +1,7 @@
 use Rattle.std.proofs.Common.{◌≡◌, Ok, Option, sym, ap, ◌∙◌}
 use Rattle.file_image.specs.Images.{Image}
 use Rattle.index_model.specs.Faults.{program_of}
-use Rattle.gdb_classes.specs.declared.by_owner.Reading.{Reading}
+use Rattle.gdb_items.specs.declared.by_owner.Reading.{Reading}
 use Rattle.gdb_scopes.proofs.UnitLaws.{class_in, class_is, reading_told}
 use Rattle.gdb_scopes.proofs.file.FilePlaces.class_of.Goals as goal
 

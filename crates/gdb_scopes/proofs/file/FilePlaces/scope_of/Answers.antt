@@ -1,10 +1,8 @@
 use Rattle.std.proofs.Common.{◌≡◌, ℕ, Some, sym, ap, subst, ◌∙◌}
-use Rattle.std.specs.Prelude.{IfOk, Option, option_map}
+use Rattle.std.specs.Prelude.{Option, option_map}
 use Rattle.std.proofs.lemmas.Bool.{ne_eqb}
 use Rattle.std.proofs.lemmas.Result.{IfOk-weaker}
-use Rattle.index_model.specs.Program.{Located}
 use Rattle.gdb_entries.specs.declared.language.LanguageClass.{LanguageClass}
-use Rattle.gdb_entries.specs.Owners.{class_read}
 use Rattle.gdb_entries.specs.Scopes.{around_by, around_target, scope_of}
 use Rattle.gdb_scopes.specs.Places.{offset_of}
 use Rattle.gdb_scopes.proofs.ScopeLaws.{own_scope, scope_itself, target_scope}
