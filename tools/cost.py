@@ -2,8 +2,9 @@
 """python3 tools/cost.py PROGRAM [--match WORD] [--times N] [--seconds T]
 
 Makes files that cost more than their length (tools/costly), each at three sizes that double, and measures PROGRAM over them: processor
-seconds and greatest memory with one worker. From size to size both may double and grow by a logarithm; where they grow faster the row
-fails, if it does so twice, unless its kind is told below as one that does, with the reason. A row also fails where memory was wanted.
+seconds and greatest memory with one worker. From size to size both may double and grow by a logarithm; where they grow faster the sizes
+are measured again, and the least of each counts, since what else a machine does makes a run dearer and never cheaper. A row that still
+grows faster fails, unless its kind is told below as one that does, with the reason. A row also fails where memory was wanted.
 --times multiplies the sizes. The last line is 'cost: N passed, M failed'."""
 import argparse
 import math
@@ -17,6 +18,8 @@ import tempfile
 from costly import indexes, programs
 
 SIZES = 3
+# So often a row is measured at most.
+MOST_TIMES = 5
 # Twice and a logarithm, with room for what a machine with other work adds.
 MOST_GROWTH = 2.7
 # What takes less than this isn't compared: processor seconds, and bytes of memory.
@@ -32,7 +35,6 @@ LOOK_GDB = ["look", "gdb", "FILE", "name", "y"]
 LOOK_NAMES = ["look", "names", "FILE", "STRINGS", "name", "zz"]
 # Why a row may grow with the square.
 TABLES = "tables of abbreviations that overlap are read each by itself"
-TURNS = "of the tables of abbreviations one is at hand for roots, so two that take turns are read again and again"
 TEXTS = "names that are one text are compared one by one"
 LONG = "the answer itself is that long"
 LISTS = "lists of ranges that begin inside one another are read one by one"
@@ -50,7 +52,7 @@ ROWS = [
     (programs.deep_scopes, 2000, ASK, None),
     (programs.deep_scopes, 2000, BY_GDB, None),
     (programs.two_tables, 8000, ASK, None),
-    (programs.two_tables, 2000, BY_GDB, TURNS),
+    (programs.two_tables, 8000, BY_GDB, None),
     (programs.many_tables, 8000, ASK, TABLES),
     (programs.one_table, 8000, ASK, None),
     (programs.a_wide_abbreviation, 16000, ASK, None),
@@ -140,6 +142,23 @@ def runs_of(row, program, options):
             return
 
 
+def least(before, runs):
+    """The runs of a row where each size costs the less of two times."""
+    for (size, first), (_, second) in zip(before, runs):
+        second.seconds, second.memory = min(first.seconds, second.seconds), min(first.memory, second.memory)
+        yield size, second
+
+
+def measured_row(row, program, options):
+    """The runs of a row, measured until they are cheap or so often that they aren't, and whether they are."""
+    runs = list(runs_of(row, program, options))
+    for _ in range(0 if row[3] else MOST_TIMES - 1):
+        if is_cheap(runs) or runs[-1][1].status is None:
+            break
+        runs = list(least(runs, runs_of(row, program, options)))
+    return runs, is_cheap(runs)
+
+
 def growth(runs):
     """By how much the dearer of seconds and memory grew with the last doubling of the bytes, or of the size where the bytes hardly grew;
     None where it is too little to tell."""
@@ -174,12 +193,7 @@ def main():
         name = "%s.%s" % (kind.__module__.rpartition(".")[2], kind.__name__)
         if options.match not in name:
             continue
-        # What other work on the machine makes dear isn't dear twice.
-        for _ in range(1 if why else 2):
-            runs = list(runs_of(row, program, options))
-            cheap = is_cheap(runs)
-            if cheap:
-                break
+        runs, cheap = measured_row(row, program, options)
         wants_memory = any(run.status == NO_MEMORY for _, run in runs)
         if (cheap or why) and not wants_memory:
             passed += 1
