@@ -1,2 +1,3 @@
+pub mod NumeralLaws
 pub mod RunLaws
 pub mod StackLaws

@@ -1,10 +1,13 @@
+pub mod Arguments
 pub mod Bytes
 pub mod Casts
+pub mod Characters
 pub mod Declarators
 pub mod Functions
 pub mod Integers
 pub mod Keywords
 pub mod Names
+pub mod Numerals
 pub mod Qualifiers
 pub mod Rules
 pub mod Seen

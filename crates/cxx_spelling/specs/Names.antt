@@ -2,10 +2,13 @@
 use Rattle.std.specs.Prelude.{List, [], ◌∷◌, Option, Some, None}
 use Rattle.cxx_spelling.specs.declared.kind.Kind.{Kind}
 use Rattle.cxx_spelling.specs.declared.kind.Kind.TheVariants as token
+use Rattle.cxx_spelling.specs.declared.release.Release.{Release}
+use Rattle.cxx_spelling.specs.declared.release.Release.TheVariants.{Gdb13, Gdb16}
 use Rattle.cxx_spelling.specs.declared.symbol.Symbol.{Symbol}
 use Rattle.cxx_spelling.specs.declared.symbol.Symbol.TheVariants.{Do, Expand}
 use Rattle.cxx_spelling.specs.declared.symbol.Action.TheVariants.{BeginGap, BeginQualifiers, FillOpen, LeaveGap, Skip, Take, TakeCharacter, TakeFloating, TakeGreater, TakeNumber, WriteClose, WriteSpace}
-use Rattle.cxx_spelling.specs.declared.symbol.Nonterminal.TheVariants.{Casts, Declarators, Names, Types}
+use Rattle.cxx_spelling.specs.declared.symbol.Nonterminal.TheVariants.{Arguments, Casts, Declarators, Names, Types}
+use Rattle.cxx_spelling.specs.declared.symbol.ArgumentSymbol.TheVariants.{ArgumentType}
 use Rattle.cxx_spelling.specs.declared.symbol.CastSymbol.TheVariants.{Parenthesised}
 use Rattle.cxx_spelling.specs.declared.symbol.DeclaratorSymbol.TheVariants.{MemberPointer, PtrOperator}
 use Rattle.cxx_spelling.specs.declared.symbol.NameSymbol.TheVariants.{Address, AddressArguments, AddressMember, AddressName, AddressNext, AddressRest, AddressScope, ConversionPointers, MoreArguments, NameArguments, NameRest, QualifiedName, TemplateArgument}
@@ -32,15 +35,20 @@ more_arguments token.Comma = Some (Do Take ∷ Do WriteSpace ∷ Expand (Names T
 more_arguments token.Greater = Some (Do TakeGreater ∷ [])
 more_arguments _ = None
 
+-- a type-id as an argument: gdb 16 reads types of functions there
+abbrev pub type_argument : Release → Option (List Symbol)
+type_argument Gdb13 = Some (Expand (Types TypeId) ∷ [])
+type_argument Gdb16 = Some (Expand (Arguments ArgumentType) ∷ [])
+
 -- template-argument: a type-id or a constant
-abbrev pub template_argument : Kind → Option (List Symbol)
-template_argument token.Reference = Some (Do Take ∷ Expand (Names Address) ∷ [])
-template_argument token.OpenParenthesis = Some (Do Skip ∷ Expand (Casts Parenthesised) ∷ [])
-template_argument token.Number = Some (Do TakeNumber ∷ [])
-template_argument token.Character = Some (Do TakeCharacter ∷ [])
-template_argument token.Truth = Some (Do Take ∷ [])
-template_argument token.Floating = Some (Do TakeFloating ∷ [])
-template_argument _ = Some (Expand (Types TypeId) ∷ [])
+abbrev pub template_argument : Release → Kind → Option (List Symbol)
+template_argument release token.Reference = Some (Do Take ∷ Expand (Names Address) ∷ [])
+template_argument release token.OpenParenthesis = Some (Do Skip ∷ Expand (Casts Parenthesised) ∷ [])
+template_argument release token.Number = Some (Do TakeNumber ∷ [])
+template_argument release token.Character = Some (Do TakeCharacter ∷ [])
+template_argument release token.Truth = Some (Do Take ∷ [])
+template_argument release token.Floating = Some (Do TakeFloating ∷ [])
+template_argument release _ = type_argument release
 
 -- the address of a variable or a function
 abbrev pub address : Kind → Option (List Symbol)

@@ -1,9 +1,10 @@
 -- The rules of the grammar.
 use Rattle.std.specs.Prelude.{List, Option}
 use Rattle.cxx_spelling.specs.declared.kind.Kind.{Kind}
+use Rattle.cxx_spelling.specs.declared.release.Release.{Release}
 use Rattle.cxx_spelling.specs.declared.symbol.Symbol.{Symbol}
 use Rattle.cxx_spelling.specs.declared.symbol.Nonterminal.{Nonterminal}
-use Rattle.cxx_spelling.specs.declared.symbol.Nonterminal.TheVariants.{Names, Types, Casts, Declarators, Functions}
+use Rattle.cxx_spelling.specs.declared.symbol.Nonterminal.TheVariants.{Names, Types, Casts, Declarators, Functions, Arguments}
 use Rattle.cxx_spelling.specs.declared.symbol.NameSymbol.{NameSymbol}
 use Rattle.cxx_spelling.specs.declared.symbol.NameSymbol.TheVariants as names
 use Rattle.cxx_spelling.specs.declared.symbol.TypeSymbol.{TypeSymbol}
@@ -14,27 +15,30 @@ use Rattle.cxx_spelling.specs.declared.symbol.DeclaratorSymbol.{DeclaratorSymbol
 use Rattle.cxx_spelling.specs.declared.symbol.DeclaratorSymbol.TheVariants as declarators
 use Rattle.cxx_spelling.specs.declared.symbol.FunctionSymbol.{FunctionSymbol}
 use Rattle.cxx_spelling.specs.declared.symbol.FunctionSymbol.TheVariants as functions
+use Rattle.cxx_spelling.specs.declared.symbol.ArgumentSymbol.{ArgumentSymbol}
+use Rattle.cxx_spelling.specs.declared.symbol.ArgumentSymbol.TheVariants as arguments
 use Rattle.cxx_spelling.specs.Names.{qualified_name, name_arguments, name_rest, more_arguments, template_argument, address, address_name, address_rest, address_scope, address_member, address_arguments, address_next, conversion_pointers}
 use Rattle.cxx_spelling.specs.Types.{type_id, type_specifier, more_words, cv_qualifiers, array, array_bound, bracket_end, more_arrays, parameters, parameter_list, after_void, more_parameters, parameter}
 use Rattle.cxx_spelling.specs.Casts.{parenthesised, group_end, cast_words, cast_bool, cast_floating, cast_end, cast_operand, cast_group, integer_operand, bool_operand, floating_operand}
 use Rattle.cxx_spelling.specs.Declarators.{declarator, ptr_operator, inner_declarator, inner_rest, nested_declarator, nested_suffix, declarator_suffix, parenthesis_end, member_pointer, member_name, member_arguments, member_scope, member_next}
+use Rattle.cxx_spelling.specs.Arguments.{argument_type, argument_rest, argument_parenthesis, first_name, first_arguments, first_end, first_next}
 use Rattle.cxx_spelling.specs.Functions.{start, start_rest, start_parenthesis, start_name, start_arguments, start_end, start_next, local, conversion_rest}
 
 -- what a symbol of names and their template arguments stands for in sight of the next token; none where the name is refused
-abbrev pub name_rule : NameSymbol → Kind → Option (List Symbol)
-name_rule names.QualifiedName kind = qualified_name kind
-name_rule names.NameArguments kind = name_arguments kind
-name_rule names.NameRest kind = name_rest kind
-name_rule names.MoreArguments kind = more_arguments kind
-name_rule names.TemplateArgument kind = template_argument kind
-name_rule names.Address kind = address kind
-name_rule names.AddressName kind = address_name kind
-name_rule names.AddressRest kind = address_rest kind
-name_rule names.AddressScope kind = address_scope kind
-name_rule names.AddressMember kind = address_member kind
-name_rule names.AddressArguments kind = address_arguments kind
-name_rule names.AddressNext kind = address_next kind
-name_rule names.ConversionPointers kind = conversion_pointers kind
+abbrev pub name_rule : Release → NameSymbol → Kind → Option (List Symbol)
+name_rule release names.QualifiedName kind = qualified_name kind
+name_rule release names.NameArguments kind = name_arguments kind
+name_rule release names.NameRest kind = name_rest kind
+name_rule release names.MoreArguments kind = more_arguments kind
+name_rule release names.TemplateArgument kind = template_argument release kind
+name_rule release names.Address kind = address kind
+name_rule release names.AddressName kind = address_name kind
+name_rule release names.AddressRest kind = address_rest kind
+name_rule release names.AddressScope kind = address_scope kind
+name_rule release names.AddressMember kind = address_member kind
+name_rule release names.AddressArguments kind = address_arguments kind
+name_rule release names.AddressNext kind = address_next kind
+name_rule release names.ConversionPointers kind = conversion_pointers kind
 
 -- what a symbol of types stands for in sight of the next token; none where the name is refused
 abbrev pub type_rule : TypeSymbol → Kind → Option (List Symbol)
@@ -94,10 +98,21 @@ function_rule functions.StartNext kind = start_next kind
 function_rule functions.Local kind = local kind
 function_rule functions.ConversionRest kind = conversion_rest kind
 
+-- what a symbol of types as template arguments stands for in sight of the next token; none where the name is refused
+abbrev pub argument_rule : ArgumentSymbol → Kind → Option (List Symbol)
+argument_rule arguments.ArgumentType kind = argument_type kind
+argument_rule arguments.ArgumentRest kind = argument_rest kind
+argument_rule arguments.ArgumentParenthesis kind = argument_parenthesis kind
+argument_rule arguments.FirstName kind = first_name kind
+argument_rule arguments.FirstArguments kind = first_arguments kind
+argument_rule arguments.FirstEnd kind = first_end kind
+argument_rule arguments.FirstNext kind = first_next kind
+
 -- what a symbol stands for
-abbrev pub rule : Nonterminal → Kind → Option (List Symbol)
-rule (Names symbol) kind = name_rule symbol kind
-rule (Types symbol) kind = type_rule symbol kind
-rule (Casts symbol) kind = cast_rule symbol kind
-rule (Declarators symbol) kind = declarator_rule symbol kind
-rule (Functions symbol) kind = function_rule symbol kind
+abbrev pub rule : Release → Nonterminal → Kind → Option (List Symbol)
+rule release (Names symbol) kind = name_rule release symbol kind
+rule release (Types symbol) kind = type_rule symbol kind
+rule release (Casts symbol) kind = cast_rule symbol kind
+rule release (Declarators symbol) kind = declarator_rule symbol kind
+rule release (Functions symbol) kind = function_rule symbol kind
+rule release (Arguments symbol) kind = argument_rule symbol kind

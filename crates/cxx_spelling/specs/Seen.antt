@@ -1,6 +1,8 @@
 -- What is seen of the types of the code: lists in place of slices and vectors.
 use Rattle.std.specs.Prelude.{◌≡◌, ℕ, Bool, true, false, List, [], ◌∷◌, ◌++◌, Option, Some, None, Result, Ok, Err}
 use Rattle.std.specs.declared.alloc.AllocError.{AllocError}
+use Rattle.cxx_spelling.specs.declared.literals.Digits.{Digits}
+use Rattle.cxx_spelling.specs.declared.literals.Digits.TheVariants as written
 use Rattle.cxx_spelling.specs.declared.token.Token.{Token}
 use Rattle.cxx_spelling.specs.declared.translation.Translation.{Translation}
 use Rattle.cxx_spelling.specs.declared.translation.Progress.{Progress}
@@ -13,6 +15,11 @@ use Rattle.cxx_spelling.specs.Translation.{State, Reached, Going, Finished, Refu
 abbrev pub seen_token : Token → Lexeme
 seen_token t = record { kind = t.kind; text = t.text.now; rest = t.rest.now }
 
+-- what is written of a literal
+abbrev pub digits_bytes : Digits → List ℕ
+digits_bytes (written.Lent bytes) = bytes.now
+digits_bytes (written.Owned text) = text.items
+
 -- what a stack has, the last one first
 abbrev pub stacked : {X Y : Type 0} → (X → Y) → List X → List Y
 stacked view [] = []
@@ -20,6 +27,7 @@ stacked view (x ∷ xs) = stacked view xs ++ view x ∷ []
 
 abbrev pub seen : Translation → State
 seen t = record {
+  release = t.release;
   token = seen_token t.token;
   out = t.out.items;
   qualifiers = t.qualifiers;

@@ -1,8 +1,10 @@
 -- How a name is read and written anew.
-use Rattle.std.specs.Prelude.{ℕ, zero, suc, ◌+◌, ◌-◌, ◌*◌, Bool, not, ◌||◌, ◌==◌, nat_lt, if◌then◌else◌, List, [], ◌∷◌, ◌++◌, length, take, drop, slice_index, slice_set, count_by, codes, bytes_eq, Option, Some, None}
+use Rattle.std.specs.Prelude.{ℕ, zero, suc, ◌+◌, ◌-◌, ◌*◌, Bool, not, ◌||◌, ◌==◌, nat_lt, if◌then◌else◌, List, [], ◌∷◌, ◌++◌, length, take, drop, slice_index, slice_set, count_by, codes, bytes_eq, decimal, Option, Some, None, option_map}
 use Rattle.std.specs.List.{filter}
 use Rattle.cxx_spelling.specs.declared.kind.Kind.{Kind}
 use Rattle.cxx_spelling.specs.declared.kind.Kind.TheVariants as token
+use Rattle.cxx_spelling.specs.declared.release.Release.{Release}
+use Rattle.cxx_spelling.specs.declared.release.Release.TheVariants.{Gdb13, Gdb16}
 use Rattle.cxx_spelling.specs.declared.symbol.Symbol.{Symbol}
 use Rattle.cxx_spelling.specs.declared.symbol.Symbol.TheVariants.{Do, Expand}
 use Rattle.cxx_spelling.specs.declared.symbol.Action.{Action}
@@ -13,13 +15,16 @@ use Rattle.cxx_spelling.specs.declared.integers.IntegerWords.{IntegerWords}
 use Rattle.cxx_spelling.specs.declared.integers.IntegerType.{IntegerType}
 use Rattle.cxx_spelling.specs.declared.qualifiers.Qualifiers.{Qualifiers}
 use Rattle.cxx_spelling.specs.Bytes.{until, is_suffix_byte, is_long_byte, is_unsigned_byte, is_float_byte}
+use Rattle.cxx_spelling.specs.Characters.{character_code}
 use Rattle.cxx_spelling.specs.Integers.{no_words, with_word, is_long, integer_type, type_name, suffix_of}
+use Rattle.cxx_spelling.specs.Numerals.{decimal_digits}
 use Rattle.cxx_spelling.specs.Qualifiers.{no_qualifiers, with_qualifier}
 use Rattle.cxx_spelling.specs.Rules.{rule}
 use Rattle.cxx_spelling.specs.Tokens.{Lexeme, first_token, last_byte}
 
 -- a name that is being read and written anew
 pub record State : Type 0 where
+  pub release : Release  -- whose spelling it becomes
   pub token : Lexeme  -- the next token, and what stands behind it
   pub out : List ℕ  -- what has been written
   pub qualifiers : Qualifiers  -- the set of qualifiers that is open
@@ -39,6 +44,16 @@ pub data Reached : Type 0 where
 -- a literal without its suffix ([lex.icon])
 abbrev pub digits_of : List ℕ → List ℕ
 digits_of text = take (until is_suffix_byte text) text
+
+-- the same as a release writes it; none where it refuses the literal
+abbrev pub integer_digits : Release → List ℕ → Option (List ℕ)
+integer_digits Gdb13 text = Some (digits_of text)
+integer_digits Gdb16 text = decimal_digits text
+
+-- a character as it stands, or its code
+abbrev pub character_digits : Release → List ℕ → Option (List ℕ)
+character_digits Gdb13 text = Some text
+character_digits Gdb16 text = option_map decimal (character_code text)
 
 -- the one form of a suffix with so many letters `u` and `l`
 abbrev pub suffix_form : ℕ → ℕ → List ℕ
@@ -66,15 +81,15 @@ floating_type text =
 abbrev pub truth_digits : List ℕ → List ℕ
 truth_digits text = if slice_index text 0 == 116 then codes "1" else codes "0"
 
--- the literal in a cast: a character as it stands, a number without its suffix
-abbrev pub operand_by : Kind → List ℕ → List ℕ
-operand_by token.Character text = text
-operand_by token.Truth text = truth_digits text
-operand_by token.Floating text = floating_digits text
-operand_by _ text = digits_of text
+-- the literal in a cast: a number without its suffix
+abbrev pub operand_by : Release → Kind → List ℕ → Option (List ℕ)
+operand_by release token.Character text = character_digits release text
+operand_by release token.Truth text = Some (truth_digits text)
+operand_by release token.Floating text = Some (floating_digits text)
+operand_by release _ text = integer_digits release text
 
-abbrev pub operand : Lexeme → List ℕ
-operand t = operand_by t.kind t.text
+abbrev pub operand : Release → Lexeme → Option (List ℕ)
+operand release t = operand_by release t.kind t.text
 
 -- ---- writing
 
@@ -99,6 +114,14 @@ ends_with b text = slice_index text (length text - 1) == b
 abbrev pub wrote_qualifiers : Qualifiers → State → State
 wrote_qualifiers set s =
     wrote_if set.restrict (codes " restrict") (wrote_if set.volatile (codes " volatile") (wrote_if set.constant (codes " const") s))
+
+-- an integer literal with its suffix
+abbrev pub wrote_number : List ℕ → List ℕ → State → State
+wrote_number suffix digits s = wrote suffix (wrote digits s)
+
+-- a character behind its type
+abbrev pub wrote_character : List ℕ → State → State
+wrote_character digits s = wrote digits (wrote (codes "(char)") s)
 
 -- a literal of an integer type: with its suffix, or behind its type
 abbrev pub wrote_typed : IntegerType → Option (List ℕ) → List ℕ → State → State
@@ -163,9 +186,15 @@ writes_words (Some type) s = Going (record (wrote (type_name type) s) { words = 
 abbrev pub takes_long_double : State → Reached
 takes_long_double s = if is_long s.words then Going (taken_as (codes "long double") (record s { words = no_words })) else Refused
 
+-- a literal is written for the token by what is written of it
+abbrev pub takes_literal : (List ℕ → State → State) → Option (List ℕ) → State → Reached
+takes_literal write None s = Refused
+takes_literal write (Some digits) s = Going (advanced (write digits s))
+
 abbrev pub takes_integer_cast : Option IntegerType → State → Reached
 takes_integer_cast None s = Refused
-takes_integer_cast (Some type) s = Going (advanced (wrote_typed type (suffix_of type) (operand s.token) (record s { words = no_words })))
+takes_integer_cast (Some type) s =
+    takes_literal (wrote_typed type (suffix_of type)) (operand s.release s.token) (record s { words = no_words })
 
 abbrev pub act : Action → State → Reached
 act action.Take s = Going (taken_as s.token.text s)
@@ -188,13 +217,13 @@ act action.LeaveGap s = leaves_gap s.gaps s
 act action.FillOpen s = fills_gap 40 s.gaps s
 act action.FillSpace s = fills_gap 32 s.gaps s
 act action.WriteNestedOpen s = Going (wrote (codes "(") (began_gap (if ends_with 42 s.out then 0 else 32) s))
-act action.TakeNumber s = Going (advanced (wrote (suffix_text s.token.text) (wrote (digits_of s.token.text) s)))
-act action.TakeOperand s = Going (taken_as (operand s.token) s)
+act action.TakeNumber s = takes_literal (wrote_number (suffix_text s.token.text)) (integer_digits s.release s.token.text) s
+act action.TakeOperand s = takes_literal wrote (operand s.release s.token) s
 act action.TakeFloating s = Going (advanced (wrote_bracketed (floating_digits s.token.text) (wrote (floating_type s.token.text) s)))
-act action.TakeFloatingCast s = Going (advanced (wrote_bracketed (operand s.token) s))
-act action.TakeCharacter s = Going (taken_as s.token.text (wrote (codes "(char)") s))
+act action.TakeFloatingCast s = takes_literal wrote_bracketed (operand s.release s.token) s
+act action.TakeCharacter s = takes_literal wrote_character (character_digits s.release s.token.text) s
 act action.TakeIntegerCast s = takes_integer_cast (integer_type s.words) s
-act action.TakeBoolCast s = Going (advanced (wrote_bool (operand s.token) s))
+act action.TakeBoolCast s = takes_literal wrote_bool (operand s.release s.token) s
 
 -- ---- steps
 
@@ -210,7 +239,7 @@ closed (symbols ∷ outer) s = Going (record s { parts = symbols ∷ outer })
 
 abbrev pub performed : Symbol → State → Reached
 performed (Do what) s = act what s
-performed (Expand symbol) s = expanded (rule symbol s.token.kind) s
+performed (Expand symbol) s = expanded (rule s.release symbol s.token.kind) s
 
 abbrev pub step_by : List (List Symbol) → State → Reached
 step_by [] s = Finished s
@@ -240,8 +269,9 @@ run zero s = None
 run (suc n) s = after (λ t. run n t) (step s)
 
 -- a name that nothing was read of
-abbrev pub begun : List ℕ → State
-begun name = record {
+abbrev pub begun : Release → List ℕ → State
+begun release name = record {
+  release = release;
   token = first_token name;
   out = [];
   qualifiers = no_qualifiers;
@@ -260,5 +290,5 @@ abbrev pub max_length : ℕ
 max_length = 1048576
 
 -- a name written anew; None where it stands as it is
-unfoldable pub translation : List ℕ → Option (List ℕ)
-translation name = if nat_lt max_length (length name) then None else run (steps_for name) (begun name)
+unfoldable pub translation : Release → List ℕ → Option (List ℕ)
+translation release name = if nat_lt max_length (length name) then None else run (steps_for name) (begun release name)

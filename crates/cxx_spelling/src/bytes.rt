@@ -1,6 +1,6 @@
 //! The bytes of names by their classes.
 
-ghost use Rattle.std.specs.Prelude.{◌≡◌, ◌<◌, ◌≤◌, length, slice_index, position, unwrap_or, not, IfSome};
+ghost use Rattle.std.specs.Prelude.{◌≡◌, ◌<◌, ◌≤◌, length, drop, slice_index, position, unwrap_or, not, IfSome};
 ghost use Rattle.cxx_spelling.specs.Bytes.{until, is_blank, is_letter, is_word_byte, is_literal_byte, is_suffix_byte, is_exponent_byte, is_sign_byte, is_float_byte, is_long_byte, is_no_blank, ends_word, ends_literal};
 
 /// Whether a byte is white space.
@@ -146,4 +146,12 @@ pub(crate) fn suffix_start(literal: &[u8]) -> usize
     ensures within { result ≤ length literal.now }
 {
     or_length(first_of_suffix(literal), literal)
+}
+
+/// The bytes behind so many in front.
+pub(crate) fn behind(bytes: &[u8], n: usize) -> &[u8]
+    ensures { result.now ≡ drop n bytes.now }
+{
+    let (_, rest) = bytes.split_at(n.min(bytes.len()));
+    rest
 }

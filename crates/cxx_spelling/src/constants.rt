@@ -1,40 +1,59 @@
 //! What rules do with literals.
 
-ghost use Rattle.std.specs.Prelude.{◌≡◌, OnOk, codes, Ok};
-ghost use Rattle.cxx_spelling.specs.Seen.{seen, Reaches};
+ghost use Rattle.std.specs.Prelude.{◌≡◌, OnOk, codes, IfOk, Ok, option_map};
+ghost use Rattle.cxx_spelling.specs.Seen.{digits_bytes, seen, seen_token, Reaches};
 ghost use Rattle.cxx_spelling.specs.Integers.{integer_type, suffix_of};
-ghost use Rattle.cxx_spelling.specs.Translation.{wrote, advanced, taken_as, wrote_typed, wrote_bool, wrote_bracketed, takes_integer_cast, act, operand, digits_of, suffix_text, floating_type, floating_digits};
+ghost use Rattle.cxx_spelling.specs.Translation.{wrote, advanced, taken_as, wrote_typed, wrote_bool, wrote_bracketed, takes_literal, takes_integer_cast, act, operand, integer_digits, character_digits, suffix_text, floating_type, floating_digits};
 ghost use Rattle.cxx_spelling.specs.Translation.{Going};
 ghost use Rattle.cxx_spelling.specs.declared.symbol.Action.TheVariants as action;
 
 use crate::integers::{IntegerType, NO_WORDS};
-use crate::literals::{digits_of, floating_digits, floating_type, operand, suffix_text};
+use crate::literals::{
+    Digits, character_digits, floating_digits, floating_type, integer_digits, operand, suffix_text,
+};
 use crate::translation::{Progress, Translation};
 use std::alloc::AllocError;
 
-impl Translation<'_> {
+impl<'n> Translation<'n> {
     pub(crate) fn take_number(&mut self) -> Result<Progress, AllocError>
         ensures { Reaches (seen self.new) result (act action.TakeNumber (seen self.old)) }
     {
         let text = self.token.text;
-        self.write(digits_of(text))?;
-        self.take_as(suffix_text(text))
+        match integer_digits(*self.out.allocator(), self.release, text)? {
+            None => Ok(Progress::Refused),
+            Some(digits) => {
+                self.write(digits.bytes())?;
+                self.take_as(suffix_text(text))
+            }
+        }
     }
 
-    // The literal of a cast.
+    // The literal in a cast. None where the release refuses it.
+    fn operand(&self) -> Result<Option<Digits<'n>>, AllocError>
+        ensures { IfOk result (λ digits. option_map digits_bytes digits ≡ operand self.now.release (seen_token self.now.token)) }
+    {
+        operand(*self.out.allocator(), self.release, self.token)
+    }
+
     pub(crate) fn take_operand(&mut self) -> Result<Progress, AllocError>
         ensures { Reaches (seen self.new) result (act action.TakeOperand (seen self.old)) }
     {
-        let digits = operand(self.token);
-        self.take_as(digits)
+        match self.operand()? {
+            None => Ok(Progress::Refused),
+            Some(digits) => self.take_as(digits.bytes()),
+        }
     }
 
     pub(crate) fn take_character(&mut self) -> Result<Progress, AllocError>
         ensures { Reaches (seen self.new) result (act action.TakeCharacter (seen self.old)) }
     {
-        self.write(b"(char)")?;
-        let text = self.token.text;
-        self.take_as(text)
+        match character_digits(*self.out.allocator(), self.release, self.token.text)? {
+            None => Ok(Progress::Refused),
+            Some(digits) => {
+                self.write(b"(char)")?;
+                self.take_as(digits.bytes())
+            }
+        }
     }
 
     // A literal of an integer type: with its suffix, or behind its type.
@@ -62,7 +81,19 @@ impl Translation<'_> {
             None => Ok(Progress::Refused),
             Some(integer) => {
                 self.words = NO_WORDS;
-                self.write_typed(integer, operand(self.token))?;
+                self.take_typed(integer)
+            }
+        }
+    }
+
+    // The literal in a cast to an integer type.
+    fn take_typed(&mut self, integer: IntegerType) -> Result<Progress, AllocError>
+        ensures { Reaches (seen self.new) result (takes_literal (wrote_typed integer (suffix_of integer)) (operand self.old.release (seen_token self.old.token)) (seen self.old)) }
+    {
+        match self.operand()? {
+            None => Ok(Progress::Refused),
+            Some(digits) => {
+                self.write_typed(integer, digits.bytes())?;
                 self.advance();
                 Ok(Progress::Going)
             }
@@ -86,9 +117,14 @@ impl Translation<'_> {
     pub(crate) fn take_bool_cast(&mut self) -> Result<Progress, AllocError>
         ensures { Reaches (seen self.new) result (act action.TakeBoolCast (seen self.old)) }
     {
-        self.write_bool(operand(self.token))?;
-        self.advance();
-        Ok(Progress::Going)
+        match self.operand()? {
+            None => Ok(Progress::Refused),
+            Some(digits) => {
+                self.write_bool(digits.bytes())?;
+                self.advance();
+                Ok(Progress::Going)
+            }
+        }
     }
 
     // A literal of a floating-point type, in brackets behind its sign.
@@ -123,8 +159,13 @@ impl Translation<'_> {
     pub(crate) fn take_floating_cast(&mut self) -> Result<Progress, AllocError>
         ensures { Reaches (seen self.new) result (act action.TakeFloatingCast (seen self.old)) }
     {
-        self.write_bracketed(operand(self.token))?;
-        self.advance();
-        Ok(Progress::Going)
+        match self.operand()? {
+            None => Ok(Progress::Refused),
+            Some(digits) => {
+                self.write_bracketed(digits.bytes())?;
+                self.advance();
+                Ok(Progress::Going)
+            }
+        }
     }
 }

@@ -1,17 +1,43 @@
 //! Literals and their suffixes (C++, [lex.icon] and [lex.fcon]).
 
-ghost use Rattle.std.specs.Prelude.{◌≡◌, count_by};
+ghost use Rattle.std.specs.Prelude.{◌≡◌, count_by, decimal, IfOk, option_map};
 ghost use Rattle.cxx_spelling.specs.Bytes.{is_long_byte, is_unsigned_byte};
-ghost use Rattle.cxx_spelling.specs.Translation.{digits_of, floating_digits, floating_type, truth_digits, suffix_form, suffix_text, operand};
-ghost use Rattle.cxx_spelling.specs.Seen.{seen_token};
+ghost use Rattle.cxx_spelling.specs.Characters.{character_code};
+ghost use Rattle.cxx_spelling.specs.Translation.{digits_of, integer_digits, character_digits, floating_digits, floating_type, truth_digits, suffix_form, suffix_text, operand};
+ghost use Rattle.cxx_spelling.specs.Seen.{digits_bytes, seen_token};
 
 use crate::bytes::{byte_at, is_float_byte, is_long_byte, suffix_start};
+use crate::characters::character_code;
 use crate::kind::Kind;
 use crate::numbers::last_byte;
+use crate::numerals::decimal_digits;
+use crate::release::Release;
 use crate::token::Token;
+use std::alloc::{AllocError, Global};
 
-/// A literal without its suffix.
-pub(crate) fn digits_of(literal: &[u8]) -> &[u8]
+/// What is written of a literal.
+#[derive(Drop)]
+pub(crate) enum Digits<'n> {
+    /// Bytes of it.
+    Lent(&'n [u8]),
+    /// Others.
+    Owned(Vec<u8>),
+}
+
+impl Digits<'_> {
+    /// The bytes.
+    pub(crate) fn bytes(&self) -> &[u8]
+        ensures { result.now ≡ digits_bytes self.now }
+    {
+        match self {
+            Digits::Lent(bytes) => bytes,
+            Digits::Owned(text) => text.as_slice(),
+        }
+    }
+}
+
+// A literal without its suffix.
+fn digits_of(literal: &[u8]) -> &[u8]
     ensures { result.now ≡ digits_of literal.now }
 {
     let (digits, _) = literal.split_at(suffix_start(literal));
@@ -95,14 +121,56 @@ fn truth_digits(literal: &[u8]) -> &'static [u8]
     }
 }
 
-/// The literal in a cast: a character as it stands, a number without its suffix.
-pub(crate) fn operand(token: Token<'_>) -> &[u8]
-    ensures { result.now ≡ operand (seen_token token.entry) }
+/// An integer literal without its suffix, as a release writes it. None where it refuses the literal.
+pub(crate) fn integer_digits<'n>(
+    alloc: Global,
+    release: Release,
+    literal: &'n [u8],
+) -> Result<Option<Digits<'n>>, AllocError>
+    ensures { IfOk result (λ digits. option_map digits_bytes digits ≡ integer_digits release literal.now) }
+{
+    match release {
+        Release::Gdb13 => Ok(Some(Digits::Lent(digits_of(literal)))),
+        Release::Gdb16 => decimal_digits(alloc, literal),
+    }
+}
+
+// The code of a character in decimal.
+fn code_digits<'n>(alloc: Global, text: &[u8]) -> Result<Option<Digits<'n>>, AllocError>
+    ensures { IfOk result (λ digits. option_map digits_bytes digits ≡ option_map decimal (character_code text.now)) }
+{
+    match character_code(text) {
+        None => Ok(None),
+        Some(code) => Ok(Some(Digits::Owned(format!(in alloc; "{code}")?.into_bytes()))),
+    }
+}
+
+/// A character as a release writes it.
+pub(crate) fn character_digits<'n>(
+    alloc: Global,
+    release: Release,
+    text: &'n [u8],
+) -> Result<Option<Digits<'n>>, AllocError>
+    ensures { IfOk result (λ digits. option_map digits_bytes digits ≡ character_digits release text.now) }
+{
+    match release {
+        Release::Gdb13 => Ok(Some(Digits::Lent(text))),
+        Release::Gdb16 => code_digits(alloc, text),
+    }
+}
+
+/// The literal in a cast as a release writes it: a number without its suffix.
+pub(crate) fn operand<'n>(
+    alloc: Global,
+    release: Release,
+    token: Token<'n>,
+) -> Result<Option<Digits<'n>>, AllocError>
+    ensures { IfOk result (λ digits. option_map digits_bytes digits ≡ operand release (seen_token token.entry)) }
 {
     match token.kind {
-        Kind::Character => token.text,
-        Kind::Truth => truth_digits(token.text),
-        Kind::Floating => floating_digits(token.text),
-        _ => digits_of(token.text),
+        Kind::Character => character_digits(alloc, release, token.text),
+        Kind::Truth => Ok(Some(Digits::Lent(truth_digits(token.text)))),
+        Kind::Floating => Ok(Some(Digits::Lent(floating_digits(token.text)))),
+        _ => integer_digits(alloc, release, token.text),
     }
 }

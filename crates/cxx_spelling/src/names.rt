@@ -1,20 +1,22 @@
 //! Names and their template arguments: the rules.
 
 ghost use Rattle.std.specs.Prelude.{◌≡◌, option_map};
-ghost use Rattle.cxx_spelling.specs.Names.{qualified_name, name_arguments, name_rest, more_arguments, template_argument, address, address_name, address_rest, address_scope, address_member, address_arguments, address_next, conversion_pointers};
+ghost use Rattle.cxx_spelling.specs.Names.{qualified_name, name_arguments, name_rest, more_arguments, template_argument, type_argument, address, address_name, address_rest, address_scope, address_member, address_arguments, address_next, conversion_pointers};
 
 use crate::kind::Kind;
+use crate::release::Release;
 use crate::symbol::Action::{
     BeginGap, BeginQualifiers, FillOpen, LeaveGap, Skip, Take, TakeCharacter, TakeFloating,
     TakeGreater, TakeNumber, WriteClose, WriteSpace,
 };
+use crate::symbol::ArgumentSymbol::ArgumentType;
 use crate::symbol::CastSymbol::Parenthesised;
 use crate::symbol::DeclaratorSymbol::{MemberPointer, PtrOperator};
 use crate::symbol::NameSymbol::{
     Address, AddressArguments, AddressMember, AddressName, AddressNext, AddressRest, AddressScope,
     ConversionPointers, MoreArguments, NameArguments, NameRest, QualifiedName, TemplateArgument,
 };
-use crate::symbol::Nonterminal::{Casts, Declarators, Names, Types};
+use crate::symbol::Nonterminal::{Arguments, Casts, Declarators, Names, Types};
 use crate::symbol::Symbol;
 use crate::symbol::Symbol::{Do, Expand};
 use crate::symbol::TypeSymbol::{TypeId, TypeSpecifier};
@@ -71,8 +73,8 @@ pub(crate) fn more_arguments(kind: Kind) -> Option<&'static [Symbol]>
 }
 
 /// Template-argument: a type-id or a constant.
-pub(crate) fn template_argument(kind: Kind) -> Option<&'static [Symbol]>
-    ensures { option_map (λ symbols. symbols.now) result ≡ template_argument kind }
+pub(crate) fn template_argument(release: Release, kind: Kind) -> Option<&'static [Symbol]>
+    ensures { option_map (λ symbols. symbols.now) result ≡ template_argument release kind }
 {
     match kind {
         Kind::Reference => Some(&[Do(Take), Expand(Names(Address))]),
@@ -81,7 +83,17 @@ pub(crate) fn template_argument(kind: Kind) -> Option<&'static [Symbol]>
         Kind::Character => Some(&[Do(TakeCharacter)]),
         Kind::Truth => Some(&[Do(Take)]),
         Kind::Floating => Some(&[Do(TakeFloating)]),
-        _ => Some(&[Expand(Types(TypeId))]),
+        _ => type_argument(release),
+    }
+}
+
+// A type-id as an argument: gdb 16 reads types of functions there.
+fn type_argument(release: Release) -> Option<&'static [Symbol]>
+    ensures { option_map (λ symbols. symbols.now) result ≡ type_argument release }
+{
+    match release {
+        Release::Gdb13 => Some(&[Expand(Types(TypeId))]),
+        Release::Gdb16 => Some(&[Expand(Arguments(ArgumentType))]),
     }
 }
 

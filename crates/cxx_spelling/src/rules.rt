@@ -1,8 +1,12 @@
 //! The rules of the grammar: in sight of the next token, each symbol has one at most.
 
 ghost use Rattle.std.specs.Prelude.{◌≡◌, option_map};
-ghost use Rattle.cxx_spelling.specs.Rules.{rule, name_rule, type_rule, cast_rule, declarator_rule, function_rule};
+ghost use Rattle.cxx_spelling.specs.Rules.{rule, name_rule, type_rule, cast_rule, declarator_rule, function_rule, argument_rule};
 
+use crate::arguments::{
+    argument_parenthesis, argument_rest, argument_type, first_arguments, first_end, first_name,
+    first_next,
+};
 use crate::casts::{
     bool_operand, cast_bool, cast_end, cast_floating, cast_group, cast_operand, cast_words,
     floating_operand, group_end, integer_operand, parenthesised,
@@ -22,8 +26,10 @@ use crate::names::{
     address_scope, conversion_pointers, more_arguments, name_arguments, name_rest, qualified_name,
     template_argument,
 };
+use crate::release::Release;
 use crate::symbol::{
-    CastSymbol, DeclaratorSymbol, FunctionSymbol, NameSymbol, Nonterminal, Symbol, TypeSymbol,
+    ArgumentSymbol, CastSymbol, DeclaratorSymbol, FunctionSymbol, NameSymbol, Nonterminal, Symbol,
+    TypeSymbol,
 };
 use crate::types::{
     after_void, array, array_bound, bracket_end, cv_qualifiers, more_arrays, more_parameters,
@@ -31,28 +37,29 @@ use crate::types::{
 };
 
 /// What a symbol stands for in sight of the next token. None where the name is refused.
-pub(crate) fn rule(symbol: Nonterminal, kind: Kind) -> Option<&'static [Symbol]>
-    ensures { option_map (λ symbols. symbols.now) result ≡ rule symbol kind }
+pub(crate) fn rule(release: Release, symbol: Nonterminal, kind: Kind) -> Option<&'static [Symbol]>
+    ensures { option_map (λ symbols. symbols.now) result ≡ rule release symbol kind }
 {
     match symbol {
-        Nonterminal::Names(symbol) => name_rule(symbol, kind),
+        Nonterminal::Names(symbol) => name_rule(release, symbol, kind),
         Nonterminal::Types(symbol) => type_rule(symbol, kind),
         Nonterminal::Casts(symbol) => cast_rule(symbol, kind),
         Nonterminal::Declarators(symbol) => declarator_rule(symbol, kind),
         Nonterminal::Functions(symbol) => function_rule(symbol, kind),
+        Nonterminal::Arguments(symbol) => argument_rule(symbol, kind),
     }
 }
 
 // The same of a symbol of names and their template arguments.
-fn name_rule(symbol: NameSymbol, kind: Kind) -> Option<&'static [Symbol]>
-    ensures { option_map (λ symbols. symbols.now) result ≡ name_rule symbol kind }
+fn name_rule(release: Release, symbol: NameSymbol, kind: Kind) -> Option<&'static [Symbol]>
+    ensures { option_map (λ symbols. symbols.now) result ≡ name_rule release symbol kind }
 {
     match symbol {
         NameSymbol::QualifiedName => qualified_name(kind),
         NameSymbol::NameArguments => name_arguments(kind),
         NameSymbol::NameRest => name_rest(kind),
         NameSymbol::MoreArguments => more_arguments(kind),
-        NameSymbol::TemplateArgument => template_argument(kind),
+        NameSymbol::TemplateArgument => template_argument(release, kind),
         NameSymbol::Address => address(kind),
         NameSymbol::AddressName => address_name(kind),
         NameSymbol::AddressRest => address_rest(kind),
@@ -139,5 +146,20 @@ fn function_rule(symbol: FunctionSymbol, kind: Kind) -> Option<&'static [Symbol]
         FunctionSymbol::StartNext => start_next(kind),
         FunctionSymbol::Local => local(kind),
         FunctionSymbol::ConversionRest => conversion_rest(kind),
+    }
+}
+
+// The same of a symbol of types as template arguments.
+fn argument_rule(symbol: ArgumentSymbol, kind: Kind) -> Option<&'static [Symbol]>
+    ensures { option_map (λ symbols. symbols.now) result ≡ argument_rule symbol kind }
+{
+    match symbol {
+        ArgumentSymbol::ArgumentType => argument_type(kind),
+        ArgumentSymbol::ArgumentRest => argument_rest(kind),
+        ArgumentSymbol::ArgumentParenthesis => argument_parenthesis(kind),
+        ArgumentSymbol::FirstName => first_name(kind),
+        ArgumentSymbol::FirstArguments => first_arguments(kind),
+        ArgumentSymbol::FirstEnd => first_end(kind),
+        ArgumentSymbol::FirstNext => first_next(kind),
     }
 }

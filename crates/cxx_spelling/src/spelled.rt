@@ -1,9 +1,10 @@
-//! The spelling of a name.
+//! The spelling of a name: what a release of gdb, 13 or 16, makes of it, or the name as it stands where the grammar refuses it.
 
 ghost use Rattle.std.specs.Prelude.{◌≡◌, IfOk};
 ghost use Rattle.cxx_spelling.specs.Spelling.{is_sign_alone, is_one_word, gdb_spelling, gdb_c_spelling, spelling_bytes, IsSpelledAs};
 
 use crate::bytes::word_length;
+use crate::release::Release;
 use crate::translation::translated;
 use std::alloc::{AllocError, Global};
 
@@ -30,29 +31,37 @@ fn is_one_word(name: &[u8]) -> bool
     word_length(name) == name.len() && !is_sign_alone(name)
 }
 
-/// A component of a C++ name, without a zero byte, as gdb spells it (cp_canonicalize_string of its cp-support.c). It is
+/// A component of a C++ name, without a zero byte, as a release of gdb spells it (cp_canonicalize_string of its cp-support.c). It is
 /// lent where nothing changes: so are names that the grammar refuses, and those of more than 1 MiB.
 #[tactic(auto, unfolding(crate::specs::Spelling::gdb_spelling))]
-pub fn spelling<'n>(alloc: Global, name: &'n [u8]) -> Result<SpelledName<'n>, AllocError>
-    ensures { IfOk result (IsSpelledAs (gdb_spelling name.now) name.now) }
+pub fn spelling<'n>(
+    alloc: Global,
+    release: Release,
+    name: &'n [u8],
+) -> Result<SpelledName<'n>, AllocError>
+    ensures { IfOk result (IsSpelledAs (gdb_spelling release name.now) name.now) }
 {
     if is_one_word(name) {
         return Ok(SpelledName::Lent(name));
     }
-    match translated(alloc, name)? {
+    match translated(alloc, release, name)? {
         None => Ok(SpelledName::Lent(name)),
         Some(text) => Ok(lent_or_owned(name, text)),
     }
 }
 
-/// A name of C as gdb spells it (c_canonicalize_name of its c-lang.c): what has no blank stays, but for `signed` and
+/// A name of C as a release of gdb spells it (c_canonicalize_name of its c-lang.c): what has no blank stays, but for `signed` and
 /// `unsigned`.
 #[tactic(auto, unfolding(crate::specs::Spelling::gdb_c_spelling))]
-pub fn c_spelling<'n>(alloc: Global, name: &'n [u8]) -> Result<SpelledName<'n>, AllocError>
-    ensures { IfOk result (IsSpelledAs (gdb_c_spelling name.now) name.now) }
+pub fn c_spelling<'n>(
+    alloc: Global,
+    release: Release,
+    name: &'n [u8],
+) -> Result<SpelledName<'n>, AllocError>
+    ensures { IfOk result (IsSpelledAs (gdb_c_spelling release name.now) name.now) }
 {
     if name.contains(&b' ') || is_sign_alone(name) {
-        spelling(alloc, name)
+        spelling(alloc, release, name)
     } else {
         Ok(SpelledName::Lent(name))
     }

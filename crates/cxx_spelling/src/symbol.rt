@@ -15,6 +15,7 @@ pub(crate) enum Nonterminal {
     Casts(CastSymbol),
     Declarators(DeclaratorSymbol),
     Functions(FunctionSymbol),
+    Arguments(ArgumentSymbol),
 }
 
 /// The symbols of names and their template arguments.
@@ -99,6 +100,18 @@ pub(crate) enum FunctionSymbol {
     StartNext,
     Local,
     ConversionRest,
+}
+
+/// The symbols of types as template arguments, types of functions among them.
+#[derive(Clone, Copy)]
+pub(crate) enum ArgumentSymbol {
+    ArgumentType,
+    ArgumentRest,
+    ArgumentParenthesis,
+    FirstName,
+    FirstArguments,
+    FirstEnd,
+    FirstNext,
 }
 
 /// Something to do with the next token or the text.

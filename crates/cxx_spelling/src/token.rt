@@ -18,7 +18,8 @@ pub(crate) struct Token<'n> {
     pub(crate) rest: &'n [u8],
 }
 
-fn is_octal(b: u8) -> bool
+/// Whether a byte is an octal digit.
+pub(crate) fn is_octal(b: u8) -> bool
     ensures { result ≡ is_octal b }
 {
     b >= b'0' && b <= b'7'

@@ -9,6 +9,7 @@ ghost use Rattle.cxx_spelling.specs.Translation.{is_written, begun, expanded, cl
 use crate::integers::{IntegerWords, NO_WORDS};
 use crate::kind::Kind;
 use crate::qualifiers::{NO_QUALIFIERS, Qualifiers};
+use crate::release::Release;
 use crate::rules::rule;
 use crate::symbol::{Action, FunctionSymbol, Nonterminal, Symbol};
 use crate::token::{Token, first_token};
@@ -28,6 +29,8 @@ pub(crate) enum Progress {
 /// A name that is being read and written anew.
 #[derive(Drop)]
 pub(crate) struct Translation<'n> {
+    /// Whose spelling it becomes.
+    pub(crate) release: Release,
     /// The next token, and what stands behind it.
     pub(crate) token: Token<'n>,
     /// What has been written.
@@ -51,10 +54,11 @@ const MAX_LENGTH: usize = 1_048_576;
 const WHOLE: &[Symbol] = &[Symbol::Expand(Nonterminal::Functions(FunctionSymbol::Start))];
 
 impl<'n> Translation<'n> {
-    fn begin(alloc: Global, name: &'n [u8]) -> Result<Translation<'n>, AllocError>
-        ensures { IfOk result (λ translation. seen translation ≡ begun name.now) }
+    fn begin(alloc: Global, release: Release, name: &'n [u8]) -> Result<Translation<'n>, AllocError>
+        ensures { IfOk result (λ translation. seen translation ≡ begun release name.now) }
     {
         Ok(Translation {
+            release,
             token: first_token(name),
             out: Vec::with_capacity(alloc, name.len())?,
             qualifiers: NO_QUALIFIERS,
@@ -84,9 +88,9 @@ impl<'n> Translation<'n> {
     // A symbol becomes what its rule says.
     #[tactic(auto, using(crate::proofs::StackLaws::stacked_push))]
     fn expand(&mut self, symbol: Nonterminal) -> Result<Progress, AllocError>
-        ensures { Reaches (seen self.new) result (expanded (rule symbol self.old.token.kind) (seen self.old)) }
+        ensures { Reaches (seen self.new) result (expanded (rule self.old.release symbol self.old.token.kind) (seen self.old)) }
     {
-        match rule(symbol, self.token.kind) {
+        match rule(self.release, symbol, self.token.kind) {
             None => Ok(Progress::Refused),
             Some(symbols) => {
                 self.pending.push(self.current)?;
@@ -156,13 +160,17 @@ fn without_gaps(text: Vec<u8>) -> Vec<u8>
 
 /// A name written anew. None where it stands as it is.
 #[tactic(auto, unfolding(crate::specs::Translation::translation))]
-pub(crate) fn translated(alloc: Global, name: &[u8]) -> Result<Option<Vec<u8>>, AllocError>
-    ensures { IfOk result (λ text. option_map (λ bytes. bytes.items) text ≡ translation name.now) }
+pub(crate) fn translated(
+    alloc: Global,
+    release: Release,
+    name: &[u8],
+) -> Result<Option<Vec<u8>>, AllocError>
+    ensures { IfOk result (λ text. option_map (λ bytes. bytes.items) text ≡ translation release name.now) }
 {
     if name.len() > MAX_LENGTH {
         return Ok(None);
     }
-    let mut name_anew = Translation::begin(alloc, name)?;
+    let mut name_anew = Translation::begin(alloc, release, name)?;
     if name_anew.run(32 * name.len() + 64)? {
         Ok(Some(without_gaps(name_anew.out)))
     } else {

@@ -1,7 +1,7 @@
 //! What the definition gives for some names, computed by the checker. Each function does nothing: its contract is a group of
-//! names, with the spelling that gdb 13 has for them in an index that it writes.
+//! names, with the spelling that a release of gdb has for them in an index that it writes.
 
-ghost use Rattle.cxx_spelling.specs.Vectors.{Types, Declarators, Constants, Kept};
+ghost use Rattle.cxx_spelling.specs.Vectors.{Types, Declarators, Constants, Kept, Functions, Numbers, Characters, KeptBy16};
 
 /// Types and names with arguments.
 pub fn types()
@@ -21,4 +21,24 @@ pub fn constants()
 /// What the grammar refuses.
 pub fn kept()
     ensures { Kept }
+{}
+
+/// Types of functions as arguments in gdb 16.
+pub fn functions()
+    ensures { Functions }
+{}
+
+/// Integer literals in gdb 16.
+pub fn numbers()
+    ensures { Numbers }
+{}
+
+/// Characters in gdb 16.
+pub fn characters()
+    ensures { Characters }
+{}
+
+/// What the grammar refuses in gdb 16.
+pub fn kept_by_16()
+    ensures { KeptBy16 }
 {}
