@@ -1,6 +1,8 @@
 -- The list of entries of a file (gdb/dwarf2/read.c, index_dies; index-write.c, write_cooked_index).
-use Rattle.std.specs.Prelude.{ℕ, Bool, true, false, ◌==◌, if◌then◌else◌, List, [], ◌∷◌, ◌++◌, map, flat_map, filter, Option, Some, None, option_to_list, unwrap_or}
+use Rattle.std.specs.Prelude.{ℕ, Bool, true, false, ◌==◌, if◌then◌else◌, List, [], ◌∷◌, ◌++◌, map, flat_map, filter, Option, Some, None, option_to_list, unwrap_or, bytes_eq}
 use Rattle.ix_base.specs.Reading.{before_zero}
+use Rattle.cxx_spelling.specs.declared.release.Release.{Release}
+use Rattle.cxx_spelling.specs.declared.release.Release.TheVariants.{Gdb13, Gdb16}
 use Rattle.index_model.specs.declared.entry.Entry.{Entry}
 use Rattle.index_model.specs.declared.entry.Kind.{Kind}
 use Rattle.index_model.specs.Meaning.{value_of}
@@ -46,17 +48,34 @@ entry_as owner d static linkage name kind = record {
   tail = 0;
 }
 
--- A second name as it is listed: whether it is that of a linkage entry, and its text. An only name is spelled as names are, a linkage
--- name isn't.
-abbrev pub second_listed : LanguageClass → SecondName → Bool × List ℕ
-second_listed class (OnlyName name) = (false, if is_ada class then ada_name (name ∷ []) else spelled class name)
-second_listed class (Linkage name) = (true, if is_ada class then encoded name else name)
+-- A name as gdb 13 and gdb 16 spell it, once where both do it alike: an index serves either.
+abbrev pub by_both : (Release → List ℕ) → List (List ℕ)
+by_both name = if bytes_eq (name Gdb13) (name Gdb16) then name Gdb13 ∷ [] else name Gdb13 ∷ name Gdb16 ∷ []
 
--- the names of an item that is looked at
+-- a linkage name that is taken for a name: no scope stands before it
+abbrev pub only_name : Release → LanguageClass → List ℕ → List ℕ
+only_name release class name = if is_ada class then ada_name (name ∷ []) else spelled release class name
+
+-- a second name as it is listed: an only name is spelled as names are, a linkage name isn't
+abbrev pub second_texts : LanguageClass → SecondName → List (List ℕ)
+second_texts class (OnlyName name) = by_both (λ release. only_name release class name)
+second_texts class (Linkage name) = (if is_ada class then encoded name else name) ∷ []
+
+-- whether it is that of a linkage entry
+abbrev pub is_linkage : SecondName → Bool
+is_linkage (OnlyName name) = false
+is_linkage (Linkage name) = true
+
+-- the full names of an item, if it has a name
+abbrev pub full_texts : Program → LanguageClass → Located → Option (List ℕ) → List (List ℕ)
+full_texts p class d name = flat_map (λ n. by_both (λ release. full_name release p class d n)) (option_to_list name)
+
+-- the names of an item that is looked at, each with whether it is that of a linkage entry
 unfoldable pub names_of : Program → LanguageClass → Located → List (Bool × List ℕ)
 names_of p class d =
     let names = item_names class (facts_of d.item) (name_of p class d) (linkage_of p d) in
-    map (λ name. (false, full_name p class d name)) (option_to_list names.name) ++ map (second_listed class) (option_to_list names.second)
+    map (λ text. (false, text)) (full_texts p class d names.name)
+    ++ flat_map (λ second. map (λ text. (is_linkage second, text)) (second_texts class second)) (option_to_list names.second)
 
 -- the entries of an item that is looked at: each name under each kind of its tag
 unfoldable pub entries_of_item : Program → Walked → LanguageClass → Located → List Entry

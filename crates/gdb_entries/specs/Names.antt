@@ -1,6 +1,7 @@
 -- Full names (gdb/dwarf2/cooked-index.c, full_name, write_scope; index-write.c, write_cooked_index).
 use Rattle.std.specs.Prelude.{ℕ, if◌then◌else◌, List, [], ◌∷◌, reverse, filter_map, codes, is_some, unwrap_or, Option, option_and_then}
 use Rattle.std.specs.List.{join_by}
+use Rattle.cxx_spelling.specs.declared.release.Release.{Release}
 use Rattle.index_model.specs.Program.{Program, Located}
 use Rattle.gdb_entries.specs.declared.language.LanguageClass.{LanguageClass}
 use Rattle.gdb_entries.specs.Classes.{is_ada}
@@ -11,8 +12,8 @@ use Rattle.gdb_entries.specs.Scopes.{scope_path}
 use Rattle.ada_spelling.specs.AdaNames.{decoded, encoded}
 
 -- the component that a member of a path gives, by the class by which its own unit is read
-unfoldable pub component : Program → Located → Option (List ℕ)
-component p e = option_and_then (λ class. component_of class e.item.tag (is_scoped p e) (name_of p class e)) (class_read p e.home)
+unfoldable pub component : Release → Program → Located → Option (List ℕ)
+component release p e = option_and_then (λ class. component_of release class e.item.tag (is_scoped p e) (name_of p class e)) (class_read p e.home)
 
 -- ---- Ada
 
@@ -30,8 +31,8 @@ ada_name names = encoded (join_by (λ piece. piece) (codes ".") (reverse (ada_pi
 
 -- ---- full names
 
--- the full name of an item with this name that is read by this class
-unfoldable pub full_name : Program → LanguageClass → Located → List ℕ → List ℕ
-full_name p class d name =
-    let components = filter_map (component p) (scope_path p d) in
-    if is_ada class then ada_name (name ∷ components) else behind_scope class (reverse components) (spelled class name)
+-- the full name of an item with this name that is read by this class, by the spelling of one release throughout
+unfoldable pub full_name : Release → Program → LanguageClass → Located → List ℕ → List ℕ
+full_name release p class d name =
+    let components = filter_map (component release p) (scope_path p d) in
+    if is_ada class then ada_name (name ∷ components) else behind_scope class (reverse components) (spelled release class name)
