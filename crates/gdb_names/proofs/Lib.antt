@@ -1,2 +1,3 @@
 mod JoinLaws
 mod AdaLaws
+mod BothLaws

@@ -1,3 +1,4 @@
 pub mod Seen
+pub mod Both
 pub mod FullNames
 pub mod FileNames

@@ -1,11 +1,14 @@
 //! The components of names, each spelled by the class by which its own unit is read.
 
 ghost use Rattle.std.specs.Prelude.{◌≡◌, IfOk, option_map};
-ghost use Rattle.cxx_spelling.specs.Spelling.{IsSpelledAs, spelling_bytes};
+ghost use Rattle.cxx_spelling.specs.declared.release.Release.{Release};
+ghost use Rattle.cxx_spelling.specs.Spelling.{IsSpelledAs};
 ghost use Rattle.gdb_entries.specs.Components.{spelled, component_of};
+ghost use Rattle.gdb_names.specs.Both.{AreBoth, text_by};
 ghost use Rattle.gdb_names.specs.Seen.{bytes_of};
 
-use cxx_spelling::{SpelledName, c_spelling, spelling};
+use crate::both::BothNames;
+use cxx_spelling::{Release, SpelledName, c_spelling, spelling};
 use gdb_entries::{LanguageClass, gives_component};
 use std::alloc::{AllocError, Global};
 
@@ -15,12 +18,26 @@ pub fn spelled<'n>(
     alloc: Global,
     class: LanguageClass,
     name: &'n [u8],
+) -> Result<BothNames<'n>, AllocError>
+    ensures { IfOk result (AreBoth (λ release. spelled release class name.now)) }
+{
+    let older = spelled_by(alloc, Release::Gdb13, class, name)?;
+    let newer = spelled_by(alloc, Release::Gdb16, class, name)?;
+    Ok(BothNames::of(older, newer))
+}
+
+/// The name as one release spells it.
+pub(crate) fn spelled_by<'n>(
+    alloc: Global,
+    release: Release,
+    class: LanguageClass,
+    name: &'n [u8],
 ) -> Result<SpelledName<'n>, AllocError>
-    ensures { IfOk result (IsSpelledAs (spelled class name.now) name.now) }
+    ensures { IfOk result (IsSpelledAs (spelled release class name.now) name.now) }
 {
     match class {
-        LanguageClass::C => c_spelling(alloc, name),
-        LanguageClass::Cxx => spelling(alloc, name),
+        LanguageClass::C => c_spelling(alloc, release, name),
+        LanguageClass::Cxx => spelling(alloc, release, name),
         _ => Ok(SpelledName::Lent(name)),
     }
 }
@@ -33,8 +50,8 @@ pub fn component<'n>(
     tag: u64,
     scoped: bool,
     name: Option<&'n [u8]>,
-) -> Result<Option<SpelledName<'n>>, AllocError>
-    ensures { IfOk result (λ component. option_map spelling_bytes component ≡ component_of class tag scoped (bytes_of name.entry)) }
+) -> Result<Option<BothNames<'n>>, AllocError>
+    ensures { IfOk result (λ component. (release : Release) → option_map (text_by release) component ≡ component_of release class tag scoped (bytes_of name.entry)) }
 {
     match name {
         Some(name) if gives_component(tag, scoped) => Ok(Some(spelled(alloc, class, name)?)),

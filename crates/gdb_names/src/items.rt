@@ -1,11 +1,12 @@
 //! Which names an item is listed under.
 
 ghost use Rattle.std.specs.Prelude.{◌≡◌, IfOk, option_map};
-ghost use Rattle.cxx_spelling.specs.Spelling.{spelling_bytes};
-ghost use Rattle.gdb_entries.specs.Entries.{second_listed};
+ghost use Rattle.gdb_entries.specs.Entries.{second_texts};
 ghost use Rattle.gdb_entries.specs.ItemNames.{item_names, second_name, linkage_name};
+ghost use Rattle.gdb_names.specs.Both.{both_texts};
 ghost use Rattle.gdb_names.specs.Seen.{bytes_of, names_seen, second_seen};
 
+use crate::both::{BothComponents, BothNames};
 use crate::full_names::full_name;
 use ada_spelling::encode;
 use cxx_spelling::SpelledName;
@@ -23,15 +24,19 @@ pub enum SecondName<'n> {
 
 impl<'n> SecondName<'n> {
     /// The name as it is listed in a unit of this class.
-    pub fn listed(self, alloc: Global, class: LanguageClass) -> Result<SpelledName<'n>, AllocError>
-        ensures { IfOk result (λ text. spelling_bytes text ≡ (second_listed class (second_seen self.entry)).1) }
+    pub fn listed(self, alloc: Global, class: LanguageClass) -> Result<BothNames<'n>, AllocError>
+        ensures { IfOk result (λ names. both_texts names ≡ second_texts class (second_seen self.entry)) }
     {
+        let no_scope = BothComponents {
+            older: &[],
+            newer: None,
+        };
         match (self, class) {
-            (SecondName::OnlyName(name), _) => full_name(alloc, class, &[], name),
-            (SecondName::Linkage(name), LanguageClass::Ada) => {
-                Ok(SpelledName::Owned(encode(alloc, name)?))
-            }
-            (SecondName::Linkage(name), _) => Ok(SpelledName::Lent(name)),
+            (SecondName::OnlyName(name), _) => full_name(alloc, class, no_scope, name),
+            (SecondName::Linkage(name), LanguageClass::Ada) => Ok(BothNames::alike(
+                SpelledName::Owned(encode(alloc, name)?),
+            )),
+            (SecondName::Linkage(name), _) => Ok(BothNames::alike(SpelledName::Lent(name))),
         }
     }
 }

@@ -2,16 +2,20 @@
 //! spelled by the class of its unit, a name behind the components of its scope, one of Ada decoded and encoded again, and which
 //! names an item has.
 //!
+//! gdb 13 and gdb 16 spell some names differently: each name is given by both, the second only where it is another.
+//!
 //! What is given is what the definitions of gdb_entries say: who walks over a file puts these together.
 #![tactic(auto)]
 
 mod ada;
+mod both;
 mod components;
 pub mod file_names;
 mod full_names;
 mod items;
 mod scope;
 
+pub use both::{BothComponents, BothNames};
 pub use components::{component, spelled};
 pub use full_names::full_name;
 pub use items::{ItemNames, SecondName, item_names};

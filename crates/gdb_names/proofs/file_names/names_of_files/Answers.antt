@@ -13,13 +13,13 @@ use Rattle.gdb_names.proofs.file_names.names_of_files.Goals as goal
 
 pub returns-clause-components : goal.returns-clause-components
 unfolding component
-returns-clause-components c p class e h = ap (option_and_then (λ (by : LanguageClass). component_of by e.item.tag (is_scoped p e) (name_of p by e))) h
+returns-clause-components c release p class e h = ap (option_and_then (λ (by : LanguageClass). component_of release by e.item.tag (is_scoped p e) (name_of p by e))) h
 
 pub returns-clause-full : goal.returns-clause-full
 unfolding full_name
-returns-clause-full c p class d name =
-    let components = filter_map (component p) (scope_path p d) in
-    let others = behind_scope class (reverse components) (spelled class name) in
+returns-clause-full c release p class d name =
+    let components = filter_map (component release p) (scope_path p d) in
+    let others = behind_scope class (reverse components) (spelled release class name) in
     ap (λ (names : List (List ℕ)). if is_ada class then ada_name (name ∷ names) else others) (sym (reverse-reverse components))
 
 pub returns-clause-fronts : goal.returns-clause-fronts
