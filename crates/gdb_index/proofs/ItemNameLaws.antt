@@ -1,28 +1,29 @@
 -- The names of an item, by what is told of it.
-use Rattle.std.proofs.Common.{◌≡◌, ℕ, Bool, false, List, ◌++◌, map, Option, Some, None, option_map, refl, ap, ◌∙◌}
+use Rattle.std.proofs.Common.{◌≡◌, ℕ, Bool, false, List, [], ◌∷◌, ◌++◌, map, flat_map, Option, refl, sym, ap, ◌∙◌}
+use Rattle.std.proofs.lemmas.List.{map-append}
 use Rattle.std.specs.Prelude.{option_to_list}
 use Rattle.index_model.specs.Program.{Program, Located}
 use Rattle.gdb_entries.specs.declared.item.ItemFacts.{ItemFacts}
 use Rattle.gdb_entries.specs.declared.language.LanguageClass.{LanguageClass}
 use Rattle.gdb_entries.specs.Chains.{facts_of, linkage_of, name_of}
-use Rattle.gdb_entries.specs.Entries.{names_of, second_listed}
+use Rattle.gdb_entries.specs.Entries.{full_texts, is_linkage, names_of, second_texts}
 use Rattle.gdb_entries.specs.ItemNames.{ItemNames, SecondName, item_names}
-use Rattle.gdb_entries.specs.Names.{full_name}
 
 module _ (p : Program) (class : LanguageClass) (d : Located) where
-  abbrev pub full : List ℕ → List ℕ
-  full name = full_name p class d name
+  -- the texts of a second name, with what they are
+  abbrev second_named : SecondName → List (Bool × List ℕ)
+  second_named second = map (λ (text : List ℕ). (is_linkage second, text)) (second_texts class second)
 
-  abbrev pub second_text : SecondName → List ℕ
-  second_text name = (second_listed class name).1
+  bare : (b : Bool) (texts : List (List ℕ)) → texts ≡ map (λ (n : Bool × List ℕ). n.1) (map (λ (text : List ℕ). (b, text)) texts)
+  bare b [] = refl
+  bare b (t ∷ ts) = ap (λ (more : List (List ℕ)). t ∷ more) (bare b ts)
 
-  both : (name : Option (List ℕ)) (second : Option SecondName) →
-      option_to_list (option_map full name) ++ option_to_list (option_map second_text second)
-      ≡ map (λ (n : Bool × List ℕ). n.1) (map (λ (m : List ℕ). (false, full m)) (option_to_list name) ++ map (second_listed class) (option_to_list second))
-  both None None = refl
-  both None (Some s) = refl
-  both (Some n) None = refl
-  both (Some n) (Some s) = refl
+  bare_second : (seconds : List SecondName) → flat_map (second_texts class) seconds ≡ map (λ (n : Bool × List ℕ). n.1) (flat_map second_named seconds)
+  bare_second [] = refl
+  bare_second (s ∷ ss) =
+      ap (λ (more : List (List ℕ)). second_texts class s ++ more) (bare_second ss)
+      ∙ ap (λ (first : List (List ℕ)). first ++ map (λ (n : Bool × List ℕ). n.1) (flat_map second_named ss)) (bare (is_linkage s) (second_texts class s))
+      ∙ sym (map-append (λ (n : Bool × List ℕ). n.1) (second_named s) (flat_map second_named ss))
 
   -- by its facts, its name and its linkage name
   pub names_told : (facts : ItemFacts) (name linkage : Option (List ℕ)) → facts ≡ facts_of d.item → name ≡ name_of p class d → linkage ≡ linkage_of p d →
@@ -34,11 +35,14 @@ module _ (p : Program) (class : LanguageClass) (d : Located) where
 
   -- the texts of these names are those of the item
   pub texts_told : (names : ItemNames) → names ≡ item_names class (facts_of d.item) (name_of p class d) (linkage_of p d) →
-      (first second : Option (List ℕ)) → first ≡ option_map full names.name → second ≡ option_map second_text names.second →
-      option_to_list first ++ option_to_list second ≡ map (λ (n : Bool × List ℕ). n.1) (names_of p class d)
+      (first second : List (List ℕ)) → first ≡ full_texts p class d names.name → second ≡ flat_map (second_texts class) (option_to_list names.second) →
+      first ++ second ≡ map (λ (n : Bool × List ℕ). n.1) (names_of p class d)
   unfolding names_of
   texts_told names are first second is_first is_second =
-      ap (λ (o : Option (List ℕ)). option_to_list o ++ option_to_list second) is_first
-      ∙ ap (λ (o : Option (List ℕ)). option_to_list (option_map full names.name) ++ option_to_list o) is_second
-      ∙ both names.name names.second
-      ∙ ap (λ (x : ItemNames). map (λ (n : Bool × List ℕ). n.1) (map (λ (m : List ℕ). (false, full m)) (option_to_list x.name) ++ map (second_listed class) (option_to_list x.second))) are
+      let fulls = full_texts p class d names.name in
+      let named = map (λ (text : List ℕ). (false, text)) fulls in
+      let seconds = flat_map second_named (option_to_list names.second) in
+      ap (λ (ts : List (List ℕ)). ts ++ second) (is_first ∙ bare false fulls)
+      ∙ ap (λ (ts : List (List ℕ)). map (λ (n : Bool × List ℕ). n.1) named ++ ts) (is_second ∙ bare_second (option_to_list names.second))
+      ∙ sym (map-append (λ (n : Bool × List ℕ). n.1) named seconds)
+      ∙ ap (λ (x : ItemNames). map (λ (n : Bool × List ℕ). n.1) (map (λ (text : List ℕ). (false, text)) (full_texts p class d x.name) ++ flat_map second_named (option_to_list x.second))) are

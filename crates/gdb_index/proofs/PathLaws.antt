@@ -3,6 +3,7 @@ use Rattle.std.proofs.Common.{◌≡◌, ℕ, zero, suc, ◌-◌, Bool, true, fa
 use Rattle.std.specs.Prelude.{option_and_then, option_to_list, unwrap_or}
 use Rattle.std.specs.List.{cons_option}
 use Rattle.ix_base.specs.declared.limits.TheConstants.{MAX_PATH_STEPS}
+use Rattle.cxx_spelling.specs.declared.release.Release.{Release}
 use Rattle.index_model.specs.Faults.{program_of}
 use Rattle.index_model.specs.Program.{Program, Located}
 use Rattle.gdb_entries.specs.Names.{component}
@@ -11,8 +12,8 @@ use Rattle.gdb_entries.specs.Scopes.{path_behind, path_from, scope_in_place, sco
 use Rattle.gdb_scopes.specs.Places.{offset_of, IsAt}
 use Rattle.gdb_scopes.proofs.AroundLaws.{own_there, scope_there}
 use Rattle.gdb_scopes.proofs.ScopeLaws.{one_around}
-use Rattle.gdb_index.specs.declared.text.ComponentText.{ComponentText}
-use Rattle.gdb_index.specs.Texts.{text_bytes}
+use Rattle.gdb_index.specs.declared.both_texts.BothTexts.{BothTexts}
+use Rattle.gdb_index.specs.Texts.{text_by}
 
 -- ---- a member of a path stands at its offset
 
@@ -31,39 +32,39 @@ module _ (f : List ℕ) (p : Program) (is : program_of f ≡ Ok p) where
 
 -- ---- the components of a path
 
-abbrev pub components : Program → List Located → List (List ℕ)
-components p es = filter_map (component p) es
+abbrev pub components : Release → Program → List Located → List (List ℕ)
+components release p es = filter_map (component release p) es
 
 -- those of what is around an item, where that has n members at most
-abbrev behind : Program → ℕ → Located → Option (List (List ℕ))
-behind p n d = option_map (components p) (path_from p n d)
+abbrev behind : Release → Program → ℕ → Located → Option (List (List ℕ))
+behind release p n d = option_map (components release p) (path_from p n d)
 
 -- of a path that is too long there are none
-of_path : (p : Program) (d : Located) → components p (scope_path p d) ≡ unwrap_or (behind p MAX_PATH_STEPS d) []
+of_path : (release : Release) (p : Program) (d : Located) → components release p (scope_path p d) ≡ unwrap_or (behind release p MAX_PATH_STEPS d) []
 unfolding scope_path
-of_path p d = by (path_from p MAX_PATH_STEPS d)
+of_path release p d = by (path_from p MAX_PATH_STEPS d)
   where
-    by : (o : Option (List Located)) → components p (unwrap_or o []) ≡ unwrap_or (option_map (components p) o) []
+    by : (o : Option (List Located)) → components release p (unwrap_or o []) ≡ unwrap_or (option_map (components release p) o) []
     by None = refl
     by (Some es) = refl
 
 -- without a scope the path has its end
-ends_here : (p : Program) (n : ℕ) (d : Located) → scope_of p d ≡ None → behind p n d ≡ Some []
+ends_here : (release : Release) (p : Program) (n : ℕ) (d : Located) → scope_of p d ≡ None → behind release p n d ≡ Some []
 unfolding path_from
-ends_here p zero d none = ap (λ (o : Option Located). option_map (components p) (path_behind p o (λ e. None))) none
-ends_here p (suc n) d none = ap (λ (o : Option Located). option_map (components p) (path_behind p o (λ e. path_from p n e))) none
+ends_here release p zero d none = ap (λ (o : Option Located). option_map (components release p) (path_behind p o (λ e. None))) none
+ends_here release p (suc n) d none = ap (λ (o : Option Located). option_map (components release p) (path_behind p o (λ e. path_from p n e))) none
 
 -- with one where none may come it is too long
-too_long : (p : Program) (d e : Located) → scope_of p d ≡ Some e → behind p 0 d ≡ None
+too_long : (release : Release) (p : Program) (d e : Located) → scope_of p d ≡ Some e → behind release p 0 d ≡ None
 unfolding path_from
-too_long p d e some = ap (λ (o : Option Located). option_map (components p) (path_behind p o (λ x. None))) some
+too_long release p d e some = ap (λ (o : Option Located). option_map (components release p) (path_behind p o (λ x. None))) some
 
 -- one that may come gives its component, and the path goes on around it
-goes_on : (p : Program) (n : ℕ) (d e : Located) → scope_of p d ≡ Some e → behind p (suc n) d ≡ option_map (λ more. cons_option (component p e) more) (behind p n e)
+goes_on : (release : Release) (p : Program) (n : ℕ) (d e : Located) → scope_of p d ≡ Some e → behind release p (suc n) d ≡ option_map (λ more. cons_option (component release p e) more) (behind release p n e)
 unfolding path_from
-goes_on p n d e some = ap (λ (o : Option Located). option_map (components p) (path_behind p o (λ x. path_from p n x))) some ∙ by (path_from p n e)
+goes_on release p n d e some = ap (λ (o : Option Located). option_map (components release p) (path_behind p o (λ x. path_from p n x))) some ∙ by (path_from p n e)
   where
-    by : (o : Option (List Located)) → option_map (components p) (option_map (λ more. e ∷ more) o) ≡ option_map (λ more. cons_option (component p e) more) (option_map (components p) o)
+    by : (o : Option (List Located)) → option_map (components release p) (option_map (λ more. e ∷ more) o) ≡ option_map (λ more. cons_option (component release p e) more) (option_map (components release p) o)
     by None = refl
     by (Some es) = refl
 
@@ -82,18 +83,18 @@ nothing_before None = refl
 nothing_before (Some more) = refl
 
 -- the path of an item was followed to another one, around which so many members may still come
-pub record IsFollowedTo (p : Program) (d : Located) (left : ℕ) (texts : List ComponentText) (next : Option ℕ) : Type 0 where
+pub record IsFollowedTo (p : Program) (d : Located) (left : ℕ) (texts : List BothTexts) (next : Option ℕ) : Type 0 where
   pub item : Located
   pub there : IsAt p item.item.at item
   pub next_is : next ≡ option_map offset_of (scope_of p item)
-  pub whole : behind p MAX_PATH_STEPS d ≡ option_map (λ more. map text_bytes texts ++ more) (behind p left item)
+  pub whole : (release : Release) → behind release p MAX_PATH_STEPS d ≡ option_map (λ more. map (text_by release) texts ++ more) (behind release p left item)
 
-pub follow_none : (f : List ℕ) (p : Program) → program_of f ≡ Ok p → (o : ℕ) (d : Located) → IsAt p o d → (texts : List ComponentText) → texts ≡ [] → (next : Option ℕ) → next ≡ option_map offset_of (scope_of p d) → IsFollowedTo p d MAX_PATH_STEPS texts next
+pub follow_none : (f : List ℕ) (p : Program) → program_of f ≡ Ok p → (o : ℕ) (d : Located) → IsAt p o d → (texts : List BothTexts) → texts ≡ [] → (next : Option ℕ) → next ≡ option_map offset_of (scope_of p d) → IsFollowedTo p d MAX_PATH_STEPS texts next
 follow_none f p is o d here texts none next scope = record {
   item = d;
   there = own_there f p is o d here;
   next_is = scope;
-  whole = nothing_before (behind p MAX_PATH_STEPS d) ∙ ap (λ (ts : List ComponentText). option_map (λ more. map text_bytes ts ++ more) (behind p MAX_PATH_STEPS d)) (sym none);
+  whole = λ release. nothing_before (behind release p MAX_PATH_STEPS d) ∙ ap (λ (ts : List BothTexts). option_map (λ more. map (text_by release) ts ++ more) (behind release p MAX_PATH_STEPS d)) (sym none);
 }
 
 -- the next member
@@ -102,42 +103,42 @@ pub record NextMember (p : Program) (item : Located) (member : ℕ) : Type 0 whe
   pub scope : scope_of p item ≡ Some located
   pub is : IsAt p member located
 
-module _ (f : List ℕ) (p : Program) (is : program_of f ≡ Ok p) (d : Located) (left : ℕ) (texts : List ComponentText) (next : Option ℕ) (h : IsFollowedTo p d left texts next) where
+module _ (f : List ℕ) (p : Program) (is : program_of f ≡ Ok p) (d : Located) (left : ℕ) (texts : List BothTexts) (next : Option ℕ) (h : IsFollowedTo p d left texts next) where
   pub next_member : (member : ℕ) → next ≡ Some member → NextMember p h.item member
   next_member member some =
       let e = one_around (scope_of p h.item) member (sym some ∙ h.next_is) in
       record { located = e.0; scope = e.1; is = subst (λ (n : ℕ). IsAt p n e.0) e.2 (member_there f p is h.item.item.at h.item e.0 h.there e.1) }
 
   -- it gives its component
-  pub follow_one : (member : ℕ) (m : NextMember p h.item member) (fewer : ℕ) → left ≡ suc fewer → (now : List ComponentText) → map text_bytes now ≡ map text_bytes texts ++ option_to_list (component p m.located) →
+  pub follow_one : (member : ℕ) (m : NextMember p h.item member) (fewer : ℕ) → left ≡ suc fewer → (now : List BothTexts) → ((release : Release) → map (text_by release) now ≡ map (text_by release) texts ++ option_to_list (component release p m.located)) →
       (scope : Option ℕ) → scope ≡ option_map offset_of (scope_of p m.located) → IsFollowedTo p d fewer now scope
   follow_one member m fewer less now are scope around = record {
     item = m.located;
     there = own_there f p is member m.located m.is;
     next_is = around;
-    whole =
-        h.whole
-        ∙ ap (λ (n : ℕ). option_map (λ more. map text_bytes texts ++ more) (behind p n h.item)) less
-        ∙ ap (λ (b : Option (List (List ℕ))). option_map (λ more. map text_bytes texts ++ more) b) (goes_on p fewer h.item m.located m.scope)
-        ∙ more_behind (map text_bytes texts) (component p m.located) (behind p fewer m.located)
-        ∙ ap (λ (ts : List (List ℕ)). option_map (λ more. ts ++ more) (behind p fewer m.located)) (sym are);
+    whole = λ release.
+        h.whole release
+        ∙ ap (λ (n : ℕ). option_map (λ more. map (text_by release) texts ++ more) (behind release p n h.item)) less
+        ∙ ap (λ (b : Option (List (List ℕ))). option_map (λ more. map (text_by release) texts ++ more) b) (goes_on release p fewer h.item m.located m.scope)
+        ∙ more_behind (map (text_by release) texts) (component release p m.located) (behind release p fewer m.located)
+        ∙ ap (λ (ts : List (List ℕ)). option_map (λ more. ts ++ more) (behind release p fewer m.located)) (sym (are release));
   }
 
   -- without one these are the path's
-  pub follow_end : ((member : ℕ) → next ≡ Some member → ⊥) → map text_bytes texts ≡ components p (scope_path p d)
-  follow_end none = by (scope_of p h.item) refl
+  pub follow_end : ((member : ℕ) → next ≡ Some member → ⊥) → (release : Release) → map (text_by release) texts ≡ components release p (scope_path p d)
+  follow_end none release = by (scope_of p h.item) refl
     where
-      by : (q : Option Located) → scope_of p h.item ≡ q → map text_bytes texts ≡ components p (scope_path p d)
+      by : (q : Option Located) → scope_of p h.item ≡ q → map (text_by release) texts ≡ components release p (scope_path p d)
       by (Some e) k = absurd (none e.item.at (h.next_is ∙ ap (option_map offset_of) k))
       by None k =
-          let all = h.whole ∙ ap (λ (b : Option (List (List ℕ))). option_map (λ more. map text_bytes texts ++ more) b) (ends_here p left h.item k) in
-          sym (of_path p d ∙ ap (λ (b : Option (List (List ℕ))). unwrap_or b []) all ∙ append-nil (map text_bytes texts))
+          let all = h.whole release ∙ ap (λ (b : Option (List (List ℕ))). option_map (λ more. map (text_by release) texts ++ more) b) (ends_here release p left h.item k) in
+          sym (of_path release p d ∙ ap (λ (b : Option (List (List ℕ))). unwrap_or b []) all ∙ append-nil (map (text_by release) texts))
 
   -- where none may come any more there are none
-  pub follow_long : (member : ℕ) → NextMember p h.item member → left ≡ 0 → [] ≡ components p (scope_path p d)
-  follow_long member m none =
-      let all = h.whole ∙ ap (λ (n : ℕ). option_map (λ more. map text_bytes texts ++ more) (behind p n h.item)) none ∙ ap (λ (b : Option (List (List ℕ))). option_map (λ more. map text_bytes texts ++ more) b) (too_long p h.item m.located m.scope) in
-      sym (of_path p d ∙ ap (λ (b : Option (List (List ℕ))). unwrap_or b []) all)
+  pub follow_long : (member : ℕ) → NextMember p h.item member → left ≡ 0 → (release : Release) → [] ≡ components release p (scope_path p d)
+  follow_long member m none release =
+      let all = h.whole release ∙ ap (λ (n : ℕ). option_map (λ more. map (text_by release) texts ++ more) (behind release p n h.item)) none ∙ ap (λ (b : Option (List (List ℕ))). option_map (λ more. map (text_by release) texts ++ more) b) (too_long release p h.item m.located m.scope) in
+      sym (of_path release p d ∙ ap (λ (b : Option (List (List ℕ))). unwrap_or b []) all)
 
 -- one fewer may come
 pub one_fewer : (n : ℕ) → (n ≡ 0 → ⊥) → n ≡ suc (n - 1)

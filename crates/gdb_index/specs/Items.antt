@@ -1,7 +1,5 @@
 -- The entries of an item as an index lists them.
-use Rattle.std.specs.Prelude.{◌≡◌, ℕ, false, List, ◌++◌, map, Option, Some, option_map, option_to_list}
-use Rattle.cxx_spelling.specs.Spelling.{spelling_bytes}
-use Rattle.cxx_spelling.specs.declared.spelled.SpelledName.{SpelledName}
+use Rattle.std.specs.Prelude.{◌≡◌, ℕ, false, List, ◌++◌, map, Option, Some, flat_map, option_to_list}
 use Rattle.index_model.specs.declared.entry.Entry.{Entry}
 use Rattle.index_model.specs.declared.entry.Kind.{Kind}
 use Rattle.index_model.specs.Program.{Program, Walked, Located}
@@ -9,6 +7,8 @@ use Rattle.gdb_entries.specs.declared.language.LanguageClass.{LanguageClass}
 use Rattle.gdb_entries.specs.Entries.{as_listed, entries_of_item, text_of_index}
 use Rattle.gdb_entries.specs.Kinds.{kinds_in}
 use Rattle.gdb_entries.specs.Owners.{class_read}
+use Rattle.gdb_names.specs.declared.both.BothNames.{BothNames}
+use Rattle.gdb_names.specs.Both.{both_texts}
 use Rattle.gdb_scopes.specs.declared.seen.SeenItem.{SeenItem}
 use Rattle.gdb_scopes.specs.Places.{IsAt, IsSeenIn}
 use Rattle.gdb_index.specs.declared.entries.ItemEntries.{ItemEntries}
@@ -24,11 +24,11 @@ pub record IsLookedAt (p : Program) (class : LanguageClass) (s : SeenItem) (d : 
   pub there : IsAt p s.item.offset d
   pub class_is : class_read p d.home ≡ Some class
 
--- the bytes of a name, if there is one
-abbrev pub texts_in : Option SpelledName → List (List ℕ)
-texts_in name = option_to_list (option_map spelling_bytes name)
+-- the texts of a name, if there is one
+abbrev pub texts_in : Option BothNames → List (List ℕ)
+texts_in name = flat_map both_texts (option_to_list name)
 
--- the bytes of each name
+-- the texts of each name
 abbrev pub texts_of : ListedNames → List (List ℕ)
 texts_of names = texts_in names.full ++ texts_in names.second
 

@@ -1,6 +1,9 @@
 -- What contracts see of the texts of components.
-use Rattle.std.specs.Prelude.{ℕ, List}
+use Rattle.std.specs.Prelude.{ℕ, List, Option, Some, None}
 use Rattle.std.specs.Arc.{arc_value}
+use Rattle.cxx_spelling.specs.declared.release.Release.{Release}
+use Rattle.cxx_spelling.specs.declared.release.Release.TheVariants.{Gdb13, Gdb16}
+use Rattle.gdb_index.specs.declared.both_texts.BothTexts.{BothTexts}
 use Rattle.gdb_index.specs.declared.text.ComponentText.{ComponentText}
 use Rattle.gdb_index.specs.declared.text.ComponentText.TheVariants.{Lent, Shared}
 
@@ -8,3 +11,13 @@ use Rattle.gdb_index.specs.declared.text.ComponentText.TheVariants.{Lent, Shared
 abbrev pub text_bytes : ComponentText → List ℕ
 text_bytes (Lent bytes) = bytes.now
 text_bytes (Shared text) = (arc_value text).items
+
+-- those that gdb 16 has: another text, or that of gdb 13
+abbrev pub newer_or : Option ComponentText → List ℕ → List ℕ
+newer_or None older = older
+newer_or (Some text) older = text_bytes text
+
+-- the bytes of a component as a release of gdb spells it
+abbrev pub text_by : Release → BothTexts → List ℕ
+text_by Gdb13 texts = text_bytes texts.older
+text_by Gdb16 texts = newer_or texts.newer (text_bytes texts.older)

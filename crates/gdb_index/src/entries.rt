@@ -1,13 +1,15 @@
 //! Entries under each name and each kind.
 
-ghost use Rattle.std.specs.Prelude.{◌≡◌, ◌++◌, flat_map, option_map, option_to_list, IfOk, OnOk};
+ghost use Rattle.std.specs.Prelude.{◌≡◌, ◌++◌, flat_map, IfOk, OnOk};
 ghost use Rattle.cxx_spelling.specs.Spelling.{spelling_bytes};
 ghost use Rattle.gdb_entries.specs.Entries.{text_of_index};
-ghost use Rattle.gdb_index.specs.Items.{entries_under, entry_under, texts_of};
+ghost use Rattle.gdb_names.specs.Both.{both_texts};
+ghost use Rattle.gdb_index.specs.Items.{entries_under, entry_under, texts_in, texts_of};
 
 use crate::item_names::ListedNames;
 use cxx_spelling::SpelledName;
 use gdb_entries::Kinds;
+use gdb_names::BothNames;
 use index_model::{Entry, Kind, Text};
 use ix_base::{Cursor, NoMemory};
 use std::alloc::Global;
@@ -44,12 +46,28 @@ impl ItemEntries {
     fn add_name<'f>(
         &self,
         alloc: Global,
-        name: Option<SpelledName<'f>>,
+        name: Option<BothNames<'f>>,
         entries: &mut Vec<Entry<'f>>,
     ) -> Result<(), NoMemory>
-        ensures { OnOk result (entries.new.items ≡ entries.old.items ++ flat_map (entries_under self.now) (option_to_list (option_map spelling_bytes name.entry))) }
+        ensures { OnOk result (entries.new.items ≡ entries.old.items ++ flat_map (entries_under self.now) (texts_in name.entry)) }
     {
         match name {
+            Some(name) => self.add_both(alloc, name, entries),
+            None => Ok(()),
+        }
+    }
+
+    // Adds those of each text of a name.
+    fn add_both<'f>(
+        &self,
+        alloc: Global,
+        name: BothNames<'f>,
+        entries: &mut Vec<Entry<'f>>,
+    ) -> Result<(), NoMemory>
+        ensures { OnOk result (entries.new.items ≡ entries.old.items ++ flat_map (entries_under self.now) (both_texts name.entry)) }
+    {
+        self.add_kinds(alloc, name.older, entries)?;
+        match name.newer {
             Some(name) => self.add_kinds(alloc, name, entries),
             None => Ok(()),
         }

@@ -1,25 +1,22 @@
 //! The names of an item as they are listed.
 
-ghost use Rattle.std.specs.Prelude.{◌≡◌, map, option_map, IfOk, Some};
+ghost use Rattle.std.specs.Prelude.{◌≡◌, flat_map, map, option_map, option_to_list, IfOk, Some};
 ghost use Rattle.index_model.specs.Program.{Located};
-ghost use Rattle.cxx_spelling.specs.Spelling.{spelling_bytes};
 ghost use Rattle.gdb_entries.specs.Chains.{linkage_of};
-ghost use Rattle.gdb_entries.specs.Entries.{names_of, second_listed};
+ghost use Rattle.gdb_entries.specs.Entries.{full_texts, names_of, second_texts};
 ghost use Rattle.gdb_entries.specs.Files.{ForProgram};
 ghost use Rattle.gdb_entries.specs.ItemNames.{item_names};
-ghost use Rattle.gdb_entries.specs.Names.{full_name};
 ghost use Rattle.gdb_entries.specs.Owners.{class_read};
 ghost use Rattle.gdb_items.specs.Chains.{IsChainOf};
 ghost use Rattle.gdb_items.specs.Items.{IsItemOf};
 ghost use Rattle.gdb_names.specs.Seen.{bytes_of, names_seen, second_seen};
 ghost use Rattle.gdb_scopes.specs.Places.{ForItem, IsSeenIn};
-ghost use Rattle.gdb_index.specs.Items.{texts_of};
+ghost use Rattle.gdb_index.specs.Items.{texts_in, texts_of};
 
 use crate::names::FileNames;
-use cxx_spelling::SpelledName;
 use gdb_entries::LanguageClass;
 use gdb_items::{Chain, UnitItem};
-use gdb_names::{ItemNames, SecondName, item_names};
+use gdb_names::{BothNames, ItemNames, SecondName, item_names};
 use gdb_scopes::{SeenItem, name_of};
 use ix_base::NoMemory;
 use std::alloc::Global;
@@ -28,9 +25,9 @@ use std::alloc::Global;
 #[derive(Drop)]
 pub(crate) struct ListedNames<'f> {
     /// The full name.
-    pub full: Option<SpelledName<'f>>,
+    pub full: Option<BothNames<'f>>,
     /// The one before which no scope stands.
-    pub second: Option<SpelledName<'f>>,
+    pub second: Option<BothNames<'f>>,
 }
 
 /// The names of an item that is looked at in a unit of this class, and whose chain this is.
@@ -79,8 +76,8 @@ fn full_name<'f>(
     seen: &SeenItem<'f>,
     chain: &Chain<'f>,
     name: Option<&'f [u8]>,
-) -> Result<Option<SpelledName<'f>>, NoMemory>
-    ensures value { ForItem names.old.file seen.now.item.offset (λ p d. IsSeenIn p (Some class) seen.now d → class_read p d.home ≡ Some class → IsChainOf p d chain.now → IfOk result (λ text. option_map spelling_bytes text ≡ option_map (full_name p class d) (bytes_of name.entry))) }
+) -> Result<Option<BothNames<'f>>, NoMemory>
+    ensures value { ForItem names.old.file seen.now.item.offset (λ p d. IsSeenIn p (Some class) seen.now d → class_read p d.home ≡ Some class → IsChainOf p d chain.now → IfOk result (λ full. texts_in full ≡ full_texts p class d (bytes_of name.entry))) }
     ensures kept { names.new ≡ names.old }
 {
     match name {
@@ -94,8 +91,8 @@ fn second_name<'f>(
     alloc: Global,
     class: LanguageClass,
     second: Option<SecondName<'f>>,
-) -> Result<Option<SpelledName<'f>>, NoMemory>
-    ensures { IfOk result (λ text. option_map spelling_bytes text ≡ option_map (λ name. (second_listed class name).1) (option_map second_seen second.entry)) }
+) -> Result<Option<BothNames<'f>>, NoMemory>
+    ensures { IfOk result (λ names. texts_in names ≡ flat_map (second_texts class) (option_to_list (option_map second_seen second.entry))) }
 {
     match second {
         Some(name) => Ok(Some(name.listed(alloc, class)?)),

@@ -7,6 +7,7 @@
 //! since it keeps all items of the units that it went over. The table of the runs is written with the units and addresses of the file.
 #![tactic(auto)]
 
+mod both_texts;
 mod cuts;
 mod entries;
 mod few;

@@ -1,20 +1,23 @@
 //! Full names of the items of a file.
 
-ghost use Rattle.std.specs.Prelude.{◌≡◌, filter_map, reverse, IfOk, Some};
-ghost use Rattle.cxx_spelling.specs.Spelling.{spelling_bytes};
+ghost use Rattle.std.specs.Prelude.{◌≡◌, filter_map, map, reverse, option_map, unwrap_or, IfOk, Some};
+ghost use Rattle.cxx_spelling.specs.declared.release.Release.TheVariants.{Gdb13, Gdb16};
 ghost use Rattle.gdb_entries.specs.Names.{component, full_name};
 ghost use Rattle.gdb_entries.specs.Owners.{class_read};
 ghost use Rattle.gdb_entries.specs.Scopes.{scope_path};
 ghost use Rattle.gdb_items.specs.Chains.{IsChainOf};
+ghost use Rattle.gdb_names.specs.Both.{AreBoth};
 ghost use Rattle.gdb_names.specs.FullNames.{name_behind};
+ghost use Rattle.gdb_names.specs.Seen.{contents};
 ghost use Rattle.gdb_scopes.specs.Places.{ForItem, IsSeenIn};
+ghost use Rattle.gdb_index.specs.Texts.{text_by};
 
+use crate::both_texts::{BothTexts, differ, turned_round};
 use crate::step::Step;
-use crate::text::turned_round;
-use cxx_spelling::SpelledName;
+use cxx_spelling::Release;
 use gdb_entries::{LanguageClass, separator_of};
 use gdb_items::Chain;
-use gdb_names::{full_name as joined_name, spelled};
+use gdb_names::{BothComponents, BothNames, full_name as joined_name, spelled};
 use gdb_scopes::{FilePlaces, SeenItem};
 use indexmap::IndexMap;
 use ix_base::NoMemory;
@@ -61,8 +64,8 @@ impl<'s, 'r, 'f> FileNames<'s, 'r, 'f> {
         seen: &SeenItem<'f>,
         chain: &Chain<'f>,
         name: &'n [u8],
-    ) -> Result<SpelledName<'n>, NoMemory>
-        ensures value { ForItem self.old.file seen.now.item.offset (λ p d. IsSeenIn p (Some class) seen.now d → class_read p d.home ≡ Some class → IsChainOf p d chain.now → IfOk result (λ text. spelling_bytes text ≡ full_name p class d name.now)) }
+    ) -> Result<BothNames<'n>, NoMemory>
+        ensures value { ForItem self.old.file seen.now.item.offset (λ p d. IsSeenIn p (Some class) seen.now d → class_read p d.home ≡ Some class → IsChainOf p d chain.now → IfOk result (AreBoth (λ release. full_name release p class d name.now))) }
         ensures kept { self.new ≡ self.old }
     {
         match separator_of(class) {
@@ -79,14 +82,42 @@ impl<'s, 'r, 'f> FileNames<'s, 'r, 'f> {
         seen: &SeenItem<'f>,
         chain: &Chain<'f>,
         name: &'n [u8],
-    ) -> Result<SpelledName<'n>, NoMemory>
-        ensures value { ForItem self.old.file seen.now.item.offset (λ p d. IsSeenIn p (Some class) seen.now d → class_read p d.home ≡ Some class → IsChainOf p d chain.now → IfOk result (λ text. spelling_bytes text ≡ name_behind class (reverse (filter_map (component p) (scope_path p d))) name.now)) }
+    ) -> Result<BothNames<'n>, NoMemory>
+        ensures value { ForItem self.old.file seen.now.item.offset (λ p d. IsSeenIn p (Some class) seen.now d → class_read p d.home ≡ Some class → IsChainOf p d chain.now → IfOk result (AreBoth (λ release. name_behind release class (reverse (filter_map (component release p) (scope_path p d))) name.now))) }
         ensures kept { self.new ≡ self.old }
     {
         let scope = self.scope_of(alloc, class, seen, chain)?;
         let texts = self.components(alloc, scope)?;
-        let components = turned_round(alloc, texts.as_slice())?;
-        let text = joined_name(alloc, class, components.as_slice(), name)?;
-        Ok(text)
+        let older = turned_round(alloc, Release::Gdb13, texts.as_slice())?;
+        let newer = turned_newer(alloc, texts.as_slice())?;
+        let components = BothComponents {
+            older: older.as_slice(),
+            newer: lent(&newer),
+        };
+        Ok(joined_name(alloc, class, components, name)?)
+    }
+}
+
+// The components by gdb 16, the outermost first, where it spells one of them otherwise than gdb 13.
+fn turned_newer<'t>(
+    alloc: Global,
+    texts: &'t [BothTexts<'_>],
+) -> Result<Option<Vec<&'t [u8]>>, NoMemory>
+    ensures { IfOk result (λ parts. unwrap_or (option_map (λ p. contents p.items) parts) (reverse (map (text_by Gdb13) texts.now)) ≡ reverse (map (text_by Gdb16) texts.now)) }
+{
+    if differ(texts) {
+        Ok(Some(turned_round(alloc, Release::Gdb16, texts)?))
+    } else {
+        Ok(None)
+    }
+}
+
+// The parts, lent, if there are any.
+fn lent<'p, 't>(parts: &'p Option<Vec<&'t [u8]>>) -> Option<&'p [&'t [u8]]>
+    ensures { option_map (λ p. p.now) result ≡ option_map (λ p. p.items) parts.now }
+{
+    match parts {
+        Some(parts) => Some(parts.as_slice()),
+        None => None,
     }
 }

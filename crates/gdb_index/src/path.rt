@@ -1,17 +1,18 @@
 //! Along the scope path of an item.
 
 ghost use Rattle.std.specs.Prelude.{◌≡◌, ◌++◌, filter_map, map, option_map, option_to_list, ℕ, IfOk, OnOk};
+ghost use Rattle.cxx_spelling.specs.declared.release.Release.{Release};
 ghost use Rattle.index_model.specs.Program.{Located};
 ghost use Rattle.gdb_entries.specs.Files.{ForProgram};
 ghost use Rattle.gdb_entries.specs.Names.{component};
 ghost use Rattle.gdb_entries.specs.Scopes.{scope_of, scope_path};
 ghost use Rattle.gdb_scopes.specs.Places.{offset_of, IsAt};
 ghost use Rattle.gdb_index.specs.Steps.{IsStepAt};
-ghost use Rattle.gdb_index.specs.Texts.{text_bytes};
+ghost use Rattle.gdb_index.specs.Texts.{text_by};
 
+use crate::both_texts::BothTexts;
 use crate::names::FileNames;
 use crate::step::Step;
-use crate::text::ComponentText;
 use ix_base::{MAX_PATH_STEPS, NoMemory};
 use std::alloc::Global;
 
@@ -21,8 +22,8 @@ impl<'s, 'r, 'f> FileNames<'s, 'r, 'f> {
         &mut self,
         alloc: Global,
         scope: Option<u64>,
-    ) -> Result<Vec<ComponentText<'f>>, NoMemory>
-        ensures value { ForProgram self.old.file (λ p. (o : ℕ) (d : Located) → IsAt p o d → scope ≡ option_map offset_of (scope_of p d) → IfOk result (λ texts. map text_bytes texts.items ≡ filter_map (component p) (scope_path p d))) }
+    ) -> Result<Vec<BothTexts<'f>>, NoMemory>
+        ensures value { ForProgram self.old.file (λ p. (o : ℕ) (d : Located) → IsAt p o d → scope ≡ option_map offset_of (scope_of p d) → IfOk result (λ texts. (release : Release) → map (text_by release) texts.items ≡ filter_map (component release p) (scope_path p d))) }
         ensures kept { self.new ≡ self.old }
     {
         let mut texts = Vec::new(alloc);
@@ -63,11 +64,8 @@ impl<'s, 'r, 'f> FileNames<'s, 'r, 'f> {
 }
 
 // Adds the component that a member of a path gives, if it gives one.
-fn add<'f>(
-    texts: &mut Vec<ComponentText<'f>>,
-    component: Option<ComponentText<'f>>,
-) -> Result<(), NoMemory>
-    ensures { OnOk result (map text_bytes texts.new.items ≡ map text_bytes texts.old.items ++ option_to_list (option_map text_bytes component.entry)) }
+fn add<'f>(texts: &mut Vec<BothTexts<'f>>, component: Option<BothTexts<'f>>) -> Result<(), NoMemory>
+    ensures { OnOk result ((release : Release) → map (text_by release) texts.new.items ≡ map (text_by release) texts.old.items ++ option_to_list (option_map (text_by release) component.entry)) }
 {
     if let Some(text) = component {
         texts.push(text)?;

@@ -1,18 +1,18 @@
 //! One step of a scope path.
 
 ghost use Rattle.std.specs.Prelude.{◌≡◌, option_map, IfOk};
-ghost use Rattle.cxx_spelling.specs.Spelling.{spelling_bytes};
+ghost use Rattle.cxx_spelling.specs.declared.release.Release.{Release};
 ghost use Rattle.gdb_entries.specs.Chains.{is_scoped, name_of};
 ghost use Rattle.gdb_entries.specs.Components.{component_of};
 ghost use Rattle.gdb_entries.specs.Names.{component};
+ghost use Rattle.gdb_names.specs.Both.{text_by as name_by};
 ghost use Rattle.gdb_scopes.specs.Places.{ForItem};
 ghost use Rattle.gdb_index.specs.Steps.{IsSameStep, IsStepAt};
-ghost use Rattle.gdb_index.specs.Texts.{text_bytes};
+ghost use Rattle.gdb_index.specs.Texts.{text_by};
 
-use crate::text::ComponentText;
-use cxx_spelling::SpelledName;
+use crate::both_texts::BothTexts;
 use gdb_entries::LanguageClass;
-use gdb_names::component;
+use gdb_names::{BothNames, component};
 use gdb_scopes::{FilePlaces, name_of};
 use ix_base::NoMemory;
 use std::alloc::Global;
@@ -21,7 +21,7 @@ use std::alloc::Global;
 #[derive(Drop)]
 pub(crate) struct Step<'f> {
     /// Its component. None where it gives none.
-    pub component: Option<ComponentText<'f>>,
+    pub component: Option<BothTexts<'f>>,
     /// The joint offset of its scope, if it has one.
     pub scope: Option<u64>,
 }
@@ -63,8 +63,8 @@ fn component_at<'f>(
     alloc: Global,
     places: &mut FilePlaces<'_, '_, 'f>,
     offset: u64,
-) -> Result<Option<SpelledName<'f>>, NoMemory>
-    ensures value { ForItem places.old.file offset (λ p d. IfOk result (λ text. option_map spelling_bytes text ≡ component p d)) }
+) -> Result<Option<BothNames<'f>>, NoMemory>
+    ensures value { ForItem places.old.file offset (λ p d. IfOk result (λ name. (release : Release) → option_map (name_by release) name ≡ component release p d)) }
     ensures kept { places.new ≡ places.old }
 {
     match places.class_at(offset) {
@@ -79,8 +79,8 @@ fn component_by<'f>(
     places: &mut FilePlaces<'_, '_, 'f>,
     class: LanguageClass,
     offset: u64,
-) -> Result<Option<SpelledName<'f>>, NoMemory>
-    ensures value { ForItem places.old.file offset (λ p d. IfOk result (λ text. option_map spelling_bytes text ≡ component_of class d.item.tag (is_scoped p d) (name_of p class d))) }
+) -> Result<Option<BothNames<'f>>, NoMemory>
+    ensures value { ForItem places.old.file offset (λ p d. IfOk result (λ name. (release : Release) → option_map (name_by release) name ≡ component_of release class d.item.tag (is_scoped p d) (name_of p class d))) }
     ensures kept { places.new ≡ places.old }
 {
     let Some(item) = places.at(alloc, offset)? else {
@@ -101,12 +101,12 @@ fn component_by<'f>(
 // A component that can be shared from then on.
 fn shared<'f>(
     alloc: Global,
-    component: Option<SpelledName<'f>>,
-) -> Result<Option<ComponentText<'f>>, NoMemory>
-    ensures { IfOk result (λ text. option_map text_bytes text ≡ option_map spelling_bytes component.entry) }
+    component: Option<BothNames<'f>>,
+) -> Result<Option<BothTexts<'f>>, NoMemory>
+    ensures { IfOk result (λ texts. (release : Release) → option_map (text_by release) texts ≡ option_map (name_by release) component.entry) }
 {
     match component {
-        Some(name) => Ok(Some(ComponentText::of(alloc, name)?)),
+        Some(name) => Ok(Some(BothTexts::of(alloc, name)?)),
         None => Ok(None),
     }
 }

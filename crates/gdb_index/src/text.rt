@@ -1,8 +1,7 @@
 //! The text of a component, which many names share.
 
-ghost use Rattle.std.specs.Prelude.{◌≡◌, map, reverse, IfOk};
+ghost use Rattle.std.specs.Prelude.{◌≡◌, IfOk};
 ghost use Rattle.cxx_spelling.specs.Spelling.{spelling_bytes};
-ghost use Rattle.gdb_names.specs.Seen.{contents};
 ghost use Rattle.gdb_index.specs.Texts.{text_bytes};
 
 use cxx_spelling::SpelledName;
@@ -49,28 +48,4 @@ impl<'f> ComponentText<'f> {
             ComponentText::Shared(text) => Ok(ComponentText::Shared(Arc::try_clone(text)?)),
         }
     }
-}
-
-/// The bytes of each of the texts, those of the last one first.
-#[tactic(auto, using(crate::proofs::NameLaws::turned_contents))]
-pub(crate) fn turned_round<'t>(
-    alloc: Global,
-    texts: &'t [ComponentText<'_>],
-) -> Result<Vec<&'t [u8]>, NoMemory>
-    ensures { IfOk result (λ parts. contents parts.items ≡ reverse (map text_bytes texts.now)) }
-{
-    let mut parts = contents_of(alloc, texts)?;
-    parts.reverse();
-    Ok(parts)
-}
-
-// The bytes of each of the texts.
-fn contents_of<'t>(alloc: Global, texts: &'t [ComponentText<'_>]) -> Result<Vec<&'t [u8]>, NoMemory>
-    ensures { IfOk result (λ parts. contents parts.items ≡ map text_bytes texts.now) }
-{
-    let mut parts = Vec::new(alloc);
-    for text in texts {
-        parts.push(text.bytes())?;
-    }
-    Ok(parts)
 }

@@ -7,11 +7,11 @@ use Rattle.gdb_index.proofs.StepLaws.{told_gives}
 use Rattle.gdb_index.proofs.step.component_by.Goals as goal
 
 pub returns-clause-value : goal.returns-clause-value
-returns-clause-value c p is d here =
+returns-clause-value c p is d here release =
     let item = c.in-Some.item in
     let own = item_there p.sections c.in_ok-item.field-0 item _ d c.in-Some.is here (c.in_ok-item.ensures.value p is) in
     let after : program_of c.at.new.self.file ≡ Ok p = ap (λ (e : Image). program_of e.file) c.at.ensures.kept ∙ is in
     let told = c.in_ok-chain.ensures.value p after d own in
     let tag = told_tag p.sections d item own in
     let name = c.name_of.ensures ∙ name_told p c.args.class d item.facts.tag _ tag told.name in
-    c.in_ok-text.ensures ∙ told_gives p d c.args.class item.facts.tag c.in_ok-chain.chain.scoped _ tag told.scoped name
+    c.in_ok-text.ensures release ∙ told_gives p d release c.args.class item.facts.tag c.in_ok-chain.chain.scoped _ tag told.scoped name

@@ -2,7 +2,7 @@ use Rattle.std.proofs.Common.{◌≡◌, ℕ, ◌-◌, ◌++◌, List, Ok, Optio
 use Rattle.std.specs.Prelude.{option_to_list}
 use Rattle.file_image.specs.Images.{Image}
 use Rattle.index_model.specs.Faults.{program_of}
-use Rattle.gdb_index.specs.Texts.{text_bytes}
+use Rattle.gdb_index.specs.Texts.{text_by}
 use Rattle.gdb_index.proofs.PathLaws.{follow_end, follow_long, follow_none, follow_one, next_member, one_fewer}
 use Rattle.gdb_index.proofs.names.FileNames.components.Goals as goal
 
@@ -23,18 +23,17 @@ loop-next-preserved c = record {
       let after : program_of c.loop-next.self.file ≡ Ok p = ap (λ (e : Image). program_of e.file) c.loop-next.invariant.same ∙ is in
       let m = next_member f p is d c.loop-next.left c.loop-next.texts.items c.loop-next.next s c.in-Some.member c.in-Some.is in
       let own = c.in_ok-step.ensures.value p after m.located m.is in
-      let texts = map text_bytes c.loop-next.texts.items in
       follow_one f p is d c.loop-next.left c.loop-next.texts.items c.loop-next.next s c.in-Some.member m (c.loop-next.left - 1) (one_fewer c.loop-next.left c.if-left-eq0.false)
-      c.add.new.texts.items (c.in_ok-add.ensures ∙ ap (λ (o : Option (List ℕ)). texts ++ option_to_list o) own.component) c.in_ok-step.step.scope own.scope;
+      c.add.new.texts.items (λ release. c.in_ok-add.ensures release ∙ ap (λ (o : Option (List ℕ)). map (text_by release) c.loop-next.texts.items ++ option_to_list o) (own.component release)) c.in_ok-step.step.scope own.scope;
 }
 
 pub returns-then-left-eq0-clause-value : goal.returns-then-left-eq0-clause-value
-returns-then-left-eq0-clause-value c p is o d here scope =
+returns-then-left-eq0-clause-value c p is o d here scope release =
     let f = c.args.self.now.file in
     let s = c.loop-next.invariant.followed p is o d here scope in
     let m = next_member f p is d c.loop-next.left c.loop-next.texts.items c.loop-next.next s c.in-Some.member c.in-Some.is in
-    ap (map text_bytes) c.new.ensures.items ∙ follow_long f p is d c.loop-next.left c.loop-next.texts.items c.loop-next.next s c.in-Some.member m c.if-left-eq0.true
+    ap (map (text_by release)) c.new.ensures.items ∙ follow_long f p is d c.loop-next.left c.loop-next.texts.items c.loop-next.next s c.in-Some.member m c.if-left-eq0.true release
 
 pub returns-clause-value : goal.returns-clause-value
-returns-clause-value c p is o d here scope =
-    follow_end c.args.self.now.file p is d c.loop-next.left c.loop-next.texts.items c.loop-next.next (c.loop-next.invariant.followed p is o d here scope) c.in_default.not-Some
+returns-clause-value c p is o d here scope release =
+    follow_end c.args.self.now.file p is d c.loop-next.left c.loop-next.texts.items c.loop-next.next (c.loop-next.invariant.followed p is o d here scope) c.in_default.not-Some release
