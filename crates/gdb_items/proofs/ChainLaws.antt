@@ -145,10 +145,6 @@ pub external_is : (ss : List Section) (i : UnitItem) (d : Located) → IsItemOf 
 unfolding facts_of
 external_is ss i d h = ap (λ (f : ItemFacts). f.external) h.facts
 
-pub map_or : {A B : Type 0} (f : A → B) (x y : Option A) → option_map f (option_or x y) ≡ option_or (option_map f x) (option_map f y)
-map_or f None y = refl
-map_or f (Some x) y = refl
-
 pub first_one : {A : Type 0} (o : Option A) → first (cons_option o []) ≡ o
 first_one None = refl
 first_one (Some x) = refl
