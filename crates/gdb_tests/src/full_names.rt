@@ -3,7 +3,9 @@
 
 use gdb_entries::LanguageClass::{Ada, C, Cxx, D, Fortran, Go, Rust};
 use gdb_entries::{ItemFacts, LanguageClass};
-use gdb_names::{ItemNames, SecondName, component, full_name, item_names};
+use gdb_names::{
+    BothComponents, BothNames, ItemNames, SecondName, component, full_name, item_names,
+};
 use std::alloc::Global;
 use std::process::Abort;
 use std::test::Fail;
@@ -126,7 +128,7 @@ fn components(rt: HostRuntime) -> Result<(), Fail> {
         let given = component(rt.alloc(), row.0, DW_TAG_structure_type, false, Some(row.1))?;
         assert!(rt; given.is_some());
         if let Some(name) = given {
-            assert_eq!(rt; name.bytes(), row.2);
+            is_one_text(&rt, &name, row.2)?;
         }
     }
     Ok(())
@@ -135,10 +137,68 @@ fn components(rt: HostRuntime) -> Result<(), Fail> {
 #[test]
 fn full_names(rt: HostRuntime) -> Result<(), Fail> {
     for row in FULL_NAMES {
-        let name = full_name(rt.alloc(), row.0, row.1, row.2)?;
-        assert_eq!(rt; name.bytes(), row.3);
+        let components = BothComponents {
+            older: row.1,
+            newer: None,
+        };
+        let name = full_name(rt.alloc(), row.0, components, row.2)?;
+        is_one_text(&rt, &name, row.3)?;
     }
     Ok(())
+}
+
+// Both releases spell the name so.
+fn is_one_text(rt: &impl Abort, name: &BothNames<'_>, wanted: &[u8]) -> Result<(), Fail> {
+    assert_eq!(rt; name.older.bytes(), wanted);
+    assert!(rt; name.newer.is_none());
+    Ok(())
+}
+
+// gdb 13.1 spells the name so, and 16.3 otherwise.
+fn are_two_texts(
+    rt: &impl Abort,
+    name: &BothNames<'_>,
+    older: &[u8],
+    newer: &[u8],
+) -> Result<(), Fail> {
+    assert_eq!(rt; name.older.bytes(), older);
+    assert!(rt; name.newer.is_some());
+    if let Some(name) = &name.newer {
+        assert_eq!(rt; name.bytes(), newer);
+    }
+    Ok(())
+}
+
+#[test]
+fn own_names_by_both_releases(rt: HostRuntime) -> Result<(), Fail> {
+    let components = BothComponents {
+        older: &[b"std"],
+        newer: None,
+    };
+    let name = full_name(rt.alloc(), Cxx, components, b"function<void (long int)>")?;
+    are_two_texts(
+        &rt,
+        &name,
+        b"std::function<void (long int)>",
+        b"std::function<void(long)>",
+    )
+}
+
+#[test]
+fn scopes_by_both_releases(rt: HostRuntime) -> Result<(), Fail> {
+    let older: &[&[u8]] = &[b"F<void (long int)>"];
+    let newer: &[&[u8]] = &[b"F<void(long)>"];
+    let components = BothComponents {
+        older,
+        newer: Some(newer),
+    };
+    let name = full_name(rt.alloc(), Cxx, components, b"call")?;
+    are_two_texts(
+        &rt,
+        &name,
+        b"F<void (long int)>::call",
+        b"F<void(long)>::call",
+    )
 }
 
 fn listing(names: ItemNames<'_>) -> Listed {
@@ -213,8 +273,7 @@ fn is_second(
     wanted: &[u8],
 ) -> Result<(), Fail> {
     let name = second.listed(alloc, class)?;
-    assert_eq!(rt; name.bytes(), wanted);
-    Ok(())
+    is_one_text(rt, &name, wanted)
 }
 
 #[test]

@@ -1,6 +1,7 @@
-//! Names with the spelling that gdb 13 has for them in an index that it writes.
+//! Names with the spelling that gdb 13.1 and 16.3 have for them in an index that they write.
 
-use cxx_spelling::{c_spelling, spelling};
+use cxx_spelling::Release::{Gdb13, Gdb16};
+use cxx_spelling::{Release, c_spelling, spelling};
 use std::alloc::Global;
 use std::process::Abort;
 use std::test::Fail;
@@ -144,7 +145,6 @@ const FUNCTIONS: &[Row] = &[
 // What gdb's grammar refuses.
 const REFUSED: &[Row] = &[
     (b"A<B<long int>>", b"A<B<long int>>"),
-    (b"A<void (long int)>", b"A<void (long int)>"),
     (b"A<>", b"A<>"),
     (b"A<long int, >", b"A<long int, >"),
     (b"operator==", b"operator=="),
@@ -159,13 +159,59 @@ const REFUSED: &[Row] = &[
     (b"__int128 unsigned const", b"__int128 unsigned const"),
     (b"A<long int, \"abc\">", b"A<long int, \"abc\">"),
     (b"A<long int, x + 1>", b"A<long int, x + 1>"),
-    (
-        b"A<decltype(nullptr), long int>",
-        b"A<decltype(nullptr), long int>",
-    ),
     (b"unsigned signed", b"unsigned signed"),
     (b"const complex float", b"const complex float"),
     (b"", b""),
+];
+
+// Names that gdb 16.3 spells otherwise than 13.1.
+const FUNCTION_TYPES: &[Row] = &[
+    (b"A<void (long int)>", b"A<void(long)>"),
+    (b"A<void ()>", b"A<void()>"),
+    (b"A<int (long int, ...) const>", b"A<int(long, ...) const>"),
+    (b"A<B<long int> (void)>", b"A<B<long>()>"),
+    (b"A<long unsigned int (B)>", b"A<unsigned long(B)>"),
+    (b"A<long double (::B)>", b"A<long double(B)>"),
+    (b"A<B::C (D::E*, F)>", b"A<B::C(D::E*, F)>"),
+    (
+        b"A<decltype(nullptr), long int>",
+        b"A<decltype(nullptr), long>",
+    ),
+    (b"A<void (A<void (char)>)>", b"A<void(A<void(char)>)>"),
+    (
+        b"A<void (C::*)(long int), B (D)>",
+        b"A<void (C::*)(long), B(D)>",
+    ),
+    (
+        b"A<int (*)(A<void (int)>), char (&)[3]>",
+        b"A<int (*)(A<void(int)>), char (&) [3]>",
+    ),
+];
+
+const NUMBERS: &[Row] = &[
+    (b"A<0x10u, 017, 0b101, -0x10l>", b"A<16u, 15, 5, -16l>"),
+    (b"A<00, 0xffffffffffffffff>", b"A<0, 18446744073709551615>"),
+    (b"A<(bool)0x1, (E)010>", b"A<true, (E)8>"),
+    (b"A<long int[0x10]>", b"A<long [16]>"),
+    (
+        b"A<'a', '\\n', (unsigned)'b'>",
+        b"A<(char)97, (char)10, 98u>",
+    ),
+    (b"A<'\\177', (E)'\\''>", b"A<(char)127, (E)39>"),
+];
+
+// What the grammar of 16.3 refuses too.
+const REFUSED_BY_BOTH: &[Row] = &[
+    (b"A<void*(long int)>", b"A<void*(long int)>"),
+    (b"A<B& (long int)>", b"A<B& (long int)>"),
+    (b"A<void (int)(long int)>", b"A<void (int)(long int)>"),
+    (b"A<void ((long int))>", b"A<void ((long int))>"),
+    (b"A<B<void (int)>>", b"A<B<void (int)>>"),
+];
+
+const REFUSED_BY_NEWER: &[Row] = &[
+    (b"A<long int, 08>", b"A<long int, 08>"),
+    (b"A<long int, 0b2>", b"A<long int, 0b2>"),
 ];
 
 const NAMES_OF_C: &[Row] = &[
@@ -175,59 +221,93 @@ const NAMES_OF_C: &[Row] = &[
     (b"A<long unsigned int>", b"A<unsigned long>"),
 ];
 
-fn are_spelled(rt: &impl Abort, alloc: Global, rows: &[Row]) -> Result<(), Fail> {
+fn are_spelled(rt: &impl Abort, alloc: Global, release: Release, rows: &[Row]) -> Result<(), Fail> {
     for row in rows {
-        is_spelled(rt, alloc, row.0, row.1)?;
+        is_spelled(rt, alloc, release, row.0, row.1)?;
     }
     Ok(())
 }
 
-fn is_spelled(rt: &impl Abort, alloc: Global, name: &[u8], wanted: &[u8]) -> Result<(), Fail> {
-    let spelled = spelling(alloc, name)?;
+fn is_spelled(
+    rt: &impl Abort,
+    alloc: Global,
+    release: Release,
+    name: &[u8],
+    wanted: &[u8],
+) -> Result<(), Fail> {
+    let spelled = spelling(alloc, release, name)?;
     assert_eq!(rt; spelled.bytes(), wanted);
     Ok(())
 }
 
-fn is_spelled_in_c(rt: &impl Abort, alloc: Global, name: &[u8], wanted: &[u8]) -> Result<(), Fail> {
-    let spelled = c_spelling(alloc, name)?;
+fn are_spelled_by_both(rt: &impl Abort, alloc: Global, rows: &[Row]) -> Result<(), Fail> {
+    are_spelled(rt, alloc, Gdb13, rows)?;
+    are_spelled(rt, alloc, Gdb16, rows)
+}
+
+fn is_spelled_in_c(
+    rt: &impl Abort,
+    alloc: Global,
+    release: Release,
+    name: &[u8],
+    wanted: &[u8],
+) -> Result<(), Fail> {
+    let spelled = c_spelling(alloc, release, name)?;
     assert_eq!(rt; spelled.bytes(), wanted);
     Ok(())
 }
 
 #[test]
 fn types(rt: HostRuntime) -> Result<(), Fail> {
-    are_spelled(&rt, rt.alloc(), TYPES)
+    are_spelled_by_both(&rt, rt.alloc(), TYPES)
 }
 
 #[test]
 fn declarators(rt: HostRuntime) -> Result<(), Fail> {
-    are_spelled(&rt, rt.alloc(), DECLARATORS)
+    are_spelled_by_both(&rt, rt.alloc(), DECLARATORS)
 }
 
 #[test]
 fn constants(rt: HostRuntime) -> Result<(), Fail> {
-    are_spelled(&rt, rt.alloc(), CONSTANTS)
+    are_spelled(&rt, rt.alloc(), Gdb13, CONSTANTS)
 }
 
 #[test]
 fn addresses(rt: HostRuntime) -> Result<(), Fail> {
-    are_spelled(&rt, rt.alloc(), ADDRESSES)
+    are_spelled_by_both(&rt, rt.alloc(), ADDRESSES)
 }
 
 #[test]
 fn functions(rt: HostRuntime) -> Result<(), Fail> {
-    are_spelled(&rt, rt.alloc(), FUNCTIONS)
+    are_spelled_by_both(&rt, rt.alloc(), FUNCTIONS)
 }
 
 #[test]
 fn refused(rt: HostRuntime) -> Result<(), Fail> {
-    are_spelled(&rt, rt.alloc(), REFUSED)
+    are_spelled_by_both(&rt, rt.alloc(), REFUSED)?;
+    are_spelled_by_both(&rt, rt.alloc(), REFUSED_BY_BOTH)
+}
+
+#[test]
+fn types_of_functions(rt: HostRuntime) -> Result<(), Fail> {
+    are_spelled(&rt, rt.alloc(), Gdb16, FUNCTION_TYPES)?;
+    for row in FUNCTION_TYPES {
+        is_spelled(&rt, rt.alloc(), Gdb13, row.0, row.0)?;
+    }
+    Ok(())
+}
+
+#[test]
+fn numbers(rt: HostRuntime) -> Result<(), Fail> {
+    are_spelled(&rt, rt.alloc(), Gdb16, NUMBERS)?;
+    are_spelled(&rt, rt.alloc(), Gdb16, REFUSED_BY_NEWER)
 }
 
 #[test]
 fn names_of_c(rt: HostRuntime) -> Result<(), Fail> {
     for row in NAMES_OF_C {
-        is_spelled_in_c(&rt, rt.alloc(), row.0, row.1)?;
+        is_spelled_in_c(&rt, rt.alloc(), Gdb13, row.0, row.1)?;
+        is_spelled_in_c(&rt, rt.alloc(), Gdb16, row.0, row.1)?;
     }
     Ok(())
 }
