@@ -1,10 +1,12 @@
 #!/usr/bin/env python3
-"""python3 by_gdb.py PROGRAM [FILE ..]
+"""python3 by_gdb.py PROGRAM [--uses VERSION] [FILE ..]
 
 Lets PROGRAM write the index of compiled programs, or of the FILEs, with the entries that gdb lists (`--rules gdb`), in versions 8 and 9 and
-with several numbers of workers, and compares its bytes with those of the reading in tools/reading, which asks gdb how names of C and C++
-are spelled. Then gdb itself opens the programs with these indexes and has to answer as it does without, also of 100 names of each.
+with several numbers of workers, and compares its bytes with those of the reading in tools/reading, which asks gdb 13 how names of C and
+C++ are spelled, and a table how gdb 16 spells them. Then gdb itself opens the programs with these indexes and has to answer as it does without, also of 100 names of each. With --uses gdb
+alone is asked, whatever its version, over indexes of VERSION.
 The last line is 'by gdb: N passed, M failed'."""
+import argparse
 import os
 import resource
 import shutil
@@ -64,7 +66,7 @@ def wrong_bytes(program, file, speller, folder):
         return
     speller.learn(read)
     for version in (8, 9):
-        wanted = gdb_index_bytes(read, version, speller.spelled)
+        wanted = gdb_index_bytes(read, version, speller.older.spelled, speller.newer)
         for workers in WORKERS:
             index, said = index_of(program, file, version, workers, folder)
             good = index == wanted
@@ -97,17 +99,17 @@ def answers(file, questions):
     return done.stdout.replace(file, "FILE").split("<<<\n")[1:]
 
 
-def wrong_uses(program, file, compiler, folder):
+def wrong_uses(program, file, compiler, folder, version):
     """What gdb answers otherwise where the program has the index."""
     if compiler not in QUESTIONS or not has_use(file, folder):
         return
     copy = os.path.join(folder, "indexed")
-    done = subprocess.run([program, "add", "--as", "gdb8", "--rules", "gdb", file, copy], capture_output=True)
+    done = subprocess.run([program, "add", "--as", "gdb%d" % version, "--rules", "gdb", file, copy], capture_output=True)
     if done.returncode:
         yield "add: status %d" % done.returncode
         return
     os.chmod(copy, 0o755)
-    uses = ".gdb_index: version 8" in gdb(copy, "maint print objfiles")
+    uses = ".gdb_index: version %d" % version in gdb(copy, "maint print objfiles")
     yield None if uses else "gdb doesn't say that it uses the index"
     yield from wrong_answers(file, copy, QUESTIONS[compiler])
     questions = list(questions_of(index_of(program, file, 8, 1, folder)[0]))
@@ -118,17 +120,23 @@ def wrong_uses(program, file, compiler, folder):
 
 
 def main():
-    program = os.path.abspath(sys.argv[1])
+    parser = argparse.ArgumentParser()
+    parser.add_argument("program")
+    parser.add_argument("--uses", type=int, choices=(8, 9))
+    parser.add_argument("files", nargs="*")
+    wanted = parser.parse_args()
+    program = os.path.abspath(wanted.program)
     if not shutil.which("gdb"):
         print("by gdb: not asked, since gdb is missing")
         return 0
     # A gdb that stops leaves no core behind.
     resource.setrlimit(resource.RLIMIT_CORE, (0, 0))
-    speller, passed, failed = spelling.Speller("gdb"), 0, 0
+    speller, passed, failed = spelling.BothSpellers(), 0, 0
     with tempfile.TemporaryDirectory() as folder:
-        files = ((path, path) for path in sys.argv[2:]) if sys.argv[2:] else programs.made(folder, "")
+        files = ((path, path) for path in wanted.files) if wanted.files else programs.made(folder, "")
         for title, file in files:
-            checks = [*wrong_bytes(program, file, speller, folder), *wrong_uses(program, file, title.split()[0], folder)]
+            checks = [] if wanted.uses else list(wrong_bytes(program, file, speller, folder))
+            checks += wrong_uses(program, file, title.split()[0], folder, wanted.uses or 8)
             for wrong in checks:
                 passed, failed = passed + (wrong is None), failed + (wrong is not None)
                 if wrong:

@@ -21,7 +21,7 @@ from reading.gdb_ada import decoded, encoded, inner_part
 from spelling.file_names import strings_of
 from spelling.made_ada_names import made_ada_names
 from spelling.our_answers import other_spellings
-from spelling_table import is_gdb_13, lines_of, told
+from spelling_table import lines_of, release_of, told
 
 TOOLS = os.path.dirname(os.path.abspath(__file__))
 TABLE = os.path.join(os.path.dirname(TOOLS), "crates", "gdb_tests", "tables", "ada_names.txt")
@@ -102,7 +102,7 @@ def table():
 def check_table():
     of_gdb, ours = table()
     count, failed = len(ours), told("ours", ours, other_spellings(ours, "ada_spelling"))
-    if is_gdb_13():
+    if release_of("gdb") == 13:
         names = list(of_gdb)
         count += len(names)
         failed += told("gdb", of_gdb, {name: answer for name, answer in zip(names, listed("gdb", names)) if answer != of_gdb[name]})

@@ -1,14 +1,17 @@
 #!/usr/bin/env python3
-"""Names of C++ with the spelling that gdb 13 has for them in an index that it writes (crates/gdb_tests/tables/names.txt).
+"""Names of C++ with the spelling that gdb 13 has for them in an index that it writes (crates/gdb_tests/tables/names.txt), and those of
+them that gdb 16 spells otherwise (newer_names.txt beside it).
 
-    spelling_table.py           compares the table with what cxx_spelling makes of its names, and with what gdb does where it is gdb 13
-    spelling_table.py --write   makes the table anew, by gdb alone
-    spelling_table.py FILE ..   compares ours with gdb over all names of these programs
+    spelling_table.py                   compares the tables with what cxx_spelling makes of their names, and with gdb, if it is 13 or 16
+    spelling_table.py --write           makes the first table anew, by gdb 13
+    spelling_table.py --write-newer     .. and the second, by gdb 16
+    spelling_table.py FILE ..           compares ours with gdb over all names of these programs
     spelling_table.py --made COUNT SEED     .. over so many names that are made by chance
 
-A line of the table is a name, a tab and its spelling; where ours stands as it is and gdb changes it, a second tab and `kept` follow. A line
-that begins with `#` says where the names behind it are from. A spelling of ours that is neither gdb's nor the name itself is always wrong.
-Status 1 where something is wrong. The last line is 'spelling: N passed, M failed'."""
+`--gdb GDB` before these words is another gdb than that of the path. A line of a table is a name, a tab and its spelling; where ours stands
+as it is and gdb changes it, a second tab and `kept` follow. A line that begins with `#` says where the names behind it are from. A
+spelling of ours that is neither gdb's nor the name itself is always wrong. Status 1 where something is wrong. The last line is
+'spelling: N passed, M failed'."""
 import os
 import random
 import re
@@ -23,7 +26,9 @@ from spelling.made_names import made_names
 from spelling.our_answers import other_spellings
 
 TOOLS = os.path.dirname(os.path.abspath(__file__))
-TABLE = os.path.join(os.path.dirname(TOOLS), "crates", "gdb_tests", "tables", "names.txt")
+TABLES = os.path.join(os.path.dirname(TOOLS), "crates", "gdb_tests", "tables")
+TABLE, NEWER = os.path.join(TABLES, "names.txt"), os.path.join(TABLES, "newer_names.txt")
+RELEASES = {13: "Gdb13", 16: "Gdb16"}
 RULES = os.path.join(TOOLS, "spelling", "rule_names.txt")
 PROGRAMS = os.path.join(TOOLS, "spelling", "programs")
 COMPILERS = [("g++", "-std=c++17"), ("g++", "-std=c++20"), ("clang++", "-std=c++17")]
@@ -81,9 +86,9 @@ def groups():
         yield title, once
 
 
-def answered(names):
+def answered(names, gdb="gdb"):
     """gdb's spelling of each name for which it has one."""
-    return {name: answer for name, answer in zip(names, gdb_spellings(names)) if answer is not None}
+    return {name: answer for name, answer in zip(names, gdb_spellings(names, gdb=gdb)) if answer is not None}
 
 
 def write_table():
@@ -105,17 +110,44 @@ def write_table():
     print("%d names" % count)
 
 
-def table():
-    """gdb's spelling of each name, and ours."""
-    rows = [line.split(b"\t") for line in lines_of(TABLE) if not line.startswith(b"# ")]
-    return {row[0]: row[1] for row in rows}, {row[0]: row[0] if len(row) == 3 else row[1] for row in rows}
+def write_newer(gdb):
+    """The names of the first table that this gdb spells otherwise than gdb 13, or that ours alone spells otherwise for it."""
+    of_gdb, ours = table(13)
+    answers = answered(list(of_gdb), gdb)
+    others = other_spellings(answers, release=RELEASES[16])
+    lines = []
+    for name, answer in answers.items():
+        kept = name in others
+        if others.get(name, name) != name:
+            print("left out: %r, of gdb %r, ours %r" % (name, answer, others[name]))
+        elif answer != of_gdb[name] or kept != (ours[name] != of_gdb[name]):
+            lines.append(name + b"\t" + answer + (b"\tkept" if kept else b""))
+    with open(NEWER, "wb") as file:
+        file.write(b"\n".join(lines) + b"\n")
+    print("%d names" % len(lines))
 
 
-def is_gdb_13():
-    if shutil.which("gdb") is None:
-        return False
-    said = subprocess.run(["gdb", "--version"], capture_output=True, text=True, check=False).stdout
-    return re.match(r"GNU gdb .* 13\.", said) is not None
+def rows_of(path):
+    """Of each line of a table: the name, gdb's spelling and ours."""
+    rows = (line.split(b"\t") for line in lines_of(path) if not line.startswith(b"# "))
+    return {row[0]: (row[1], row[0] if len(row) == 3 else row[1]) for row in rows}
+
+
+def table(release):
+    """The spelling of each name by a release of gdb, and ours for it."""
+    rows = rows_of(TABLE)
+    if release == 16:
+        rows.update(rows_of(NEWER))
+    return {name: row[0] for name, row in rows.items()}, {name: row[1] for name, row in rows.items()}
+
+
+def release_of(gdb):
+    """The release of a gdb, as far as it is told apart; None where there is none, or another one."""
+    if shutil.which(gdb) is None:
+        return None
+    said = subprocess.run([gdb, "--version"], capture_output=True, text=True, check=False).stdout
+    found = re.match(r"GNU gdb .* (\d+)\.", said)
+    return int(found.group(1)) if found and int(found.group(1)) in RELEASES else None
 
 
 def told(what, wanted, others):
@@ -125,22 +157,24 @@ def told(what, wanted, others):
     return len(others)
 
 
-def check_table():
-    of_gdb, ours = table()
-    count, failed = len(ours), told("ours", ours, other_spellings(ours))
-    if is_gdb_13():
-        names = list(of_gdb)
-        count += len(names)
-        failed += told("gdb", of_gdb, {name: answer for name, answer in zip(names, gdb_spellings(names)) if answer != of_gdb[name]})
-    else:
-        print("no gdb 13: passed over")
+def check_tables(gdb):
+    count = failed = 0
+    for release, word in RELEASES.items():
+        of_gdb, ours = table(release)
+        count, failed = count + len(ours), failed + told("ours for %d" % release, ours, other_spellings(ours, release=word))
+        if release_of(gdb) == release:
+            count += len(of_gdb)
+            answers = zip(of_gdb, gdb_spellings(list(of_gdb), gdb=gdb))
+            failed += told("gdb", of_gdb, {name: answer for name, answer in answers if answer != of_gdb[name]})
+        else:
+            print("no gdb %d: passed over" % release)
     return count, failed
 
 
-def compare(names):
+def compare(names, gdb):
     """Ours beside gdb's. A name that ours keeps and gdb changes is told, and isn't wrong."""
-    answers = answered(names)
-    others = other_spellings(answers)
+    answers = answered(names, gdb)
+    others = other_spellings(answers, release=RELEASES[release_of(gdb)])
     kept = {name: ours for name, ours in others.items() if ours == name}
     changed = sum(answer != name for name, answer in answers.items())
     print("%d names, of which gdb changes %d; ours keeps %d of these" % (len(answers), changed, len(kept)))
@@ -149,14 +183,19 @@ def compare(names):
 
 
 def main(words):
+    gdb = "gdb"
+    if words[:1] == ["--gdb"]:
+        gdb, words = words[1], words[2:]
     if words == ["--write"]:
         return write_table()
+    if words == ["--write-newer"]:
+        return write_newer(gdb)
     if words[:1] == ["--made"]:
-        count, failed = compare(made_names(int(words[1]), int(words[2])))
+        count, failed = compare(made_names(int(words[1]), int(words[2])), gdb)
     elif words:
-        count, failed = compare(sorted({name for file in words for name in names_of(file)}))
+        count, failed = compare(sorted({name for file in words for name in names_of(file)}), gdb)
     else:
-        count, failed = check_table()
+        count, failed = check_tables(gdb)
     print("spelling: %d passed, %d failed" % (count - failed, failed))
     return 1 if failed else 0
 

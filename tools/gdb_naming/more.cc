@@ -26,3 +26,9 @@ template <int n> struct Number { enum { value = n }; static const int twice = 2 
 int number = Number<4>::value + Number<(3 > 2)>::twice;
 void *operator new(decltype(sizeof 0), int *at) { return at; }
 static inline const char *never_called(signed char) { return "x"; }
+template <class T> struct Callback { struct State { int kept; } state; T *function; };
+Callback<void(long int)> callback;
+Callback<shapes::Box<long int> *(const Outer &, char)> returning;
+Callback<int (Outer::*)(Callback<void()> &) const> of_member;
+template <char letter> struct Letter { char kept = letter; };
+Letter<'a'> letter;

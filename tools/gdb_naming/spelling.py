@@ -1,4 +1,5 @@
-"""How gdb spells names of C and C++ anew, as its own index of a unit made of them tells."""
+"""How gdb spells names of C and C++ anew, as its own index of a unit made of them tells, and how gdb 16.3 does where no gdb but 13.1 is
+there: by a table of the names that it spells otherwise (`python3 tools/gdb_naming/newer.py`)."""
 import os
 import subprocess
 import tempfile
@@ -35,6 +36,16 @@ def _program(names, folder):
     return path
 
 
+HERE = os.path.dirname(os.path.abspath(__file__))
+NEWER = os.path.join(HERE, "newer_names.txt")
+
+
+def newer_names():
+    """The names that gdb 16.3 spells otherwise than gdb 13.1, each with its spelling."""
+    with open(NEWER, "rb") as file:
+        return dict(line.split(b"\t") for line in file.read().split(b"\n") if line)
+
+
 class Speller:
     """What a gdb makes of the names that it was asked."""
 
@@ -57,3 +68,18 @@ class Speller:
 
     def spelled(self, language_class, name):
         return self.known[name] if may_change(language_class, name) else name
+
+
+class BothSpellers:
+    """What gdb 13.1 makes of names, which is asked, and gdb 16.3, of which the table tells."""
+
+    def __init__(self):
+        self.older, self.table = Speller("gdb"), newer_names()
+
+    def learn(self, program):
+        self.older.learn(program)
+
+    def newer(self, language_class, name):
+        """A name as gdb 16.3 spells it in a unit of this class."""
+        changed = self.table.get(name) if may_change(language_class, name) else None
+        return self.older.spelled(language_class, name) if changed is None else changed

@@ -33,10 +33,11 @@ class Entry:
 
 
 class GdbNames:
-    """The names of the items of a built program. `spelled(class, name)` spells a component."""
+    """The names of the items of a built program. Each of the `spellings` is that of a release of gdb: `spelled(class, name)` spells a
+    component."""
 
-    def __init__(self, program, spelled):
-        self.program, self.spelled = program, spelled
+    def __init__(self, program, *spellings):
+        self.program, self.spellings = program, spellings
         self.units = GdbUnits(program)
         self.items = GdbItems(program, self.units)
 
@@ -75,18 +76,18 @@ class GdbNames:
         said = self.items.said[member.offset]
         return said.name is not None and (member.tag != gdb_rules.ENUMERATION or said.scoped)
 
-    def full_name(self, item):
+    def full_name(self, item, spelled):
         language_class, name = self.class_of(item), self.items.said[item.offset].name
         if language_class == ADA:
             return gdb_ada.encoded(self._ada_name(item))
-        own = self.spelled(language_class, name)
+        own = spelled(language_class, name)
         if language_class not in gdb_rules.SEPARATORS:
             return own
-        return gdb_rules.SEPARATORS[language_class].join(self.components(self.path(item)) + [own])
+        return gdb_rules.SEPARATORS[language_class].join(self.components(self.path(item), spelled) + [own])
 
-    def components(self, path):
+    def components(self, path, spelled):
         """What a path gives to names, from the outermost inwards."""
-        return [self.spelled(self.class_of(member), self.items.said[member.offset].name)
+        return [spelled(self.class_of(member), self.items.said[member.offset].name)
                 for member in reversed(path) if self.gives_component(member)]
 
     def _ada_name(self, item):
@@ -100,12 +101,16 @@ class GdbNames:
                 break
         return b".".join(pieces[::-1])
 
-    def _only_name(self, language_class, linkage):
+    def by_all(self, name):
+        """A name by each of the spellings, none twice."""
+        return dict.fromkeys(name(spelled) for spelled in self.spellings)
+
+    def _only_name(self, language_class, linkage, spelled):
         """A linkage name that is taken for a name: it is spelled as names are, and in Ada decoded."""
         if language_class == ADA:
             decoded = gdb_ada.decoded(linkage)
             return gdb_ada.encoded(linkage if decoded is None else decoded)
-        return self.spelled(language_class, linkage)
+        return spelled(language_class, linkage)
 
     def _is_static(self, item):
         if item.tag == gdb_rules.ENTRY_POINT:
@@ -118,27 +123,29 @@ class GdbNames:
         if said.hidden and language_class != ADA:
             return
         if said.name is not None:
-            yield Entry(item, unit, static, False, self.full_name(item))
+            for name in self.by_all(lambda spelled: self.full_name(item, spelled)):
+                yield Entry(item, unit, static, False, name)
         linkage = said.linkage or (said.name if language_class == ADA else None)
         if linkage is None:
             return
         if said.name is None and item.tag in gdb_rules.CALLED:
-            yield Entry(item, unit, static, False, self._only_name(language_class, linkage))
+            for name in self.by_all(lambda spelled: self._only_name(language_class, linkage, spelled)):
+                yield Entry(item, unit, static, False, name)
         elif language_class != CXX:
             yield Entry(item, unit, static, True, gdb_ada.encoded(linkage) if language_class == ADA else linkage)
 
 
-def entries_of(program, spelled=as_stands):
+def entries_of(program, *spellings):
     """All entries in section order."""
-    names = GdbNames(program, spelled)
+    names = GdbNames(program, *spellings)
     looked_at = (item for _, items in program.walks for item in items if item.offset in names.items.said)
     return [entry for item in looked_at for entry in names.entries_for(item)]
 
 
-def gdb_index_bytes(program, version, spelled=as_stands):
-    """The bytes of the index of a built program by gdb's own rules. Main stands in it where its name is listed."""
+def gdb_index_bytes(program, version, *spellings):
+    """The bytes of the index of a built program by gdb's own rules, with these spellings of names. Main stands in it where its name is listed."""
     # A text of an index ends at its first zero byte.
-    listed = [(entry.name.partition(b"\0")[0], entry.unit, kind, entry.static) for entry in entries_of(program, spelled) for kind in entry.kinds]
+    listed = [(entry.name.partition(b"\0")[0], entry.unit, kind, entry.static) for entry in entries_of(program, *spellings) for kind in entry.kinds]
     names = {entry[0] for entry in listed}
     main = program.main if program.main and program.main[1] in names else None
     return gdb_index_of(program, version, listed, main)

@@ -8,13 +8,13 @@ import tempfile
 
 TOP = os.path.dirname(os.path.dirname(os.path.dirname(os.path.abspath(__file__))))
 BATCH = 48 << 20
-# How a name is spelled by each crate.
+# How a name is spelled by each crate, by the spelling of one release of gdb.
 SPELLED = {
-    "cxx_spelling": """use cxx_spelling::spelling;
+    "cxx_spelling": """use cxx_spelling::{Release, spelling};
 use std::alloc::{AllocError, Global};
 
 fn spelled(alloc: Global, name: &[u8]) -> Result<Vec<u8>, AllocError> {
-    spelling(alloc, name)?.bytes().to_vec(alloc)
+    spelling(alloc, Release::RELEASE, name)?.bytes().to_vec(alloc)
 }
 """,
     "ada_spelling": """use ada_spelling::{decode, encode};
@@ -93,8 +93,9 @@ def batches(lines):
         yield batch
 
 
-def other_spellings(wanted, crate="cxx_spelling"):
-    """Of names with a spelling, those that a crate spells otherwise, with that. No name has a tab or the end of a line in it."""
+def other_spellings(wanted, crate="cxx_spelling", release="Gdb13"):
+    """Of names with a spelling, those that a crate spells otherwise for a release of gdb, with that. No name has a tab or the end of a line
+    in it."""
     others = {}
     with tempfile.TemporaryDirectory() as folder:
         for part in ("src", "specs", "proofs"):
@@ -102,7 +103,7 @@ def other_spellings(wanted, crate="cxx_spelling"):
         write(os.path.join(folder, "crates.txt"), "%s:\nspelled_lines: %s\n" % (crate, crate))
         write(os.path.join(folder, "HANDLES"), "Handles allowed: none.\n")
         program = os.path.join(folder, "crates", "spelled_lines")
-        write(os.path.join(program, "src", "main.rt"), PROGRAM % SPELLED[crate])
+        write(os.path.join(program, "src", "main.rt"), PROGRAM % SPELLED[crate].replace("RELEASE", release))
         for batch in batches([name + b"\t" + spelling for name, spelling in wanted.items()]):
             others.update(answers_to(program, batch))
     return others
