@@ -116,7 +116,7 @@ unfolding targets_of is_external is_scoped
 chain_told p d c off told = by (sym (ap (λ (b : Bool). cond b [] (targets_from MAX_CHAIN_HOPS p d)) off))
   where
     by : targets_from MAX_CHAIN_HOPS p d ≡ targets_of p d → IsChainOf p d c
-    by same = let here = subst (λ (es : List Located). IsToldOf p.sections d es c) same told in record { name = here.name; external = here.external; scoped = here.scoped; targets = here.targets }
+    by same = let here = subst (λ (es : List Located). IsToldOf p.sections d es c) same told in record { name = here.name; place = here.place; external = here.external; scoped = here.scoped; targets = here.targets }
 
 -- of one that gives scope alone the chain is the item
 pub scope_told : (p : Program) (d : Located) (c : Chain) → gives_scope_alone (facts_of d.item) ≡ true → IsToldOf p.sections d [] c → IsChainOf p d c
@@ -124,7 +124,7 @@ unfolding targets_of is_external is_scoped
 scope_told p d c on told = by (sym (ap (λ (b : Bool). cond b [] (targets_from MAX_CHAIN_HOPS p d)) on))
   where
     by : [] ≡ targets_of p d → IsChainOf p d c
-    by same = let here = subst (λ (es : List Located). IsToldOf p.sections d es c) same told in record { name = here.name; external = here.external; scoped = here.scoped; targets = here.targets }
+    by same = let here = subst (λ (es : List Located). IsToldOf p.sections d es c) same told in record { name = here.name; place = here.place; external = here.external; scoped = here.scoped; targets = here.targets }
 
 -- ---- an item that was sought
 

@@ -10,7 +10,7 @@ ghost use Rattle.index_model.specs.Sections.{Section};
 ghost use Rattle.index_model.specs.Strings.{own_linkage_name, own_name};
 ghost use Rattle.ix_base.specs.declared.limits.TheConstants.{MAX_CHAIN_HOPS as HOPS};
 ghost use Rattle.gdb_entries.specs.Chains.{linkage_of, next_of, targets_from};
-ghost use Rattle.gdb_items.specs.Chains.{IsChainOf, IsToldOf};
+ghost use Rattle.gdb_items.specs.Chains.{IsChainOf, IsToldOf, StandsAt};
 ghost use Rattle.gdb_entries.specs.Files.{ForProgram};
 ghost use Rattle.gdb_items.specs.Files.{IsItemIn};
 ghost use Rattle.gdb_items.specs.Items.{IsItemOf};
@@ -28,6 +28,8 @@ use std::alloc::Global;
 pub struct Chain<'f> {
     /// The first own name, borrowed from the file.
     pub name: Option<&'f [u8]>,
+    /// Where it stands in `.debug_str`, if it stands there.
+    pub place: Option<u64>,
     /// Whether one of them is external.
     pub external: bool,
     /// Whether one of them is a scoped enumeration.
@@ -44,6 +46,7 @@ impl<'f> Chain<'f> {
     {
         Chain {
             name,
+            place: place_of(item, name),
             external: item.facts.external,
             scoped: item.scoped,
             targets: ArrayVec::new(),
@@ -56,10 +59,33 @@ impl<'f> Chain<'f> {
         ensures told { (ss : List Section) (d e : Located) (passed : List Located) → IsToldOf ss d passed self.old → IsItemOf ss target.now e → option_map (λ b. b.now) name.entry ≡ option_or (option_map (λ b. b.now) self.old.name) (own_name ss e) → IsToldOf ss d (passed ++ e ∷ []) self.new }
         ensures count { array_vec_len self.new.targets ≡ array_vec_len self.old.targets + 1 }
     {
+        self.place = self.first_place(target, name);
         self.name = name;
         self.external = self.external || target.facts.external;
         self.scoped = self.scoped || target.scoped;
         self.targets.push(target.offset);
+    }
+
+    // Where the first name stands with one more target, with which it is this one.
+    fn first_place(&self, target: &UnitItem<'f>, name: Option<&'f [u8]>) -> Option<u64>
+        ensures { (ss : List Section) → StandsAt ss self.now.place (option_map (λ b. b.now) self.now.name) → option_map (λ b. b.now) name.entry ≡ option_or (option_map (λ b. b.now) self.now.name) (text_told ss target.now.name) → StandsAt ss result (option_map (λ b. b.now) name.entry) }
+    {
+        if self.name.is_some() {
+            self.place
+        } else {
+            place_of(target, name)
+        }
+    }
+}
+
+// Where this name of an item stands in `.debug_str`, if it has one that stands there.
+fn place_of(item: &UnitItem<'_>, name: Option<&[u8]>) -> Option<u64>
+    ensures { (ss : List Section) → option_map (λ b. b.now) name.entry ≡ text_told ss item.now.name → StandsAt ss result (option_map (λ b. b.now) name.entry) }
+{
+    if name.is_some() {
+        item.name.place()
+    } else {
+        None
     }
 }
 

@@ -36,8 +36,18 @@ impl<'f> ItemText<'f> {
         }
     }
 
+    /// Where it stands in `.debug_str`, if it stands there.
+    pub(crate) fn place(self) -> Option<u64>
+        ensures { IfSome result (λ at. (ss : List Section) → string_told ss at ≡ text_told ss self.entry) }
+    {
+        match self {
+            ItemText::InStr(at) => Some(at),
+            _ => None,
+        }
+    }
+
     /// Its bytes, borrowed from the file with these sections. An empty text is none.
-    pub(crate) fn bytes(self, sections: &Sections<'f>) -> Option<&'f [u8]>
+    pub fn bytes(self, sections: &Sections<'f>) -> Option<&'f [u8]>
         ensures { option_map (λ b. b.now) result ≡ text_told sections.now self.entry }
     {
         match self {
