@@ -1,13 +1,18 @@
 -- The names of an item, by what is told of it.
-use Rattle.std.proofs.Common.{◌≡◌, ℕ, Bool, false, List, [], ◌∷◌, ◌++◌, map, flat_map, Option, refl, sym, ap, ◌∙◌}
+use Rattle.std.proofs.Common.{◌≡◌, ℕ, Bool, true, false, cond, List, [], ◌∷◌, ◌++◌, map, flat_map, Option, Some, None, refl, sym, ap, ◌∙◌}
 use Rattle.std.proofs.lemmas.List.{map-append}
-use Rattle.std.specs.Prelude.{option_to_list}
+use Rattle.std.specs.Prelude.{option_to_list, not, ◌&&◌, IfSome}
+use Rattle.index_model.specs.Sections.{Section}
 use Rattle.index_model.specs.Program.{Program, Located}
 use Rattle.gdb_entries.specs.declared.item.ItemFacts.{ItemFacts}
 use Rattle.gdb_entries.specs.declared.language.LanguageClass.{LanguageClass}
-use Rattle.gdb_entries.specs.Chains.{facts_of, linkage_of, name_of}
+use Rattle.gdb_entries.specs.Chains.{facts_of, first_name, linkage_of, name_of}
+use Rattle.gdb_entries.specs.Classes.{is_ada}
 use Rattle.gdb_entries.specs.Entries.{full_texts, is_linkage, names_of, second_texts}
 use Rattle.gdb_entries.specs.ItemNames.{ItemNames, SecondName, item_names}
+use Rattle.gdb_entries.specs.Rules.{gives_scope_alone}
+use Rattle.gdb_items.specs.Chains.{StandsAt}
+use Rattle.gdb_index.proofs.StepLaws.{stands_too}
 
 module _ (p : Program) (class : LanguageClass) (d : Located) where
   -- the texts of a second name, with what they are
@@ -46,3 +51,13 @@ module _ (p : Program) (class : LanguageClass) (d : Located) where
       ∙ ap (λ (ts : List (List ℕ)). map (λ (n : Bool × List ℕ). n.1) named ++ ts) (is_second ∙ bare_second (option_to_list names.second))
       ∙ sym (map-append (λ (n : Bool × List ℕ). n.1) named seconds)
       ∙ ap (λ (x : ItemNames). map (λ (n : Bool × List ℕ). n.1) (map (λ (text : List ℕ). (false, text)) (full_texts p class d x.name) ++ flat_map second_named (option_to_list x.second))) are
+
+-- where the name stands that is the first on the item's chain, there stands the one under which it is listed
+pub own_stands : (ss : List Section) (p : Program) (class : LanguageClass) (d : Located) (place : Option ℕ) → StandsAt ss place (first_name p d) → (linkage o : Option (List ℕ)) →
+    o ≡ (item_names class (facts_of d.item) (name_of p class d) linkage).name → IfSome o (λ n. StandsAt ss place (Some n))
+own_stands ss p class d place stands linkage None is = tt
+own_stands ss p class d place stands linkage (Some n) is = by (gives_scope_alone (facts_of d.item) && not (is_ada class)) _ _ refl refl is
+  where
+    by : (b : Bool) (bare named : ItemNames) → bare.name ≡ None → named.name ≡ name_of p class d → Some n ≡ (cond b bare named).name → StandsAt ss place (Some n)
+    by true bare named none own e = let no : Some n ≡ None = e ∙ none in absurd cc
+    by false bare named none own e = stands_too ss p class d place stands n (sym (e ∙ own))

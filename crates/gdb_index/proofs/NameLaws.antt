@@ -1,7 +1,7 @@
 -- Names behind their scope paths.
-use Rattle.std.proofs.Common.{◌≡◌, ℕ, Bool, false, cond, List, [], ◌∷◌, ◌++◌, filter_map, map, reverse, Option, Some, None, option_map, refl, sym, ap, ◌∙◌}
+use Rattle.std.proofs.Common.{◌≡◌, ℕ, Bool, true, false, cond, List, [], ◌∷◌, ◌++◌, filter_map, map, reverse, Option, Some, None, option_map, refl, sym, ap, ◌∙◌}
 use mathlib.Core.Bool.{◌||◌}
-use Rattle.std.specs.Prelude.{bytes_eq, is_some}
+use Rattle.std.specs.Prelude.{is_some}
 use Rattle.std.specs.List.{list_any}
 use Rattle.std.proofs.lemmas.List.{reverse-reverse}
 use Rattle.std.specs.Borrow.{Bor}
@@ -16,39 +16,28 @@ use Rattle.gdb_entries.specs.Classes.{is_ada, separator_of}
 use Rattle.gdb_entries.specs.Components.{spelled, behind_scope, joined}
 use Rattle.gdb_entries.specs.Names.{ada_name, component, full_name}
 use Rattle.gdb_entries.specs.Scopes.{scope_path}
-use Rattle.gdb_names.specs.declared.both.BothNames.{BothNames}
-use Rattle.gdb_names.specs.Both.{AreBoth}
+use Rattle.gdb_names.proofs.JoinLaws.{front}
 use Rattle.gdb_names.specs.FullNames.{name_behind}
 use Rattle.gdb_names.specs.Seen.{contents}
 use Rattle.gdb_index.specs.declared.both_texts.BothTexts.{BothTexts}
 use Rattle.gdb_index.specs.declared.text.ComponentText.{ComponentText}
+use Rattle.gdb_index.specs.Fronts.{front_at}
 use Rattle.gdb_index.specs.Texts.{newer_or, text_by, text_bytes}
 
 -- of names that are turned round the bytes are
 pub turned_contents : (names : List (Bor (List ℕ))) → contents (reverse names) ≡ reverse (contents names)
 turned_contents names = map-reverse (λ (name : Bor (List ℕ)). name.now) names
 
--- without a separator a name stands alone
-pub stands_alone : (class : LanguageClass) (names : List (List ℕ)) (name : List ℕ) → separator_of class ≡ None → behind_scope class names name ≡ name
-stands_alone class names name none = ap (λ (o : Option Separator). joined o (names ++ name ∷ []) name) none
-
--- a class without a separator isn't that of Ada
-pub not_ada : (class : LanguageClass) → separator_of class ≡ None → is_ada class ≡ false
-not_ada C none = refl
-not_ada Cxx none = refl
-not_ada Ada none = ap (λ (o : Option Separator). is_some o) none
-not_ada Rust none = refl
-not_ada D none = refl
-not_ada Go none = refl
-not_ada Fortran none = refl
-not_ada Other none = refl
-
--- without a separator a name stands alone, behind whatever names
-pub alone_behind : (release : Release) (class : LanguageClass) (names : List (List ℕ)) (name : List ℕ) →
-    separator_of class ≡ None → name_behind release class names name ≡ spelled release class name
-alone_behind release class names name none =
-    let others = behind_scope class names (spelled release class name) in
-    ap (λ (b : Bool). cond b (ada_name (name ∷ reverse names)) others) (not_ada class none) ∙ stands_alone class names (spelled release class name) none
+-- no class but Ada's is
+pub not_ada : (class : LanguageClass) → (class ≡ Ada → ⊥) → is_ada class ≡ false
+not_ada C other = refl
+not_ada Cxx other = refl
+not_ada Ada other = absurd (other refl)
+not_ada Rust other = refl
+not_ada D other = refl
+not_ada Go other = refl
+not_ada Fortran other = refl
+not_ada Other other = refl
 
 -- a full name is the name behind the components of the path
 pub stands_behind : (release : Release) (p : Program) (class : LanguageClass) (d : Located) (name : List ℕ) →
@@ -59,17 +48,38 @@ stands_behind release p class d name =
     let others = behind_scope class (reverse names) (spelled release class name) in
     ap (λ (ns : List (List ℕ)). cond (is_ada class) (ada_name (name ∷ ns)) others) (reverse-reverse names)
 
+-- of Ada it is decoded
+pub full_of_ada : (release : Release) (p : Program) (class : LanguageClass) (d : Located) (name : List ℕ) → is_ada class ≡ true →
+    ada_name (name ∷ reverse (reverse (filter_map (component release p) (scope_path p d)))) ≡ full_name release p class d name
+full_of_ada release p class d name ada =
+    let names = reverse (filter_map (component release p) (scope_path p d)) in
+    sym (ap (λ (b : Bool). cond b (ada_name (name ∷ reverse names)) (behind_scope class names (spelled release class name))) ada) ∙ stands_behind release p class d name
+
+-- else it stands behind what its scope puts before each name
+pub full_of_front : (release : Release) (p : Program) (class : LanguageClass) (d : Located) (name : List ℕ) → is_ada class ≡ false →
+    front_at release p class d ++ spelled release class name ≡ full_name release p class d name
+full_of_front release p class d name other =
+    let names = reverse (filter_map (component release p) (scope_path p d)) in
+    let whole = behind_scope class names (spelled release class name) in
+    sym (front (separator_of class) names (spelled release class name))
+    ∙ sym (ap (λ (b : Bool). cond b (ada_name (name ∷ reverse names)) whole) other)
+    ∙ stands_behind release p class d name
+
+-- without components nothing stands before a name
+nothing_joined : (s : Option Separator) → [] ≡ joined s ([] ∷ []) []
+nothing_joined None = refl
+nothing_joined (Some s) = refl
+
+pub no_front : (release : Release) (p : Program) (class : LanguageClass) (d : Located) → filter_map (component release p) (scope_path p d) ≡ [] → [] ≡ front_at release p class d
+no_front release p class d none = nothing_joined (separator_of class) ∙ sym (ap (λ (names : List (List ℕ)). behind_scope class (reverse names) []) none)
+
+-- without a separator neither
+pub no_separator : (release : Release) (p : Program) (class : LanguageClass) (d : Located) → separator_of class ≡ None → [] ≡ front_at release p class d
+no_separator release p class d none =
+    let names = reverse (filter_map (component release p) (scope_path p d)) in
+    sym (ap (λ (o : Option Separator). joined o (names ++ [] ∷ []) []) none)
+
 -- ---- both releases
-
-abbrev both_of : List ℕ → List ℕ → List (List ℕ)
-both_of older newer = cond (bytes_eq older newer) (older ∷ []) (older ∷ newer ∷ [])
-
--- names that are these texts are those too
-pub are_both_too : (texts others : Release → List ℕ) → ((release : Release) → texts release ≡ others release) → (names : BothNames) → AreBoth texts names → AreBoth others names
-are_both_too texts others same names are = (
-  λ release. are.0 release ∙ same release,
-  are.1 ∙ ap (λ (o : List ℕ). both_of o (texts Gdb16)) (same Gdb13) ∙ ap (λ (n : List ℕ). both_of (others Gdb13) n) (same Gdb16),
-)
 
 -- where no text is another by gdb 16, all are those of gdb 13
 pub none_differ : (texts : List BothTexts) → list_any (λ (t : BothTexts). is_some t.newer) texts ≡ false → map (text_by Gdb13) texts ≡ map (text_by Gdb16) texts

@@ -54,6 +54,10 @@ unfolding path_from
 ends_here release p zero d none = ap (λ (o : Option Located). option_map (components release p) (path_behind p o (λ e. None))) none
 ends_here release p (suc n) d none = ap (λ (o : Option Located). option_map (components release p) (path_behind p o (λ e. path_from p n e))) none
 
+-- so it has no components
+pub no_path : (release : Release) (p : Program) (d : Located) → scope_of p d ≡ None → components release p (scope_path p d) ≡ []
+no_path release p d none = of_path release p d ∙ ap (λ (b : Option (List (List ℕ))). unwrap_or b []) (ends_here release p MAX_PATH_STEPS d none)
+
 -- with one where none may come it is too long
 too_long : (release : Release) (p : Program) (d e : Located) → scope_of p d ≡ Some e → behind release p 0 d ≡ None
 unfolding path_from
@@ -144,3 +148,8 @@ module _ (f : List ℕ) (p : Program) (is : program_of f ≡ Ok p) (d : Located)
 pub one_fewer : (n : ℕ) → (n ≡ 0 → ⊥) → n ≡ suc (n - 1)
 one_fewer zero some = absurd (some refl)
 one_fewer (suc n) some = omega arith
+
+-- where there is no offset, nothing is around
+pub none_around : (q : Option Located) → None ≡ option_map offset_of q → q ≡ None
+none_around None e = refl
+none_around (Some x) e = absurd cc

@@ -1,9 +1,7 @@
 //! The text of a component as each release of gdb spells it.
 
-ghost use Rattle.std.specs.Prelude.{◌≡◌, IfOk, is_some, map, reverse};
-ghost use Rattle.std.specs.List.{list_any};
+ghost use Rattle.std.specs.Prelude.{◌≡◌, IfOk};
 ghost use Rattle.cxx_spelling.specs.declared.release.Release.{Release as ReleaseOf};
-ghost use Rattle.gdb_names.specs.Seen.{contents};
 ghost use Rattle.gdb_names.specs.Both.{text_by as name_by};
 ghost use Rattle.gdb_index.specs.Texts.{text_by};
 
@@ -58,40 +56,4 @@ impl<'f> BothTexts<'f> {
             newer,
         })
     }
-}
-
-/// The bytes of each of the texts by a release, those of the last one first.
-#[tactic(auto, using(crate::proofs::NameLaws::turned_contents))]
-pub(crate) fn turned_round<'t>(
-    alloc: Global,
-    release: Release,
-    texts: &'t [BothTexts<'_>],
-) -> Result<Vec<&'t [u8]>, NoMemory>
-    ensures { IfOk result (λ parts. contents parts.items ≡ reverse (map (text_by release) texts.now)) }
-{
-    let mut parts = contents_of(alloc, release, texts)?;
-    parts.reverse();
-    Ok(parts)
-}
-
-// The bytes of each of the texts.
-fn contents_of<'t>(
-    alloc: Global,
-    release: Release,
-    texts: &'t [BothTexts<'_>],
-) -> Result<Vec<&'t [u8]>, NoMemory>
-    ensures { IfOk result (λ parts. contents parts.items ≡ map (text_by release) texts.now) }
-{
-    let mut parts = Vec::new(alloc);
-    for text in texts {
-        parts.push(text.bytes(release))?;
-    }
-    Ok(parts)
-}
-
-/// Whether gdb 16 spells one of the texts otherwise than gdb 13.
-pub(crate) fn differ(texts: &[BothTexts<'_>]) -> bool
-    ensures { result ≡ list_any (λ text. is_some text.newer) texts.now }
-{
-    texts.iter().any(|text| text.newer.is_some())
 }

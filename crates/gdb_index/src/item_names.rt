@@ -1,13 +1,13 @@
 //! The names of an item as they are listed.
 
-ghost use Rattle.std.specs.Prelude.{◌≡◌, flat_map, map, option_map, option_to_list, IfOk, Some};
+ghost use Rattle.std.specs.Prelude.{◌≡◌, flat_map, map, option_map, option_to_list, IfOk, IfSome, Some};
 ghost use Rattle.index_model.specs.Program.{Located};
 ghost use Rattle.gdb_entries.specs.Chains.{linkage_of};
 ghost use Rattle.gdb_entries.specs.Entries.{full_texts, names_of, second_texts};
 ghost use Rattle.gdb_entries.specs.Files.{ForProgram};
 ghost use Rattle.gdb_entries.specs.ItemNames.{item_names};
 ghost use Rattle.gdb_entries.specs.Owners.{class_read};
-ghost use Rattle.gdb_items.specs.Chains.{IsChainOf};
+ghost use Rattle.gdb_items.specs.Chains.{IsChainOf, StandsAt};
 ghost use Rattle.gdb_items.specs.Items.{IsItemOf};
 ghost use Rattle.gdb_names.specs.Seen.{bytes_of, names_seen, second_seen};
 ghost use Rattle.gdb_scopes.specs.Places.{ForItem, IsSeenIn};
@@ -77,7 +77,7 @@ fn full_name<'f>(
     chain: &Chain<'f>,
     name: Option<&'f [u8]>,
 ) -> Result<Option<BothNames<'f>>, NoMemory>
-    ensures value { ForItem names.old.file seen.now.item.offset (λ p d. IsSeenIn p (Some class) seen.now d → class_read p d.home ≡ Some class → IsChainOf p d chain.now → IfOk result (λ full. texts_in full ≡ full_texts p class d (bytes_of name.entry))) }
+    ensures value { ForItem names.old.file seen.now.item.offset (λ p d. IsSeenIn p (Some class) seen.now d → class_read p d.home ≡ Some class → IsChainOf p d chain.now → IfSome (bytes_of name.entry) (λ n. StandsAt p.sections chain.now.place (Some n)) → IfOk result (λ full. texts_in full ≡ full_texts p class d (bytes_of name.entry))) }
     ensures kept { names.new ≡ names.old }
 {
     match name {

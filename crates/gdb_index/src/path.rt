@@ -57,7 +57,7 @@ impl<'s, 'r, 'f> FileNames<'s, 'r, 'f> {
         ensures value { IfOk result (IsStepAt self.old.file offset) }
         ensures kept { self.new ≡ self.old }
     {
-        let step = Step::at(alloc, &mut self.places, offset)?;
+        let step = Step::at(alloc, &mut self.places, self.texts, offset)?;
         self.steps.insert(offset, step.share()?)?;
         Ok(step)
     }

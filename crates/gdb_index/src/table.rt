@@ -36,7 +36,7 @@ pub fn listed_table<'f, R: Threads + Sync>(
     requires { HasProgram image.now.file }
     ensures { ForProgram image.now.file (λ p. IfOk result (λ t. t ≡ listed p)) }
 {
-    let file = ReadFile::of(alloc, image)?;
+    let file = ReadFile::of(rt, alloc, workers, image)?;
     let count = file.units().len() as u32;
     let runs = runs_by_halves(rt, alloc, halvings_for(workers), &file, 0, count)?;
     if !are_few(&runs) {

@@ -1,8 +1,6 @@
 -- Components and a name, joined by a separator.
-use Rattle.std.proofs.Common.{◌≡◌, ℕ, ◌+◌, ◌<◌, false, List, [], ◌∷◌, ◌++◌, length, flat_map, refl, sym, ap, ◌∙◌, arith, length-append, append-nil}
-use Rattle.std.specs.Prelude.{bytes_eq, Option, Some, None}
-use Rattle.std.proofs.lemmas.Bool.{false_from_ne_true}
-use Rattle.std.proofs.lemmas.Slice.Eq.{bytes_eq-Decides}
+use Rattle.std.proofs.Common.{◌≡◌, ℕ, ◌+◌, List, [], ◌∷◌, ◌++◌, length, flat_map, refl, sym, ap, ◌∙◌, length-append, append-nil}
+use Rattle.std.specs.Prelude.{Option, Some, None}
 use Rattle.std.proofs.lemmas.List.{append_assoc}
 use Rattle.gdb_entries.specs.declared.separator.Separator.{Separator}
 use Rattle.gdb_entries.specs.Classes.{separator_text}
@@ -38,16 +36,3 @@ front None cs name = refl
 -- a name counts its own bytes
 pub joined_length : (s : List ℕ) (cs : List (List ℕ)) (name : List ℕ) → length (joined_by s cs name) ≡ length (joined_by s cs []) + length name
 joined_length s cs name = ap length (joined_front s cs name) ∙ length-append (joined_by s cs []) name
-
--- what stands behind components is longer than the name
-longer : (s : List ℕ) (cs : List (List ℕ)) (name : List ℕ) → 0 < length s → 0 < length cs → length name < length (joined_by s cs name)
-longer s [] name hs hc = absurd (omega arith)
-longer s (c ∷ cs) name hs hc =
-    omega (arith, joined_length s (c ∷ cs) name, ap length (joined_more s c cs []), length-append (c ++ s) (joined_by s cs []), length-append c s)
-
--- so it is another one
-pub differs : (s : List ℕ) (cs : List (List ℕ)) (name : List ℕ) → 0 < length s → 0 < length cs → bytes_eq (joined_by s cs name) name ≡ false
-differs s cs name hs hc =
-    false_from_ne_true _ (λ e.
-    let same : joined_by s cs name ≡ name = (bytes_eq-Decides (joined_by s cs name) name).0 e in
-    absurd (omega (arith, longer s cs name hs hc, ap length same)))

@@ -1,3 +1,3 @@
-mod JoinLaws
+pub mod JoinLaws
 mod AdaLaws
-mod BothLaws
+pub mod BothLaws

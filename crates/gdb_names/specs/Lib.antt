@@ -1,4 +1,5 @@
 pub mod Seen
 pub mod Both
+pub mod Fronts
 pub mod FullNames
 pub mod FileNames

@@ -1,5 +1,5 @@
 -- What contracts see of borrowed names.
-use Rattle.std.specs.Prelude.{◌≡◌, ◌<◌, ℕ, List, [], ◌∷◌, ◌++◌, length, map, Option, Some, None, option_map, option_to_list}
+use Rattle.std.specs.Prelude.{◌≡◌, ℕ, List, [], ◌∷◌, ◌++◌, map, Option, Some, None, option_map, option_to_list}
 use Rattle.std.specs.Borrow.{Bor}
 use Rattle.std.specs.List.{join_by}
 use Rattle.gdb_entries.specs.declared.language.LanguageClass.{LanguageClass}
@@ -25,8 +25,7 @@ joined_by separator components name = join_by (λ piece. piece) separator (compo
 -- In this class a separator joins these components and any name, or none stands before a name.
 abbrev pub Joins : LanguageClass → List (List ℕ) → Option (Bor (List ℕ)) → Type 0
 Joins class components None = (name : List ℕ) → behind_scope class components name ≡ name
-Joins class components (Some separator) =
-    (0 < length separator.now) × (0 < length components) × ((name : List ℕ) → behind_scope class components name ≡ joined_by separator.now components name)
+Joins class components (Some separator) = (name : List ℕ) → behind_scope class components name ≡ joined_by separator.now components name
 
 -- a second name
 abbrev pub second_seen : SecondName → defined.SecondName

@@ -1,10 +1,12 @@
 //! What both releases of gdb give: an index serves either.
 
-ghost use Rattle.std.specs.Prelude.{◌≡◌};
+ghost use Rattle.std.specs.Prelude.{◌≡◌, List, ℕ, IfOk};
 ghost use Rattle.cxx_spelling.specs.Spelling.{spelling_bytes};
-ghost use Rattle.gdb_names.specs.Both.{AreBoth, in_turn};
+ghost use Rattle.cxx_spelling.specs.declared.release.Release.{Release as ReleaseOf};
+ghost use Rattle.gdb_names.specs.Both.{AreBoth, in_turn, text_by};
 
-use cxx_spelling::SpelledName;
+use cxx_spelling::{Release, SpelledName};
+use std::alloc::{AllocError, Global};
 
 /// A name as gdb 13 and gdb 16 spell it.
 #[derive(Drop)]
@@ -46,5 +48,37 @@ impl<'n> BothNames<'n> {
             older,
             newer: Some(newer),
         }
+    }
+
+    /// The same names, with bytes of their own where they aren't lent.
+    pub fn copied(&self, alloc: Global) -> Result<BothNames<'n>, AllocError>
+        ensures { (text : ReleaseOf → List ℕ) → AreBoth text self.now → IfOk result (AreBoth text) }
+    {
+        let older = copy_of(alloc, &self.older)?;
+        let newer = match &self.newer {
+            Some(name) => Some(copy_of(alloc, name)?),
+            None => None,
+        };
+        Ok(BothNames { older, newer })
+    }
+
+    /// The name as a release spells it.
+    pub(crate) fn bytes(&self, release: Release) -> &[u8]
+        ensures { result.now ≡ text_by release self.now }
+    {
+        match (release, &self.newer) {
+            (Release::Gdb16, Some(name)) => name.bytes(),
+            _ => self.older.bytes(),
+        }
+    }
+}
+
+// The same spelling.
+fn copy_of<'n>(alloc: Global, name: &SpelledName<'n>) -> Result<SpelledName<'n>, AllocError>
+    ensures { IfOk result (λ copy. spelling_bytes copy ≡ spelling_bytes name.now) }
+{
+    match name {
+        SpelledName::Lent(bytes) => Ok(SpelledName::Lent(bytes)),
+        SpelledName::Owned(text) => Ok(SpelledName::Owned(text.to_vec(alloc)?)),
     }
 }

@@ -7,7 +7,8 @@ ghost use Rattle.gdb_names.specs.Both.{both_texts};
 ghost use Rattle.gdb_names.specs.Seen.{bytes_of, names_seen, second_seen};
 
 use crate::both::{BothComponents, BothNames};
-use crate::full_names::full_name;
+use crate::by_class::spelled;
+use crate::full_names::ada_full_name;
 use ada_spelling::encode;
 use cxx_spelling::SpelledName;
 use gdb_entries::{ItemFacts, LanguageClass, gives_scope_alone, is_called};
@@ -32,7 +33,10 @@ impl<'n> SecondName<'n> {
             newer: None,
         };
         match (self, class) {
-            (SecondName::OnlyName(name), _) => full_name(alloc, class, no_scope, name),
+            (SecondName::OnlyName(name), LanguageClass::Ada) => ada_full_name(
+                alloc, no_scope, name,
+            ),
+            (SecondName::OnlyName(name), _) => spelled(alloc, class, name),
             (SecondName::Linkage(name), LanguageClass::Ada) => Ok(BothNames::alike(
                 SpelledName::Owned(encode(alloc, name)?),
             )),

@@ -9,14 +9,15 @@
 
 mod ada;
 mod both;
-mod components;
+mod by_class;
 pub mod file_names;
+mod fronts;
 mod full_names;
 mod items;
 mod scope;
 
 pub use both::{BothComponents, BothNames};
-pub use components::{component, spelled};
-pub use full_names::full_name;
+pub use by_class::spelled;
+pub use fronts::BothFronts;
+pub use full_names::ada_full_name;
 pub use items::{ItemNames, SecondName, item_names};
-pub use scope::behind_scope;

@@ -3,29 +3,10 @@
 //! A name is measured without memory, then written once into room of its known length.
 
 ghost use Rattle.std.specs.Prelude.{◌≡◌, ◌++◌, length, min, IfOk, OnOk};
-ghost use Rattle.cxx_spelling.specs.Spelling.{IsSpelledAs};
-ghost use Rattle.gdb_entries.specs.Components.{behind_scope};
 ghost use Rattle.gdb_names.specs.Seen.{contents, joined_by, Joins};
 
-use cxx_spelling::SpelledName;
 use gdb_entries::{LanguageClass, separator_of};
 use std::alloc::{AllocError, Global};
-
-/// A name behind the components of its scope, which stand from the outermost inwards, in a unit of this class. All of them
-/// are spelled already. It is lent where no scope stands before it.
-pub fn behind_scope<'n>(
-    alloc: Global,
-    class: LanguageClass,
-    components: &[&[u8]],
-    name: &'n [u8],
-) -> Result<SpelledName<'n>, AllocError>
-    ensures { IfOk result (IsSpelledAs (behind_scope class (contents components.now) name.now) name.now) }
-{
-    match separator_behind(class, components) {
-        Some(separator) => Ok(SpelledName::Owned(joined(alloc, separator, components, name)?)),
-        None => Ok(SpelledName::Lent(name)),
-    }
-}
 
 /// What stands behind each component. None where no scope stands before a name.
 pub(crate) fn separator_behind(class: LanguageClass, components: &[&[u8]]) -> Option<&'static [u8]>

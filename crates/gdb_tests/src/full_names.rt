@@ -2,11 +2,12 @@
 //! don't stand in crates/gdb_entries/specs/MadeFile.antt are gdb 13.1's.
 
 use gdb_entries::LanguageClass::{Ada, C, Cxx, D, Fortran, Go, Rust};
-use gdb_entries::{ItemFacts, LanguageClass};
+use gdb_entries::{ItemFacts, LanguageClass, gives_component};
 use gdb_names::{
-    BothComponents, BothNames, ItemNames, SecondName, component, full_name, item_names,
+    BothComponents, BothFronts, BothNames, ItemNames, SecondName, ada_full_name, item_names,
+    spelled,
 };
-use std::alloc::Global;
+use std::alloc::{AllocError, Global};
 use std::process::Abort;
 use std::test::Fail;
 
@@ -125,13 +126,25 @@ const ITEMS: &[(LanguageClass, u64, bool, Listed)] = &[
 #[test]
 fn components(rt: HostRuntime) -> Result<(), Fail> {
     for row in COMPONENTS {
-        let given = component(rt.alloc(), row.0, DW_TAG_structure_type, false, Some(row.1))?;
-        assert!(rt; given.is_some());
-        if let Some(name) = given {
-            is_one_text(&rt, &name, row.2)?;
-        }
+        let name = spelled(rt.alloc(), row.0, row.1)?;
+        is_one_text(&rt, &name, row.2)?;
     }
     Ok(())
+}
+
+// The full name of an item in a unit of this class, behind these components.
+fn full_name(
+    alloc: Global,
+    class: LanguageClass,
+    components: BothComponents<'_>,
+    name: &'static [u8],
+) -> Result<BothNames<'static>, AllocError> {
+    if class == Ada {
+        return ada_full_name(alloc, components, name);
+    }
+    let own = spelled(alloc, class, name)?;
+    let front = BothFronts::of(alloc, class, components)?;
+    front.before(alloc, &own)
 }
 
 #[test]
@@ -257,11 +270,9 @@ fn a_declared_structure_is_not_listed(rt: HostRuntime) -> Result<(), Fail> {
 
 #[test]
 fn scoped_enumerations_alone_give_components(rt: HostRuntime) -> Result<(), Fail> {
-    let name = Some(b"e".as_slice());
-    let scoped = component(rt.alloc(), Cxx, DW_TAG_enumeration_type, true, name)?;
-    assert!(rt; scoped.is_some());
-    let plain = component(rt.alloc(), Cxx, DW_TAG_enumeration_type, false, name)?;
-    assert!(rt; plain.is_none());
+    assert!(rt; gives_component(DW_TAG_enumeration_type, true));
+    assert!(rt; !gives_component(DW_TAG_enumeration_type, false));
+    assert!(rt; gives_component(DW_TAG_structure_type, false));
     Ok(())
 }
 

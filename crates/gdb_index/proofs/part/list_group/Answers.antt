@@ -1,6 +1,7 @@
-use Rattle.std.proofs.Common.{◌<◌, length, sym, ap, ◌∙◌, arith}
+use Rattle.std.proofs.Common.{◌≡◌, ℕ, ◌<◌, length, sym, ap, subst, ◌∙◌, arith}
 use Rattle.file_image.specs.Images.{Image}
 use Rattle.index_model.specs.Faults.{program_of}
+use Rattle.gdb_index.specs.Ranges.{AreListed}
 use Rattle.gdb_index.proofs.RangeLaws.{next_listed}
 use Rattle.gdb_index.proofs.part.list_group.Goals as goal
 
@@ -31,3 +32,8 @@ loop-unit-preserved c =
           next_listed im c.units-units.ensures.of_file start n c.loop-unit.entries.items _ within (c.loop-unit.invariant.added start old)
           (λ p is w wc number. c.in_ok-list_unit.ensures.value p (file ∙ is) w wc number);
     }
+
+pub returns : goal.returns
+returns c start old =
+    let end : c.loop-unit.unit ≡ c.args.end = omega (arith, c.loop-unit-test.false, c.loop-unit.auto.unit-end) in
+    subst (λ (n : ℕ). AreListed c.args.file.now.file start n c.loop-unit.entries.items) end (c.loop-unit.invariant.added start old)

@@ -1,7 +1,7 @@
 use Rattle.std.proofs.Common.{sym, subst}
 use Rattle.file_image.specs.Images.{Image}
-use Rattle.gdb_index.specs.Steps.{AllAreSteps}
+use Rattle.gdb_index.specs.Kept.{AreKept}
 use Rattle.gdb_index.proofs.names.FileNames.linkage_name.Goals as goal
 
 pub invariant_of-self : goal.invariant_of-self
-invariant_of-self c = subst (λ (e : Image). AllAreSteps e.file c.self.inside.steps) (sym c.linkage_name.ensures.kept) c.self.invariant
+invariant_of-self c = subst (λ (e : Image). AreKept e.file c.self.inside.texts.now c.self.inside.steps c.self.inside.fronts) (sym c.linkage_name.ensures.kept) c.self.invariant

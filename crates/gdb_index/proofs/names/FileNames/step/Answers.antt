@@ -10,5 +10,5 @@ returns-in-Some-clause-value c =
     let f = c.args.self.now.file in
     let o = c.args.offset in
     let known = c.in-Some.step.now in
-    let own = subst (λ (e : Image). IsStepAt e.file o known) c.self.view_is (c.self.invariant o known (sym c.in-Some.ensures.value)) in
+    let own = subst (λ (e : Image). IsStepAt e.file o known) c.self.view_is (c.self.invariant.steps o known (sym c.in-Some.ensures.value)) in
     IfOk-weaker c.share.result (IsSameStep known) (IsStepAt f o) (λ other same. same_step f o known other same own) c.share.ensures
