@@ -1,7 +1,7 @@
 //! Names with the spelling that gdb 13.1 and 16.3 have for them in an index that they write.
 
 use cxx_spelling::Release::{Gdb13, Gdb16};
-use cxx_spelling::{Release, c_spelling, spelling};
+use cxx_spelling::{Release, SpelledName, c_spelling, spelling};
 use std::alloc::Global;
 use std::process::Abort;
 use std::test::Fail;
@@ -223,38 +223,19 @@ const NAMES_OF_C: &[Row] = &[
 
 fn are_spelled(rt: &impl Abort, alloc: Global, release: Release, rows: &[Row]) -> Result<(), Fail> {
     for row in rows {
-        is_spelled(rt, alloc, release, row.0, row.1)?;
+        has_text(rt, spelling(alloc, release, row.0)?, row.1)?;
     }
     Ok(())
 }
 
-fn is_spelled(
-    rt: &impl Abort,
-    alloc: Global,
-    release: Release,
-    name: &[u8],
-    wanted: &[u8],
-) -> Result<(), Fail> {
-    let spelled = spelling(alloc, release, name)?;
-    assert_eq!(rt; spelled.bytes(), wanted);
+fn has_text(rt: &impl Abort, name: SpelledName<'_>, wanted: &[u8]) -> Result<(), Fail> {
+    assert_eq!(rt; name.bytes(), wanted);
     Ok(())
 }
 
 fn are_spelled_by_both(rt: &impl Abort, alloc: Global, rows: &[Row]) -> Result<(), Fail> {
     are_spelled(rt, alloc, Gdb13, rows)?;
     are_spelled(rt, alloc, Gdb16, rows)
-}
-
-fn is_spelled_in_c(
-    rt: &impl Abort,
-    alloc: Global,
-    release: Release,
-    name: &[u8],
-    wanted: &[u8],
-) -> Result<(), Fail> {
-    let spelled = c_spelling(alloc, release, name)?;
-    assert_eq!(rt; spelled.bytes(), wanted);
-    Ok(())
 }
 
 #[test]
@@ -292,7 +273,7 @@ fn refused(rt: HostRuntime) -> Result<(), Fail> {
 fn types_of_functions(rt: HostRuntime) -> Result<(), Fail> {
     are_spelled(&rt, rt.alloc(), Gdb16, FUNCTION_TYPES)?;
     for row in FUNCTION_TYPES {
-        is_spelled(&rt, rt.alloc(), Gdb13, row.0, row.0)?;
+        has_text(&rt, spelling(rt.alloc(), Gdb13, row.0)?, row.0)?;
     }
     Ok(())
 }
@@ -306,8 +287,8 @@ fn numbers(rt: HostRuntime) -> Result<(), Fail> {
 #[test]
 fn names_of_c(rt: HostRuntime) -> Result<(), Fail> {
     for row in NAMES_OF_C {
-        is_spelled_in_c(&rt, rt.alloc(), Gdb13, row.0, row.1)?;
-        is_spelled_in_c(&rt, rt.alloc(), Gdb16, row.0, row.1)?;
+        has_text(&rt, c_spelling(rt.alloc(), Gdb13, row.0)?, row.1)?;
+        has_text(&rt, c_spelling(rt.alloc(), Gdb16, row.0)?, row.1)?;
     }
     Ok(())
 }
