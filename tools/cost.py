@@ -57,6 +57,7 @@ ROWS = [
     (programs.one_table, 8000, ASK, None),
     (programs.a_wide_abbreviation, 16000, ASK, None),
     (programs.one_string, 8000, GDB8, TEXTS),
+    (programs.many_templates, 100000, BY_GDB, None),
     (programs.ends_of_a_string, 4000, GDB8, LONG),
     (programs.ends_of_a_string, 4000, NAMES, LONG),
     (programs.ada_names, 1000, GDB8, LONG),
