@@ -10,7 +10,7 @@ use Rattle.index_model.specs.NodeSeen.{NodeSeen}
 use Rattle.index_model.specs.ShardLanguages.{first_some}
 
 module _ {A B : Type 0} (f : A → Option B) (xs : List A) (i : ℕ) (d : A) (within : i < length xs) where
-  front : first_some f (drop i xs) ≡ option_or (f (get_or xs i d)) (first_some f (drop (i + 1) xs))
+  pub front : first_some f (drop i xs) ≡ option_or (f (get_or xs i d)) (first_some f (drop (i + 1) xs))
   front =
       let n : suc i ≡ i + 1 = omega arith in
       ap (first_some f) (drop-cons xs i d within) ∙ ap (λ (k : ℕ). option_or (f (get_or xs i d)) (first_some f (drop k xs))) n

@@ -29,7 +29,7 @@ pub mod SpanOrder
 pub mod ShardRoots
 pub mod ShardNodes
 pub mod ShardRuns
-mod UnitLanguages
+pub mod UnitLanguages
 pub mod ResumeLaws
 pub mod SimpleNames
 mod FaultLaws

@@ -31,8 +31,8 @@ fn language_by_root(shards: &[Arc<Shard<'_>>], unit: u32, root: Root) -> Option<
     importing_language(shards, root_offset(shards, unit)?)
 }
 
-// The root of a unit.
-fn root_of(shards: &[Arc<Shard<'_>>], unit: u32) -> Option<Root>
+/// The root of the unit with this number.
+pub fn root_of(shards: &[Arc<Shard<'_>>], unit: u32) -> Option<Root>
     ensures { result ≡ first_some (root_in unit) (map arc_value shards.now) }
 {
     for shard in shards {
@@ -43,8 +43,9 @@ fn root_of(shards: &[Arc<Shard<'_>>], unit: u32) -> Option<Root>
     None
 }
 
-// The joint offset of the root of a unit.
-fn root_offset(shards: &[Arc<Shard<'_>>], unit: u32) -> Option<u64>
+/// The joint offset of the first node that isn't before the unit with this number, where the nodes stand in the order of their
+/// units. If the unit has a root this is the root's.
+pub fn root_offset(shards: &[Arc<Shard<'_>>], unit: u32) -> Option<u64>
     ensures { All NodesRise (map arc_value shards.now) → result ≡ first_some (node_in unit) (map arc_value shards.now) }
 {
     for shard in shards {
@@ -67,8 +68,8 @@ fn importing_language(shards: &[Arc<Shard<'_>>], offset: u64) -> Option<u16>
     None
 }
 
-// The root of a unit, if the unit is one of the shard's run. The number of a shard without units says nothing.
-fn root_in(shard: &Shard<'_>, unit: u32) -> Option<Root>
+/// The root of the unit with this number, if the unit is one of the shard's run. The number of a shard without units says nothing.
+pub fn root_in(shard: &Shard<'_>, unit: u32) -> Option<Root>
     ensures { result ≡ root_in unit shard.now }
 {
     let place = unit.checked_sub(shard.first)?;

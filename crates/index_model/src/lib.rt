@@ -45,7 +45,7 @@ pub use index_laws::{
     path_has_each_slot, pieces_are_maximal,
 };
 pub use job::{CacheKind, Job, Moment};
-pub use languages::language;
+pub use languages::{language, root_in, root_of, root_offset};
 pub use laws::{
     entries_are_in_order, first_fault_goes_by_phases, inline_texts_stand_in_their_entries,
     simple_names_are_ends, spans_stand_for_children, stages_go_on, unit_at_is_the_least,
