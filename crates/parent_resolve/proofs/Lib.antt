@@ -5,6 +5,7 @@ mod AdaLaws
 mod OpenedTags
 mod PlaceLaws
 mod VisitLaws
+mod ImporterLaws
 pub mod ChainLaws
 mod SignatureLaws
 mod FollowLaws

@@ -6,6 +6,7 @@ pub mod Visits
 pub mod Scopes
 pub mod Paths
 pub mod EntryLinks
+pub mod Importers
 pub mod UnitClasses
 pub mod Runs
 pub mod Components

@@ -1,5 +1,5 @@
 -- Which of a shard's entries are visited.
-use Rattle.std.specs.Prelude.{◌≡◌, ℕ, ◌<◌, List, Bool, true, ◌&&◌, Contains, length, slice_index_or, Option, Some, None, is_none, Ok}
+use Rattle.std.specs.Prelude.{◌≡◌, ℕ, ◌<◌, List, Bool, true, Contains, length, slice_index_or, Option, Some, None, Ok}
 use Rattle.index_model.specs.declared.shard.Node.{Node}
 use Rattle.index_model.specs.declared.shard.Root.{Root}
 use Rattle.index_model.specs.declared.shard.Shard.{Shard}
@@ -10,6 +10,7 @@ use Rattle.index_model.specs.Program.{Walked, Program, Located, items_of}
 use Rattle.index_model.specs.Rules.{is_ada, is_visited}
 use Rattle.index_model.specs.ShardParts.{IsNodeOf, kept_in}
 use Rattle.index_model.specs.Shards.{IsRunOf, StandsFor}
+use Rattle.parent_resolve.specs.Importers.{takes_importers_language}
 
 -- Whatever run of a file's units the shard stands for: the answer is whether the entry of the node is visited, if it has a node, where its unit's class is Ada or isn't.
 abbrev pub IsVisitedBy : Shard → Node → Bool → Bool → Type 0
@@ -18,7 +19,7 @@ IsVisitedBy s node ada answer = (file : List ℕ) (p : Program) (run : List Walk
 
 -- whether a unit with this root is partial and has no language itself
 abbrev pub takes_importers_class : Option Root → Bool
-takes_importers_class (Some root) = root.partial && is_none root.language
+takes_importers_class (Some root) = takes_importers_language root
 takes_importers_class None = true
 
 -- the node has the offset, and stands at the place, before another

@@ -1,10 +1,15 @@
 //! The languages of the units (DWARF 5, sections 3.1.1 and 3.2.5).
 
-ghost use Rattle.std.specs.Prelude.{◌≡◌, map};
+ghost use Rattle.std.specs.Prelude.{◌≡◌, map, true, All, IfOk, option_and_then};
 ghost use Rattle.std.specs.Arc.{arc_value};
-ghost use Rattle.index_model.specs.ShardLanguages.{IsLanguageAt};
+ghost use Rattle.index_model.specs.ShardLanguages.{first_some, importing_in, node_in, IsLanguageAt, NodesRise};
+ghost use Rattle.parent_resolve.specs.Importers.{any_takes};
 
-use index_model::{Shard, language};
+use crate::importers::{importing_languages, takes_importers_language};
+use index_model::{Shard, language, root_of, root_offset};
+use indexmap::IndexMap;
+use ix_base::NoMemory;
+use std::alloc::Global;
 use std::marker::Model;
 use std::sync::Arc;
 
@@ -19,6 +24,8 @@ struct UnitLanguage {
 #[derive(Drop)]
 pub struct Languages<'s, 'f> {
     shards: &'s [Arc<Shard<'f>>],
+    // Those of the units that import others, by the joint offsets of what they import.
+    importers: IndexMap<u64, u16>,
     last: Option<UnitLanguage>,
 }
 
@@ -28,20 +35,26 @@ impl<'s, 'f> Model for Languages<'s, 'f> {
     ghost use Rattle.std.specs.Option.{ForSome};
     ghost use Rattle.index_model.specs.declared.shard.Shard.{Shard};
     ghost use Rattle.index_model.specs.ShardLanguages.{IsLanguageAt};
+    ghost use Rattle.parent_resolve.specs.Importers.{AreImportersOf};
 
     ghost Value = { List Shard };
 
     ghost view = { λ c. map arc_value c.shards.now };
 
-    ghost invariant = { λ c. ForSome c.last (λ u. IsLanguageAt (map arc_value c.shards.now) u.unit u.language) };
+    ghost invariant = { λ c. AreImportersOf (map arc_value c.shards.now) c.importers × ForSome c.last (λ u. IsLanguageAt (map arc_value c.shards.now) u.unit u.language) };
 }
 
 impl<'s, 'f> Languages<'s, 'f> {
     /// The languages of the units of these shards.
-    pub fn new(shards: &'s [Arc<Shard<'f>>]) -> Languages<'s, 'f>
-        ensures { result ≡ map arc_value shards.now }
+    pub fn new(alloc: Global, shards: &'s [Arc<Shard<'f>>]) -> Result<Languages<'s, 'f>, NoMemory>
+        ensures { IfOk result (λ l. l ≡ map arc_value shards.now) }
     {
-        Languages { shards, last: None }
+        let importers = importing_languages(alloc, shards)?;
+        Ok(Languages {
+            shards,
+            importers,
+            last: None,
+        })
     }
 
     /// The language code of the unit with this number, 0 where it has none.
@@ -52,10 +65,30 @@ impl<'s, 'f> Languages<'s, 'f> {
         match self.last {
             Some(last) if last.unit == unit => last.language,
             _ => {
-                let language = language(self.shards, unit);
+                let language = self.found(unit);
                 self.last = Some(UnitLanguage { unit, language });
                 language
             }
         }
+    }
+
+    // The same of a unit that isn't at hand.
+    fn found(&self, unit: u32) -> u16
+        ensures { IsLanguageAt self.now unit result }
+    {
+        match root_of(self.shards, unit) {
+            Some(root) if takes_importers_language(&root) => {
+                self.importers_language(unit).unwrap_or(0)
+            }
+            _ => language(self.shards, unit),
+        }
+    }
+
+    // The language of the unit that imports this one, where some root takes it.
+    fn importers_language(&self, unit: u32) -> Option<u16>
+        ensures { any_takes self.now ≡ true → All NodesRise self.now → result ≡ option_and_then (λ o. first_some (importing_in o) self.now) (first_some (node_in unit) self.now) }
+    {
+        let offset = root_offset(self.shards, unit)?;
+        self.importers.get(&offset).copied()
     }
 }

@@ -7,6 +7,7 @@ mod classes;
 mod components;
 mod entry;
 mod followed;
+mod importers;
 mod languages;
 mod links;
 mod members;

@@ -55,7 +55,7 @@ fn linked<'f>(
     requires run { HasRun paths.old shard.now }
     ensures { ForStanding paths.old shard.now (λ p run. GivesFor (IsLinked p) result (links_at p (kept_in run))) }
 {
-    let mut languages = Languages::new(shards);
+    let mut languages = Languages::new(alloc, shards)?;
     let entries = links_of(alloc, shard, &mut languages, paths)?;
     Ok(Linked {
         entries: List::of(entries),

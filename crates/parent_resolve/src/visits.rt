@@ -10,8 +10,9 @@ ghost use Rattle.index_model.specs.NodeSeen.{node_seen};
 ghost use Rattle.index_model.specs.ShardLanguages.{root_in};
 ghost use Rattle.parent_resolve.specs.Visits.{HasNoneAt, IsNodeAt, IsVisitedBy, takes_importers_class};
 
+use crate::importers::takes_importers_language;
 use entry_rules::visited;
-use index_model::{Node, Nodes, Parent, Root, Shard};
+use index_model::{Node, Nodes, Parent, Shard, root_in};
 
 /// Whether an entry that the shard keeps is visited, in a unit whose class is Ada or isn't.
 pub(crate) fn is_visited(shard: &Shard<'_>, node: &Node<'_>, ada: bool) -> bool
@@ -29,18 +30,10 @@ pub(crate) fn is_visited(shard: &Shard<'_>, node: &Node<'_>, ada: bool) -> bool
 fn takes_importers_class(shard: &Shard<'_>, unit: u32) -> bool
     ensures { result ≡ takes_importers_class (root_in unit shard.now) }
 {
-    match root_of(shard, unit) {
-        Some(root) => root.partial && root.language.is_none(),
+    match root_in(shard, unit) {
+        Some(root) => takes_importers_language(&root),
         None => true,
     }
-}
-
-// The root of a unit, if the unit is one of the shard's run.
-fn root_of(shard: &Shard<'_>, unit: u32) -> Option<Root>
-    ensures { result ≡ root_in unit shard.now }
-{
-    let place = unit.checked_sub(shard.first)?;
-    shard.roots.as_slice().get(place as usize).copied()
 }
 
 // Whether all entries above it but the root open their children.

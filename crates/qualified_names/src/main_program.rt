@@ -32,7 +32,7 @@ pub fn main_of<'f>(
     requires { AreLinkedOfFile image.now (map arc_value shards.now) (map arc_value linked.now) }
     ensures { ForLinks image.now (λ p ks. IfOk result (λ m. m ≡ main_of p ks)) }
 {
-    let mut languages = Languages::new(shards);
+    let mut languages = Languages::new(alloc, shards)?;
     let Some(found) = main_entry(&mut languages, linked) else {
         return Ok(None);
     };

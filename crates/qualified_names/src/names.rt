@@ -52,7 +52,7 @@ impl<'s, 'f> QualifiedNames<'s, 'f> {
     {
         Ok(QualifiedNames {
             references: References::new(alloc, image, shards)?,
-            languages: Languages::new(shards),
+            languages: Languages::new(alloc, shards)?,
             around: Around {
                 parent: None,
                 front: Vec::new(alloc),

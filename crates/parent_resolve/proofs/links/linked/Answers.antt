@@ -11,5 +11,5 @@ returns c p run file are is_run stands = subst (λ (es : List LinkedEntry). IsOk
 
 pub returns-in_err-entries : goal.returns-in_err-entries
 returns-in_err-entries c p run file are is_run stands =
-    let q = err_from_is_err_and c.from_residual.result c.from_residual.ensures.1 in
+    let q = err_from_is_err_and c.from_residual-in_err-entries.result c.from_residual-in_err-entries.ensures.1 in
     rw (q.1, q.2) (c.in_err-entries.ensures p run file are is_run stands)

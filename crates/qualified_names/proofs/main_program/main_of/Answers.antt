@@ -15,7 +15,7 @@ name_of-requires c =
     let L = map arc_value c.args.linked.now in
     let e = file_links image S L r in
     let z = file_zip image S L r r.program r.is e.0 e.1 in
-    let own = subst (AreShardsOf r.program) (sym c.new-languages.ensures) r.are in
+    let own = subst (AreShardsOf r.program) (sym c.in_ok-languages.ensures) r.are in
     let found = one_found r.program c.in-Some.found _ (c.in-Some.ensures.value image.file r.program r.is own (indexed_in e.0) z.1) in
     record {
       program = r.program;
@@ -33,7 +33,7 @@ returns-in_default c p file ks is =
     let L = map arc_value c.args.linked.now in
     let z = file_zip image S L r p file ks is in
     let are = subst (λ (q : Program). AreShardsOf q S) z.0 r.are in
-    let own = subst (AreShardsOf p) (sym c.new-languages.ensures) are in
+    let own = subst (AreShardsOf p) (sym c.in_ok-languages.ensures) are in
     no_main p ks (none_found p _ (c.in_default.ensures.value image.file p file own (indexed_in ks) z.1))
 
 pub returns : goal.returns
@@ -44,9 +44,9 @@ returns c p file ks is =
     let L = map arc_value c.args.linked.now in
     let z = file_zip image S L r p file ks is in
     let are = subst (λ (q : Program). AreShardsOf q S) z.0 r.are in
-    let own = subst (AreShardsOf p) (sym c.new-languages.ensures) are in
+    let own = subst (AreShardsOf p) (sym c.in_ok-languages.ensures) are in
     let found = one_found p c.in-Some.found _ (c.in-Some.ensures.value image.file p file own (indexed_in ks) z.1) in
-    let asked = subst (AreShardsOf p) (sym (c.in-Some.ensures.kept ∙ c.new-languages.ensures)) are in
+    let asked = subst (AreShardsOf p) (sym (c.in-Some.ensures.kept ∙ c.in_ok-languages.ensures)) are in
     let here = language_here image.file p file _ asked c.in-Some.found found.0 found.2 c.of-language.result c.of-language.ensures.value in
     let class = class_here image.file p file _ asked c.in-Some.found found.0 found.2 c.of-language.result c.of-language.ensures.value in
     main_given p ks found.0 found.1 _ here (c.in_ok-name.ensures p file are found.0 found.2 (c.class.ensures ∙ class))

@@ -5,6 +5,6 @@ use Rattle.qualified_names.proofs.names.QualifiedNames.new.Goals as goal
 
 pub invariant_of-result : goal.invariant_of-result
 invariant_of-result c = (
-  c.new-2.ensures ∙ sym (ap (λ (e : EntriesOf). e.shards) c.in_ok-new.ensures),
+  c.in_ok-new-2.ensures ∙ sym (ap (λ (e : EntriesOf). e.shards) c.in_ok-new.ensures),
   λ p file d dc top. around_root p d top c.new-3.result.items c.new-3.ensures.items,
 )
