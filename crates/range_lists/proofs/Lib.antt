@@ -1,4 +1,5 @@
 mod Roots
+mod Entries
 mod Reading
 pub mod SameUnits
 mod Refusals
@@ -6,6 +7,7 @@ mod Searching
 mod Walking
 mod Alike
 mod Keys
+mod Rests
 mod Once
 mod Filters
 mod Located

@@ -1,54 +1,51 @@
 -- A list is read, or was read before.
-use Rattle.std.proofs.Common.{◌≡◌, ℕ, List, ◌++◌, Result, Ok, Err, refl, sym, ap, subst, ◌∙◌, ⊎_elim}
+use Rattle.std.proofs.Common.{Vec, Global, ◌≡◌, ℕ, List, ◌++◌, Result, Ok, Err, refl, sym, ap, subst, ⊎_elim}
 use Rattle.std.specs.Prelude.{Contains, IsOkAnd}
 use mathlib.Core.Logic.{◌⊎◌}
 use Rattle.index_model.specs.declared.range.Range.{Range}
 use Rattle.index_model.specs.declared.range.UnitRange.{UnitRange}
 use Rattle.index_model.specs.Program.{Walked}
-use Rattle.index_model.specs.RangeLists.{EntryReader, list_at}
 use Rattle.index_model.specs.Sections.{Section}
 use Rattle.index_model.specs.Strings.{base_of}
 use Rattle.index_model.proofs.Meanings.{bind_ok, same_ok}
 use Rattle.range_lists.specs.declared.found.FoundRanges.{FoundRanges}
 use Rattle.range_lists.specs.declared.found.RangeList.{RangeList}
-use Rattle.range_lists.specs.Found.{IsRead, AreRead, IsAdded}
-use Rattle.range_lists.specs.Lists.{behind, kept, lists_in, reader_for}
+use Rattle.range_lists.specs.Found.{list_ranges, IsRead, AreRead, IsAdded, IsReadOn}
+use Rattle.range_lists.specs.Lists.{behind}
 use Rattle.range_lists.specs.Same.{of_unit, HaveSameUnits, AddNothing}
-use Rattle.range_lists.proofs.Alike.{reader_same}
 use Rattle.range_lists.specs.declared.refusal.Refusal.{Refusal}
 use Rattle.range_lists.specs.declared.refusal.Refusal.TheVariants.{Code, Memory}
 use Rattle.range_lists.specs.Gives.{GivesOrRefused, RefusedOr}
-use Rattle.range_lists.proofs.SameUnits.{nothing_again, ranges_added, ok_still, still_read}
+use Rattle.range_lists.proofs.SameUnits.{ranges_added, ok_still, still_read}
+use Rattle.range_lists.proofs.Rests.{own_read}
 
 module _ (ss : List Section) (w : Walked) (unit : ℕ) (list : RangeList) (base : base_of 0x73 w ≡ list.addr_base) (old : FoundRanges) (read : AreRead ss old) where
-  abbrev list_in : Walked → Result (List Range) ℕ
-  list_in v = kept (list_at (reader_for list.format ss v) list.base (lists_in list.format ss) list.place)
+  pub read_before : Contains old.lists.keys list → IsOkAnd (list_ranges ss w list) (IsAdded ss unit old old)
+  read_before c = ok_still (list_ranges ss w list) (AddNothing old.ranges.items) (IsAdded ss unit old old) (λ rs h. record { same = λ a. sym (h unit a); read = read }) (read list c w base)
 
-  pub read_before : Contains old.lists.keys list → IsOkAnd (list_in w) (IsAdded ss unit old old)
-  read_before c = ok_still (list_in w) (AddNothing old.ranges.items) (IsAdded ss unit old old) (λ rs h. record { same = λ a. sym (h unit a); read = read }) (read list c w base)
+  -- it was read on, and it and its ends are remembered
+  module _ (now new : FoundRanges) (ends : List RangeList) (ranges : new.ranges ≡ now.ranges) (keys : (other : RangeList) → Contains new.lists.keys other → (list ≡ other) ⊎ (Contains ends other ⊎ Contains now.lists.keys other)) where
+    noted : (rs : List Range) → list_ranges ss w list ≡ Ok rs → IsReadOn ss unit old now ends rs → IsAdded ss unit old new rs
+    noted rs is on =
+        let items : now.ranges.items ≡ new.ranges.items = ap (λ (v : Vec UnitRange Global). v.items) (sym ranges) in
+        let same : HaveSameUnits new.ranges.items (old.ranges.items ++ of_unit unit rs) = subst (λ (us : List UnitRange). HaveSameUnits us (old.ranges.items ++ of_unit unit rs)) items on.same in
+        record {
+          same = same;
+          read = λ other c. ⊎_elim
+              (λ (one : list ≡ other). subst (IsRead ss new.ranges.items) one (own_read ss w unit list base old.ranges.items new.ranges.items rs is same))
+              (λ (before : Contains ends other ⊎ Contains now.lists.keys other). ⊎_elim
+              (λ (end : Contains ends other). subst (λ (us : List UnitRange). IsRead ss us other) items (on.read other end))
+              (λ (earlier : Contains now.lists.keys other). still_read ss old.ranges.items (of_unit unit rs) new.ranges.items other same (read other (rw on.lists at earlier)))
+              before)
+              (keys other c);
+        }
 
-  module _ (new : FoundRanges) (is : behind unit old.ranges.items (list_in w) ≡ Ok new.ranges.items) (keys : (other : RangeList) → Contains new.lists.keys other → (list ≡ other) ⊎ Contains old.lists.keys other) where
-    own : (rs : List Range) × (list_in w ≡ Ok rs) × (old.ranges.items ++ of_unit unit rs ≡ new.ranges.items)
-    own =
-        let b = bind_ok (list_in w) (λ rs. Ok (old.ranges.items ++ of_unit unit rs)) new.ranges.items is in
-        (b.0, b.1, same_ok (old.ranges.items ++ of_unit unit b.0) new.ranges.items b.2)
-
-    same : HaveSameUnits new.ranges.items (old.ranges.items ++ of_unit unit own.0)
-    same a = subst (λ (us : List UnitRange). HaveSameUnits us (old.ranges.items ++ of_unit unit own.0)) own.2 (λ k. refl) a
-
-    is_read : IsRead ss new.ranges.items list
-    is_read v its =
-        let alike : list_in v ≡ Ok own.0 = ap (λ (reader : EntryReader). kept (list_at reader list.base (lists_in list.format ss) list.place)) (reader_same ss v w (its ∙ sym base) list.format) ∙ own.1 in
-        subst (λ (r : Result (List Range) ℕ). IsOkAnd r (AddNothing new.ranges.items)) (sym alike) (nothing_again old.ranges.items new.ranges.items unit own.0 same)
-
-    pub read_now : IsOkAnd (list_in w) (IsAdded ss unit old new)
-    read_now = subst (λ (r : Result (List Range) ℕ). IsOkAnd r (IsAdded ss unit old new)) (sym own.1) (record {
-      same = same;
-      read = λ other c. ⊎_elim
-          (λ (one : list ≡ other). subst (IsRead ss new.ranges.items) one is_read)
-          (λ (earlier : Contains old.lists.keys other). still_read ss old.ranges.items (of_unit unit own.0) new.ranges.items other same (read other earlier))
-          (keys other c);
-    })
+    pub read_now : IsOkAnd (list_ranges ss w list) (IsReadOn ss unit old now ends) → IsOkAnd (list_ranges ss w list) (IsAdded ss unit old new)
+    read_now is = by (list_ranges ss w list) refl is
+      where
+        by : (r : Result (List Range) ℕ) → list_ranges ss w list ≡ r → IsOkAnd r (IsReadOn ss unit old now ends) → IsOkAnd r (IsAdded ss unit old new)
+        by (Ok rs) same on = noted rs same on
+        by (Err e) same on = absurd on
 
 -- ---- ranges without a list
 

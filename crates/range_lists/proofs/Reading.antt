@@ -1,11 +1,10 @@
 -- Lists of ranges, entry by entry.
-use Rattle.std.proofs.Common.{◌≡◌, ℕ, zero, suc, ◌+◌, ◌<◌, ◌≤◌, Bool, true, false, cond, List, [], ◌∷◌, ◌++◌, append_assoc, length, drop, filter, min, Some, None, Result, Ok, Err, refl, ap, sym, ◌∙◌, arith, ⊎_elim}
-use Rattle.std.proofs.lemmas.List.{append-nil, drop_all, map-append}
+use Rattle.std.proofs.Common.{◌≡◌, ℕ, zero, suc, ◌+◌, ◌<◌, ◌≤◌, Bool, true, false, cond, List, [], ◌∷◌, ◌++◌, append_assoc, length, drop, filter, min, length-drop, Some, None, Result, Ok, Err, refl, ap, sym, ◌∙◌, arith, ⊎_elim}
+use Rattle.std.proofs.lemmas.List.{drop_all}
 use Rattle.std.proofs.lemmas.Bool.{cases_lt, eq-eqb, ne_eqb}
 use Rattle.ix_base.specs.declared.code.TheConstants.{BAD_RANGE}
 use Rattle.ix_base.specs.Reading.{Input}
 use Rattle.index_model.specs.declared.range.Range.{Range}
-use Rattle.index_model.specs.declared.range.UnitRange.{UnitRange}
 use Rattle.index_model.specs.Meaning.{◌>>=◌}
 use Rattle.index_model.specs.Sections.{Section}
 use Rattle.index_model.specs.Forms.{Offset, RangeIndex}
@@ -14,8 +13,8 @@ use Rattle.index_model.specs.RangeLists.{ListEntry, End, Base, Bounds, Offsets, 
 use Rattle.index_model.specs.Ranges.{is_kept}
 use Rattle.range_lists.specs.declared.list_entry.ListFormat.{ListFormat}
 use Rattle.range_lists.specs.declared.list_entry.ListFormat.TheVariants.{Pairs, Kinds}
-use Rattle.range_lists.specs.Same.{with_unit, of_unit}
-use Rattle.range_lists.specs.Lists.{reader_for, lists_in, kept, behind, range_in, base_behind, capped}
+use Rattle.range_lists.specs.Lists.{reader_for, lists_in, kept, range_in, base_behind, capped}
+use Rattle.range_lists.proofs.Entries.{Takes, entry_takes}
 
 -- these ranges, and those of the meaning
 abbrev pub before : {E : Type 0} → List Range → Result (List Range) E → Result (List Range) E
@@ -50,34 +49,31 @@ ends (Base b) base later is = absurd cc
 ends (Bounds low end) base later is = absurd cc
 ends (Offsets low end) base later is = absurd cc
 
-behind_both : (unit : ℕ) (xs : List UnitRange) (ys : List Range) (more : Result (List Range) ℕ) → behind unit xs (before ys more) ≡ behind unit (xs ++ of_unit unit ys) more
-behind_both unit xs ys (Ok rs) = ap {B = Result (List UnitRange) ℕ} (λ (us : List UnitRange). Ok (xs ++ us)) (map-append (with_unit unit) ys rs) ∙ ap {B = Result (List UnitRange) ℕ} (λ (us : List UnitRange). Ok us) (sym (append_assoc xs (of_unit unit ys) (of_unit unit rs)))
-behind_both unit xs ys (Err e) = refl
+pub before_both : {E : Type 0} (xs ys : List Range) (more : Result (List Range) E) → before xs (before ys more) ≡ before (xs ++ ys) more
+before_both {E = E} xs ys (Ok rs) = ap {B = Result (List Range) E} (λ (us : List Range). Ok us) (sym (append_assoc xs ys rs))
+before_both xs ys (Err e) = refl
 
-module _ (read : EntryReader) (n base : ℕ) (i : Input) (unit : ℕ) (front : List UnitRange) where
-  pub list_more : (e : ListEntry) (left : Input) (next : ℕ) → read i ≡ Ok (e, left) → base_behind e base ≡ Some next → behind unit front (kept (list_from (suc n) read base i)) ≡ behind unit (front ++ of_unit unit (range_in e base)) (kept (list_from n read next left))
+module _ (read : EntryReader) (n base : ℕ) (i : Input) where
+  pub list_more : (e : ListEntry) (left : Input) (next : ℕ) → read i ≡ Ok (e, left) → base_behind e base ≡ Some next → kept (list_from (suc n) read base i) ≡ before (range_in e base) (kept (list_from n read next left))
   unfolding list_from
   list_more e left next is on =
-      ap (λ (r : Result (ListEntry × Input) ℕ). behind unit front (kept (r >>= λ e. with_entry e.0 base (λ b. list_from n read b e.1)))) is ∙
-      ap (behind unit front) (goes_on e base next (λ b. list_from n read b left) on) ∙
-      behind_both unit front (range_in e base) (kept (list_from n read next left))
+      ap (λ (r : Result (ListEntry × Input) ℕ). kept (r >>= λ e. with_entry e.0 base (λ b. list_from n read b e.1))) is ∙
+      goes_on e base next (λ b. list_from n read b left) on
 
-  pub list_ends : (e : ListEntry) (left : Input) → read i ≡ Ok (e, left) → base_behind e base ≡ None → behind unit front (kept (list_from (suc n) read base i)) ≡ Ok front
+  pub list_ends : (e : ListEntry) (left : Input) → read i ≡ Ok (e, left) → base_behind e base ≡ None → kept (list_from (suc n) read base i) ≡ Ok []
   unfolding list_from
   list_ends e left is off =
-      ap (λ (r : Result (ListEntry × Input) ℕ). behind unit front (kept (r >>= λ e. with_entry e.0 base (λ b. list_from n read b e.1)))) is ∙
-      ap (λ (r : Result (List Range) ℕ). behind unit front (kept r)) (ends e base (λ b. list_from n read b left) off) ∙
-      ap {B = Result (List UnitRange) ℕ} (λ (us : List UnitRange). Ok us) (append-nil front)
+      ap (λ (r : Result (ListEntry × Input) ℕ). kept (r >>= λ e. with_entry e.0 base (λ b. list_from n read b e.1))) is ∙
+      ap kept (ends e base (λ b. list_from n read b left) off)
 
-  pub list_cut : (code : ℕ) → read i ≡ Err code → behind unit front (kept (list_from (suc n) read base i)) ≡ Err code
+  pub list_cut : (code : ℕ) → read i ≡ Err code → kept (list_from (suc n) read base i) ≡ Err code
   unfolding list_from
-  list_cut code is = ap (λ (r : Result (ListEntry × Input) ℕ). behind unit front (kept (r >>= λ e. with_entry e.0 base (λ b. list_from n read b e.1)))) is
-
-  pub list_out : behind unit front (kept (list_from zero read base i)) ≡ Err BAD_RANGE
-  unfolding list_from
-  list_out = refl
+  list_cut code is = ap (λ (r : Result (ListEntry × Input) ℕ). kept (r >>= λ e. with_entry e.0 base (λ b. list_from n read b e.1))) is
 
 -- ---- places
+
+left_less : (i j : Input) → Takes i j → length j.rest < length i.rest
+left_less i j t = omega (arith, t.1, t.2.there, ap (λ (k : Input). length k.rest) t.2.on, length-drop t.0 i.rest)
 
 from_nothing : (format : ListFormat) (ss : List Section) (w : Walked) (n base place : ℕ) → list_from n (reader_for format ss w) base (record { at = place; rest = [] }) ≡ Err BAD_RANGE
 unfolding list_from pair_at kind_at
@@ -85,6 +81,26 @@ from_nothing Pairs ss w zero base place = refl
 from_nothing Pairs ss w (suc n) base place = refl
 from_nothing Kinds ss w zero base place = refl
 from_nothing Kinds ss w (suc n) base place = refl
+
+pub list_out : (format : ListFormat) (ss : List Section) (w : Walked) (n base : ℕ) (i : Input) → length i.rest ≡ 0 → list_from n (reader_for format ss w) base i ≡ Err BAD_RANGE
+list_out format ss w n base i none = ap (λ (rest : List ℕ). list_from n (reader_for format ss w) base (record { at = i.at; rest = rest })) (empty i.rest none) ∙ from_nothing format ss w n base i.at
+  where
+    empty : (bs : List ℕ) → length bs ≡ 0 → bs ≡ []
+    empty [] e = refl
+    empty (b ∷ bs) e = absurd (omega (arith, e))
+
+-- however many entries are allowed, where that is no less than the bytes that are left
+pub same_from : (format : ListFormat) (ss : List Section) (w : Walked) (m n base : ℕ) (i : Input) → length i.rest ≤ m → length i.rest ≤ n → list_from m (reader_for format ss w) base i ≡ list_from n (reader_for format ss w) base i
+unfolding list_from
+same_from format ss w zero n base i few other = sym (list_out format ss w n base i (omega (arith, few)))
+same_from format ss w (suc m) zero base i few other = list_out format ss w (suc m) base i (omega (arith, other))
+same_from format ss w (suc m) (suc n) base i few other = by (λ b j less more. same_from format ss w m n b j less more) (reader_for format ss w i) refl
+  where
+    by : ((b : ℕ) (j : Input) → length j.rest ≤ m → length j.rest ≤ n → list_from m (reader_for format ss w) b j ≡ list_from n (reader_for format ss w) b j) → (r : Result (ListEntry × Input) ℕ) → reader_for format ss w i ≡ r → (r >>= λ e. with_entry e.0 base (λ b. list_from m (reader_for format ss w) b e.1)) ≡ (r >>= λ e. with_entry e.0 base (λ b. list_from n (reader_for format ss w) b e.1))
+    by later (Err code) is = refl
+    by later (Ok e) is =
+        let less : length e.1.rest < length i.rest = left_less i e.1 (entry_takes format ss w i e is) in
+        ap (with_entry e.0 base) (λ k b. later b e.1 (omega (arith, less, few)) (omega (arith, less, other)) k)
 
 pub list_past : (format : ListFormat) (ss : List Section) (w : Walked) (base : ℕ) (bytes : List ℕ) (place : ℕ) → length bytes < place → list_at (reader_for format ss w) base bytes place ≡ Err BAD_RANGE
 unfolding list_at

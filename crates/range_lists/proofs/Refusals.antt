@@ -6,10 +6,10 @@ use Rattle.ix_base.specs.declared.fault.Fault.{Fault as AFault}
 use Rattle.ix_base.specs.declared.fault.Stop.{Stop}
 use Rattle.ix_base.specs.declared.fault.Stop.TheVariants as stops
 use Rattle.index_model.specs.Gives.{GivesFor, StopsAs}
-use Rattle.range_lists.specs.Gives.{GivesOrRefused}
+use Rattle.range_lists.specs.Gives.{RefusedOr}
 
-pub code_refused : {X Y : Type 0} (view : X → Y) (r : Result X Refusal) (meaning : Result Y ℕ) (code : ℕ) → r ≡ Err (Code code) → meaning ≡ Err code → GivesOrRefused view r meaning
-code_refused view r meaning code is wrong = subst (λ (x : Result _ Refusal). GivesOrRefused view x meaning) (sym is) wrong
+pub code_refused : {X Y : Type 0} (StandsFor : X → Y → Type 0) (r : Result X Refusal) (meaning : Result Y ℕ) (code : ℕ) → r ≡ Err (Code code) → meaning ≡ Err code → RefusedOr StandsFor r meaning
+code_refused StandsFor r meaning code is wrong = subst (λ (x : Result _ Refusal). RefusedOr StandsFor x meaning) (sym is) wrong
 
 -- what the call below stopped at is what this one stops at
 pub stopped_at : {X Y Z : Type 0} (StandsFor : X → Y → Type 0) (r : Result X Stop) (below : Result Z AFault) (meaning : Result Y AFault) (stop : Stop) → r ≡ Err stop → StopsAs stop below → ((e : AFault) → below ≡ Err e → meaning ≡ Err e) → GivesFor StandsFor r meaning

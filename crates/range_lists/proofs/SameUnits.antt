@@ -82,6 +82,9 @@ ok_still (Err e) P Q h p = p
 pub still_read : (ss : List Section) (us ms new : List UnitRange) (list : RangeList) → HaveSameUnits new (us ++ ms) → IsRead ss us list → IsRead ss new list
 still_read ss us ms new list same is w base = ok_still _ (AddNothing us) (AddNothing new) (λ rs h. still_nothing us ms new rs same h) (is w base)
 
+pub same_read : (ss : List Section) (us new : List UnitRange) (list : RangeList) → HaveSameUnits new us → IsRead ss us list → IsRead ss new list
+same_read ss us new list same is = still_read ss us [] new list (λ a. same a ∙ ap (λ (vs : List UnitRange). unit_at vs a) (sym (append-nil us))) is
+
 -- ---- what was added
 
 module _ (ss : List Section) (unit : ℕ) where

@@ -1,7 +1,7 @@
 //! The ranges that were found so far, and the lists that were read for them.
 //!
-//! Many units, and many subprograms of one unit, may name one list. Behind ranges that have all its addresses it shows no other
-//! unit, so each list is read once.
+//! Many units, and many subprograms of one unit, may name one list, or lists that begin inside one another. Behind ranges that
+//! have all addresses of a list it shows no other unit, so each list is read once, and so is the end that many have.
 
 ghost use Rattle.std.specs.Prelude.{◌≡◌, ◌⊎◌, [], Contains, IsTrue, List, OnOk};
 ghost use Rattle.index_model.specs.Sections.{Section};
@@ -65,6 +65,17 @@ impl FoundRanges {
         ensures lists { OnOk result ((other : RangeList) → Contains self.new.lists.keys other → (list ≡ other) ⊎ Contains self.old.lists.keys other) }
     {
         self.lists.insert(list)?;
+        Ok(())
+    }
+
+    // Remembers that these lists were read.
+    pub(crate) fn note_all(&mut self, lists: &[RangeList]) -> Result<(), NoMemory>
+        ensures ranges { OnOk result (self.new.ranges ≡ self.old.ranges) }
+        ensures lists { OnOk result ((other : RangeList) → Contains self.new.lists.keys other → Contains lists.now other ⊎ Contains self.old.lists.keys other) }
+    {
+        for list in lists {
+            self.note(*list)?;
+        }
         Ok(())
     }
 }

@@ -6,7 +6,7 @@ ghost use Rattle.index_model.specs.RangeLists.{list_at, list_of, list_offset, to
 ghost use Rattle.index_model.specs.Ranges.{is_kept, ranges_by};
 ghost use Rattle.index_model.specs.Sections.{section_bytes};
 ghost use Rattle.index_model.specs.Strings.{offset_size};
-ghost use Rattle.range_lists.specs.Found.{AreRead, IsAdded};
+ghost use Rattle.range_lists.specs.Found.{list_ranges, AreRead, IsAdded, IsReadOn};
 ghost use Rattle.range_lists.specs.Gives.{GivesOrRefused, RefusedOr};
 ghost use Rattle.range_lists.specs.Homes.{as_value, unit_with};
 ghost use Rattle.range_lists.specs.Lists.{entry_seen, reader_for, lists_in, kept, behind, capped, as_list, range_in, base_behind};
@@ -19,6 +19,11 @@ use crate::refusal::Refusal;
 use index_model::{Range, Raw, UnitRange};
 use ix_base::code::{BAD_RANGE, NO_BASE};
 use ix_base::{Cursor, NoMemory};
+
+/// A list remembers its ends that begin behind each sixteenth entry, and stops where it comes to an end that is remembered. So of
+/// lists that are ends of one another and count from one base, no more than 16 read any one entry, in whatever order they come. A
+/// list of fewer entries remembers only where it begins, and looks for nothing else.
+const ENTRIES_APART: usize = 16;
 
 // The range between two offsets from a base. It doesn't count if it begins at 0, begins or ends too high, or has no byte.
 pub(crate) fn range_from(base: u64, low: u64, end: u64) -> Option<Range>
@@ -80,31 +85,41 @@ impl RangeListEntry {
 }
 
 impl<'f> RangeUnit<'f> {
-    // Adds the ranges of the list at a place of a section.
-    #[tactic(auto, unfolding(index_model::specs::RangeLists::list_at))]
+    // Adds the ranges of a list, up to an end of it that was read before, and gives the ends that are to be remembered now. Of a
+    // list with a fault none is.
     fn add_list_at(
         &self,
-        ranges: &mut Vec<UnitRange>,
-        format: ListFormat,
-        first_base: u64,
-        bytes: &[u8],
-        place: u64,
-    ) -> Result<(), Refusal>
-        ensures { GivesOrRefused (λ _. ranges.new.items) result (behind self.now.number ranges.old.items (kept (list_at (reader_for format self.now.sections.now (unit_with self.now)) first_base bytes.now place))) }
+        found: &mut FoundRanges,
+        list: RangeList,
+    ) -> Result<Vec<RangeList>, Refusal>
+        ensures { AreRead self.now.sections.now found.old → list.addr_base ≡ self.now.addr_base → RefusedOr (λ ends. IsReadOn self.now.sections.now self.now.number found.old found.new ends.items) result (list_ranges self.now.sections.now (unit_with self.now) list) }
     {
-        if place > bytes.len() as u64 {
+        let bytes = self.lists_in(list.format);
+        if list.place > bytes.len() as u64 {
             return Err(Refusal::Code(BAD_RANGE));
         }
-        let mut cursor = Cursor::new(bytes, place as usize);
-        let mut base = first_base;
+        let mut cursor = Cursor::new(bytes, list.place as usize);
+        let mut base = list.base;
+        let mut ends = Vec::new(*found.ranges.allocator());
         // There are fewer entries than bytes.
-        'entries: for _ in 0..bytes.len() {
-            let entry = self.read_entry(format, &mut cursor)?;
+        'entries: for number in 0..bytes.len() {
+            let entry = self.read_entry(list.format, &mut cursor)?;
             let Some(next) = entry.base_behind(base) else {
-                return Ok(());
+                return Ok(ends);
             };
-            add_range(ranges, self.number, entry.range(base))?;
+            add_range(&mut found.ranges, self.number, entry.range(base))?;
             base = next;
+            if number % ENTRIES_APART == ENTRIES_APART - 1 {
+                let end = RangeList {
+                    place: cursor.at() as u64,
+                    base,
+                    ..list
+                };
+                if found.has(end) {
+                    return Ok(ends);
+                }
+                ends.push(end)?;
+            }
         }
         Err(Refusal::Code(BAD_RANGE))
     }
@@ -153,8 +168,8 @@ impl<'f> RangeUnit<'f> {
         if found.has(list) {
             return Ok(());
         }
-        let lists = self.lists_in(format);
-        self.add_list_at(&mut found.ranges, format, first_base, lists, place)?;
+        let ends = self.add_list_at(found, list)?;
+        found.note_all(ends.as_slice())?;
         Ok(found.note(list)?)
     }
 

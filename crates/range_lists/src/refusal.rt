@@ -4,6 +4,7 @@ ghost use Rattle.std.specs.Prelude.{◌≡◌};
 ghost use Rattle.range_lists.specs.declared.refusal.Refusal.TheVariants as refusals;
 
 use ix_base::NoMemory;
+use std::alloc::AllocFailed;
 
 /// Why ranges weren't read.
 #[derive(Clone, Copy)]
@@ -26,6 +27,14 @@ impl From<NoMemory> for Refusal {
     ghost from_gives = { λ _ e. e ≡ refusals.Memory };
 
     fn from(_error: NoMemory) -> Refusal {
+        Refusal::Memory
+    }
+}
+
+impl<T: Drop> From<AllocFailed<T>> for Refusal {
+    ghost from_gives = { λ _ e. e ≡ refusals.Memory };
+
+    fn from(_error: AllocFailed<T>) -> Refusal {
         Refusal::Memory
     }
 }

@@ -5,7 +5,7 @@ ghost use Rattle.std.specs.Arc.{arc_value};
 ghost use Rattle.index_model.specs.ShardLanguages.{root_in};
 ghost use Rattle.range_lists.specs.Nodes.{is_linked, EntriesRise};
 
-use index_model::{LinkedEntry, Root, Shard};
+use index_model::{LinkedEntry, Shard, root_in};
 use std::sync::Arc;
 
 /// The index of the shard whose run has the unit.
@@ -16,14 +16,6 @@ pub(crate) fn run_of(shards: &[Arc<Shard<'_>>], unit: u32) -> Option<usize>
     shards
         .iter()
         .position(|shard| root_in(shard, unit).is_some())
-}
-
-/// The root of a unit, if the unit is one of the shard's run. The number of a shard without units says nothing.
-pub(crate) fn root_in(shard: &Shard<'_>, unit: u32) -> Option<Root>
-    ensures { result ≡ root_in unit shard.now }
-{
-    let place = unit.checked_sub(shard.first)?;
-    shard.roots.as_slice().get(place as usize).copied()
 }
 
 /// Whether the entry at the offset is one of these, whose offsets rise.

@@ -12,11 +12,11 @@ ghost use Rattle.range_lists.specs.Nodes.{all_node_ranges, is_linked_subprogram,
 use crate::found::FoundRanges;
 use crate::home::RangeUnit;
 use crate::node::has_ranges;
-use crate::run::{is_linked, root_in, run_of};
+use crate::run::{is_linked, run_of};
 use crate::unit_nodes::UnitNodes;
 use dwarf_codes::tag::DW_TAG_subprogram;
 use file_image::Image;
-use index_model::{Linked, LinkedEntry, Node, Raw, Shard, Unit};
+use index_model::{Linked, LinkedEntry, Node, Raw, Shard, Unit, root_in};
 use ix_base::{MAX_UNITS, Stop};
 use std::sync::Arc;
 
@@ -115,8 +115,8 @@ fn add_in_run(
 impl FoundRanges {
     /// Adds the ranges of the unit with this number: those of its root, if it has ranges or low_pc with high_pc, or else those
     /// of its indexed subprograms. Ranges that begin at 0, begin or end too high, or have no byte are left out, and so are
-    /// those of a list that was read before, whose addresses have units already. The shards are those of consecutive runs
-    /// that make up all units of the image's file, and `linked` has what the references of each run give.
+    /// those of a list, or of the end of one, that was read before, whose addresses have units already. The shards are those
+    /// of consecutive runs that make up all units of the image's file, and `linked` has what the references of each run give.
     ///
     /// A fault has the joint offset of the entry whose ranges are read: 14 where an index has no base, 15 where a list, an
     /// index or an address leaves its section, or a list has an entry of an unknown kind. What was found isn't used then.

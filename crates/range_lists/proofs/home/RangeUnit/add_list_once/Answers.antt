@@ -1,9 +1,7 @@
-use Rattle.std.proofs.Common.{ℕ, List, Vec, Global, Result, Ok, sym, ap, ◌∙◌}
-use Rattle.index_model.specs.declared.range.UnitRange.{UnitRange}
-use Rattle.index_model.specs.RangeLists.{list_at}
+use Rattle.std.proofs.Common.{◌≡◌, ◌⊎◌, inl, inr, List, ⊎_elim, subst, refl, ◌∙◌}
+use Rattle.std.specs.Prelude.{Contains}
 use Rattle.range_lists.specs.declared.found.RangeList.{RangeList}
 use Rattle.range_lists.specs.Homes.{unit_with}
-use Rattle.range_lists.specs.Lists.{behind, kept, reader_for}
 use Rattle.range_lists.proofs.Once.{read_before, read_now}
 use Rattle.range_lists.proofs.Roots.{addresses_at}
 use Rattle.range_lists.proofs.home.RangeUnit.add_list_once.Goals as goal
@@ -15,11 +13,11 @@ returns-then-has c read =
 
 pub returns : goal.returns
 returns c read =
-    let ss = c.args.self.now.sections.now in
-    let w = unit_with c.args.self.now in
     let list : RangeList = record { format = c.args.format; place = c.args.place; base = c.args.first_base; addr_base = c.args.self.now.addr_base } in
-    let added =
-    ap (λ (bytes : List ℕ). behind c.args.self.now.number c.args.found.now.ranges.items (kept (list_at (reader_for c.args.format ss w) c.args.first_base bytes c.args.place))) (sym c.lists_in-lists.ensures.value) ∙
-    c.in_ok-add_list_at.ensures ∙
-    ap {B = Result (List UnitRange) ℕ} (λ (v : Vec UnitRange Global). Ok v.items) (sym c.in_ok-note.ensures.ranges) in
-    read_now ss w c.args.self.now.number list (addresses_at c.args.self.now) c.args.found.now read c.note.new.self added c.in_ok-note.ensures.lists
+    let now = c.add_list_at.new.found in
+    let ends = c.in_ok-ends.ends.items in
+    let keys : (other : RangeList) → Contains c.note.new.self.lists.keys other → (list ≡ other) ⊎ (Contains ends other ⊎ Contains now.lists.keys other) = λ other m. ⊎_elim
+    (λ (one : list ≡ other). inl one)
+    (λ (earlier : Contains c.note_all.new.self.lists.keys other). inr (subst (λ (es : List RangeList). Contains es other ⊎ Contains now.lists.keys other) c.as_slice.ensures.value (c.in_ok-note_all.ensures.lists other earlier)))
+    (c.in_ok-note.ensures.lists other m) in
+    read_now c.args.self.now.sections.now (unit_with c.args.self.now) c.args.self.now.number list (addresses_at c.args.self.now) c.args.found.now read now c.note.new.self ends (c.in_ok-note.ensures.ranges ∙ c.in_ok-note_all.ensures.ranges) keys (c.in_ok-ends.ensures read refl)
