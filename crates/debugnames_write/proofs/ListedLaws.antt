@@ -13,8 +13,7 @@ use Rattle.index_model.specs.NameIndex.{Indexed, Row as IndexRow, string_of_entr
 use Rattle.index_model.specs.Units.{is_types}
 use Rattle.index_model.proofs.Orders.{ascending_is, ascending_rises, ascending_has, ascending_only}
 use Rattle.index_model.proofs.IndexOrders.{row_order}
-use Rattle.query_engine.specs.declared.way.Way.TheVariants.{ByListed}
-use Rattle.query_engine.specs.Asked.{is_asked}
+use Rattle.query_engine.specs.Listed.{is_listed}
 use Rattle.query_engine.specs.Marks.{text_with}
 use Rattle.query_engine.specs.Orders.{AreByText}
 use Rattle.query_engine.specs.Pairs.{ComesBefore}
@@ -49,14 +48,14 @@ named_as units e y is = by (slice_get units e.unit) refl
         kind false k = let g = rw (at, k) at is in cc
 
 -- the entries of a text in the index are those of its entries
-indexed_named : (units : List UnitHeader) (t : List ℕ) (es : List Entry) → all_indexed units (filter (is_asked ByListed t) es) ≡ entries_named t (all_indexed units es)
+indexed_named : (units : List UnitHeader) (t : List ℕ) (es : List Entry) → all_indexed units (filter (is_listed t) es) ≡ entries_named t (all_indexed units es)
 unfolding all_indexed
 indexed_named units t [] = refl
 indexed_named units t (e ∷ es) = by (indexed_entry units e) refl (bytes_eq (string_of_entry e) t) refl (indexed_named units t es)
   where
     by : (o : Option Indexed) → indexed_entry units e ≡ o → (b : Bool) → bytes_eq (string_of_entry e) t ≡ b
-        → filter_map (indexed_entry units) (filter (is_asked ByListed t) es) ≡ entries_named t (filter_map (indexed_entry units) es)
-        → filter_map (indexed_entry units) (filter (is_asked ByListed t) (e ∷ es)) ≡ entries_named t (filter_map (indexed_entry units) (e ∷ es))
+        → filter_map (indexed_entry units) (filter (is_listed t) es) ≡ entries_named t (filter_map (indexed_entry units) es)
+        → filter_map (indexed_entry units) (filter (is_listed t) (e ∷ es)) ≡ entries_named t (filter_map (indexed_entry units) (e ∷ es))
     by None is true same rest = rw (same, is) rest
     by None is false same rest = rw (same, is) rest
     by (Some y) is true same rest =
@@ -133,8 +132,8 @@ flat_within : (n : ℕ) (f : List ℕ → List ℕ) → ((t : List ℕ) → All 
 flat_within n f within [] = λ k d lt. absurd (omega arith)
 flat_within n f within (t ∷ ts) = All-append (λ (p : ℕ). p < n) (f t) (flat_map f ts) (within t) (flat_within n f within ts)
 
-pub order_within : (es : List Entry) (order : List ℕ) → AreByText ByListed es order → All (λ p. p < length es) order
-order_within es order h = rw h.are (flat_within (length es) (λ t. places (is_asked ByListed t) es) (λ t. places_within (is_asked ByListed t) es) h.texts)
+pub order_within : (es : List Entry) (order : List ℕ) → AreByText is_listed es order → All (λ p. p < length es) order
+order_within es order h = rw h.are (flat_within (length es) (λ t. places (is_listed t) es) (λ t. places_within (is_listed t) es) h.texts)
 
 -- ---- the entries in this order
 
@@ -253,25 +252,25 @@ module _ (all : List Indexed) (ts : List (List ℕ)) (up : Ascend ts) where
 
 -- ---- all of it
 
-module _ (units : List UnitHeader) (es : List Entry) (order : List ℕ) (h : AreByText ByListed es order) (items : List IndexEntry) (made : items_seen items ≡ all_indexed units (entries_at es order)) where
+module _ (units : List UnitHeader) (es : List Entry) (order : List ℕ) (h : AreByText is_listed es order) (items : List IndexEntry) (made : items_seen items ≡ all_indexed units (entries_at es order)) where
   abbrev entries : List Indexed
   entries = all_indexed units es
 
   abbrev asked : List ℕ → List Entry
-  asked t = filter (is_asked ByListed t) es
+  asked t = filter (is_listed t) es
 
   in_order : items_seen items ≡ first entries h.texts h.ascending (length h.texts)
   in_order =
       made
       ∙ ap (λ (w : List ℕ). all_indexed units (entries_at es w)) h.are
-      ∙ ap (all_indexed units) (at_flat es (λ t. places (is_asked ByListed t) es) h.texts ∙ flat_same (λ t. entries_at es (places (is_asked ByListed t) es)) asked (λ t. entries_at_places (is_asked ByListed t) es) h.texts)
+      ∙ ap (all_indexed units) (at_flat es (λ t. places (is_listed t) es) h.texts ∙ flat_same (λ t. entries_at es (places (is_listed t) es)) asked (λ t. entries_at_places (is_listed t) es) h.texts)
       ∙ indexed_flat units asked h.texts
       ∙ flat_same (λ t. all_indexed units (asked t)) (λ t. entries_named t entries) (λ t. indexed_named units t es) h.texts
       ∙ ap (flat_map (λ t. entries_named t entries)) (sym (take_all (length h.texts) h.texts (omega arith)))
 
   absent : (t : List ℕ) → ((k : ℕ) → k < length h.texts → text_with h.texts k ≢ t) → entries_named t entries ≡ []
   absent t none =
-      let no_entry : asked t ≡ [] = sym (entries_at_places (is_asked ByListed t) es) ∙ ap (entries_at es) (h.all t none) in
+      let no_entry : asked t ≡ [] = sym (entries_at_places (is_listed t) es) ∙ ap (entries_at es) (h.all t none) in
       sym (indexed_named units t es) ∙ ap (all_indexed units) no_entry ∙ indexed_none units
 
   pub same_listed : SameByName entries (items_seen items)

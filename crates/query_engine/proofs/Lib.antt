@@ -12,6 +12,9 @@ mod JoinLaws
 mod GroupLaws
 pub mod NamesLaws
 pub mod OrderLaws
+mod BelowLaws
+mod MergedLaws
+mod ListedLaws
 mod CountingLaws
 pub mod RankLaws
 mod SearchLaws

@@ -7,8 +7,9 @@ use Rattle.std.proofs.lemmas.List.Elements.{All-head, All-tail, All-weaker}
 use Rattle.index_model.specs.declared.entry.Entry.{Entry}
 use Rattle.index_model.specs.Answers.{places, is_named, is_simply_named}
 use Rattle.index_model.specs.Entries.{simple_of}
-use Rattle.query_engine.specs.declared.way.Way.TheVariants.{ByName, ByListed}
+use Rattle.query_engine.specs.declared.way.Way.TheVariants.{ByName}
 use Rattle.query_engine.specs.Asked.{is_asked}
+use Rattle.query_engine.specs.Listed.{is_listed}
 use Rattle.query_engine.specs.Counts.{name_count, simple_count, without_linkage}
 use Rattle.query_engine.specs.Orders.{AreByText}
 use Rattle.query_engine.specs.Simple.{IsWhole}
@@ -22,7 +23,7 @@ simple_is e h =
 same_test : (t : List ℕ) (e : Entry) → IsWhole e → is_simply_named t e ≡ is_named t e
 same_test t e h = rw (h.plain, simple_is e h) refl
 
-same_listed : (t : List ℕ) (e : Entry) → IsWhole e → is_asked ByListed t e ≡ is_asked ByName t e
+same_listed : (t : List ℕ) (e : Entry) → IsWhole e → is_listed t e ≡ is_asked ByName t e
 same_listed t e h = rw (h.plain, simple_is e h) refl
 
 agree : (p q : Entry → Bool) (n : ℕ) (es : List Entry) → All (λ (e : Entry). q e ≡ p e) es → map (λ (e : ℕ × Entry). e.0) (filter (λ (e : ℕ × Entry). p e.1) (enumerate_from n es)) ≡ map (λ (e : ℕ × Entry). e.0) (filter (λ (e : ℕ × Entry). q e.1) (enumerate_from n es))
@@ -38,8 +39,8 @@ agree p q n (e ∷ es) all = step (p e) refl (All-head (λ (x : Entry). q x ≡ 
 pub simply_named : (t : List ℕ) (es : List Entry) → All IsWhole es → places (is_named t) es ≡ places (is_simply_named t) es
 simply_named t es all = agree (is_named t) (is_simply_named t) 0 es (All-weaker IsWhole (λ (e : Entry). is_simply_named t e ≡ is_named t e) (same_test t) es all)
 
-listed_same : (t : List ℕ) (es : List Entry) → All IsWhole es → places (is_asked ByName t) es ≡ places (is_asked ByListed t) es
-listed_same t es all = agree (is_asked ByName t) (is_asked ByListed t) 0 es (All-weaker IsWhole (λ (e : Entry). is_asked ByListed t e ≡ is_asked ByName t e) (same_listed t) es all)
+listed_same : (t : List ℕ) (es : List Entry) → All IsWhole es → places (is_asked ByName t) es ≡ places (is_listed t) es
+listed_same t es all = agree (is_asked ByName t) (is_listed t) 0 es (All-weaker IsWhole (λ (e : Entry). is_listed t e ≡ is_asked ByName t e) (same_listed t) es all)
 
 flat_same : {X Y : Type 0} (f g : X → List Y) → ((x : X) → f x ≡ g x) → (xs : List X) → flat_map f xs ≡ flat_map g xs
 flat_same f g same [] = refl
@@ -49,12 +50,12 @@ flat_same f g same (x ∷ xs) =
     λ i. first i ++ rest i
 
 -- they are listed by their names
-pub by_listed : (es : List Entry) (ps : List ℕ) → All IsWhole es → AreByText ByName es ps → AreByText ByListed es ps
+pub by_listed : (es : List Entry) (ps : List ℕ) → All IsWhole es → AreByText (is_asked ByName) es ps → AreByText is_listed es ps
 by_listed es ps whole h = record {
   texts = h.texts;
   ascending = h.ascending;
   all = λ t none. sym (listed_same t es whole) ∙ h.all t none;
-  are = h.are ∙ flat_same (λ (t : List ℕ). places (is_asked ByName t) es) (λ (t : List ℕ). places (is_asked ByListed t) es) (λ t. listed_same t es whole) h.texts;
+  are = h.are ∙ flat_same (λ (t : List ℕ). places (is_asked ByName t) es) (λ (t : List ℕ). places (is_listed t) es) (λ t. listed_same t es whole) h.texts;
 }
 
 same_names : (es : List Entry) → All IsWhole es → map simple_of (without_linkage es) ≡ map (λ (e : Entry). e.name) es

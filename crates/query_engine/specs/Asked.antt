@@ -1,20 +1,18 @@
 -- The ways to ask for an entry (DWARF 5, 6.1.1: look-up by name).
-use Rattle.std.specs.Prelude.{ℕ, ◌-◌, ◌≤◌, Bool, true, not, ◌&&◌, if◌then◌else◌, List, length, drop, All, bytes_eq}
+use Rattle.std.specs.Prelude.{ℕ, ◌-◌, ◌≤◌, Bool, true, not, ◌&&◌, List, length, drop, All, bytes_eq}
 use Rattle.index_model.specs.declared.entry.Entry.{Entry}
 use Rattle.query_engine.specs.declared.way.Way.{Way}
-use Rattle.query_engine.specs.declared.way.Way.TheVariants.{ByName, BySimple, ByListed}
+use Rattle.query_engine.specs.declared.way.Way.TheVariants.{ByName, BySimple}
 
 -- whether entries can be found this way that are linkage entries or not
 abbrev pub counts_by : Way → Bool → Bool
 counts_by ByName linkage = true
 counts_by BySimple linkage = not linkage
-counts_by ByListed linkage = true
 
 -- the text by which they are found, by their name and the length of the simple name at its end
 abbrev pub text_by : Way → Bool → ℕ → List ℕ → List ℕ
 text_by ByName linkage tail name = name
 text_by BySimple linkage tail name = drop (length name - tail) name
-text_by ByListed linkage tail name = if linkage then name else drop (length name - tail) name
 
 -- whether the entry can be found this way
 abbrev pub is_counted : Way → Entry → Bool

@@ -5,6 +5,7 @@ pub mod Front
 pub mod Groups
 pub mod Halving
 pub mod Labels
+pub mod Listed
 pub mod Marked
 pub mod Marks
 pub mod Orders

@@ -10,6 +10,7 @@ mod halves;
 mod key;
 mod label;
 mod labels;
+mod listed;
 mod marks;
 mod names;
 mod order;

@@ -78,9 +78,19 @@ impl SortedNames {
         ensures counted { steps.new ≡ steps.old + 1 }
     {
         steps.tick();
+        self.order_at(entries, index, asked)
+    }
+
+    /// The order of the text at an index and another, where no name is looked up.
+    pub fn order_at(&self, entries: &[Entry<'_>], index: usize, other: &FrontedText<'_>) -> Ordering
+        requires index { index < length self.now.groups.items }
+        requires tails { TailsFit entries.now }
+        requires names { AreNamesOf entries.now self.now }
+        ensures { result ≡ slice_cmp nat_cmp (name_at entries.now self.now index) other.now.bytes.now }
+    {
         let group = self.groups[index];
-        match group.front.cmp(&asked.front) {
-            Ordering::Equal => self.text_of(entries, group).cmp(&asked.bytes),
+        match group.front.cmp(&other.front) {
+            Ordering::Equal => self.text_of(entries, group).cmp(&other.bytes),
             unequal => unequal,
         }
     }
@@ -109,7 +119,7 @@ impl SortedNames {
     /// The places of all entries, of one text after the other, and ascending within a text.
     pub fn all_places(&self, alloc: Global, entries: &[Entry<'_>]) -> Result<Vec<u32>, AllocError>
         requires { AreNamesOf entries.now self.now }
-        ensures { IfOk result (λ v. AreByText self.now.way entries.now v.items) }
+        ensures { IfOk result (λ v. AreByText (is_asked self.now.way) entries.now v.items) }
     {
         let mut places = Vec::with_capacity(alloc, entries.len())?;
         for index in 0..self.len() {

@@ -7,16 +7,14 @@ ghost use Rattle.query_engine.specs.Counts.{name_count, simple_count, without_li
 ghost use Rattle.query_engine.specs.Halving.{AddsHalvings};
 ghost use Rattle.query_engine.specs.Orders.{AreByText};
 ghost use Rattle.query_engine.specs.Sorted.{AreNamesOf};
-ghost use Rattle.query_engine.specs.declared.way.Way.TheVariants.{ByListed};
+ghost use Rattle.query_engine.specs.Listed.{is_listed};
 ghost use Rattle.query_engine.specs.Texts.{table_names};
 
-use crate::halves::marks_by_halves;
+use crate::listed::places_as_listed;
 use crate::names::SortedNames;
-use crate::order::order_of;
 use crate::orders::Orders;
 use crate::search::find;
 use crate::simple::SimpleNames;
-use crate::way::Way;
 use index_model::{Entry, Run, Steps};
 use ix_base::NoMemory;
 use std::alloc::{AllocError, Global};
@@ -136,8 +134,8 @@ impl<'f> Table<'f> {
     }
 
     /// The places of all entries by the names under which a `.debug_names` lists them, and then ascending: linkage entries
-    /// stand there under their names, all others under their simple names. n entries cost at most n log n comparisons. As many
-    /// threads share the work as in `merge`.
+    /// stand there under their names, all others under their simple names. n entries with m distinct names cost n steps and m
+    /// comparisons at most of each of both orders.
     ///
     /// # Errors
     ///
@@ -147,15 +145,18 @@ impl<'f> Table<'f> {
         rt: &R,
         alloc: Global,
     ) -> Result<Vec<u32>, NoMemory>
-        ensures { IfOk result (λ v. AreByText ByListed self.now v.items) }
+        ensures { IfOk result (λ v. AreByText is_listed self.now v.items) }
     {
         match &self.by_simple {
             SimpleNames::Shared => Ok(self.by_name.all_places(alloc, &self.entries)?),
-            SimpleNames::Own(_) => {
-                let halvings = self.halvings;
-                let labelled = marks_by_halves(rt, alloc, halvings, &self.entries, 0)?;
-                Ok(order_of(rt, alloc, Way::ByListed, halvings, &labelled)?.places)
-            }
+            SimpleNames::Own(simple) => Ok(places_as_listed(
+                rt,
+                alloc,
+                self.halvings,
+                &self.entries,
+                &self.by_name,
+                simple,
+            )?),
         }
     }
 

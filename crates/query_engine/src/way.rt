@@ -1,4 +1,4 @@
-//! The ways to ask for an entry: by its name, by its simple name, or by the one under which a `.debug_names` lists it.
+//! The ways to ask for an entry: by its name or by its simple name.
 
 ghost use Rattle.std.specs.Prelude.{◌≡◌};
 ghost use Rattle.query_engine.specs.Asked.{counts_by, text_by};
@@ -10,8 +10,6 @@ use crate::label::Label;
 pub(crate) enum Way {
     ByName,
     BySimple,
-    // Linkage entries by their names, all others by their simple names.
-    ByListed,
 }
 
 impl Way {
@@ -22,7 +20,6 @@ impl Way {
         match self {
             Way::ByName => true,
             Way::BySimple => !label.linkage,
-            Way::ByListed => true,
         }
     }
 
@@ -31,11 +28,9 @@ impl Way {
         ensures { result.now ≡ text_by self label.now.linkage label.now.tail label.now.name.now }
     {
         let name = label.name;
-        let simple = &name[name.len() - label.tail as usize..];
         match self {
             Way::ByName => name,
-            Way::BySimple => simple,
-            Way::ByListed => if label.linkage { name } else { simple },
+            Way::BySimple => &name[name.len() - label.tail as usize..],
         }
     }
 }
