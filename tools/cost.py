@@ -37,8 +37,6 @@ LOOK_NAMES = ["look", "names", "FILE", "STRINGS", "name", "zz"]
 TABLES = "tables of abbreviations that overlap are read each by itself"
 TEXTS = "names that are one text are compared one by one"
 LONG = "the answer itself is that long"
-LISTS = "lists of ranges that begin inside one another are read one by one"
-IMPORTS = "the importers of a partial unit are looked for one by one"
 
 # Kind, first size, words, and why it may grow with the square.
 ROWS = [
@@ -69,8 +67,10 @@ ROWS = [
     (programs.many_names, 50000, BY_GDB, None),
     (programs.ranges_of_all_units, 8000, ASK, None),
     (programs.ranges_of_all_functions, 8000, ASK, None),
-    (programs.ends_of_a_list, 500, ASK, LISTS),
-    (programs.imports, 20000, ASK, IMPORTS),
+    (programs.ends_of_a_list, 4000, ASK, None),
+    (programs.rising_ends_of_a_list, 4000, ASK, None),
+    (programs.shuffled_ends_of_a_list, 4000, ASK, None),
+    (programs.imports, 20000, ASK, None),
     (programs.long_scopes, 1000, GDB8, LONG),
     (programs.longest_scopes, 10, GDB8, LONG),
     (programs.small_entries, 200000, ASK, None),
