@@ -3,7 +3,7 @@ use Rattle.std.specs.Prelude.{◌≡◌, ◌+◌, ◌*◌, ◌≤◌, ◌<◌, �
 use Rattle.ix_base.specs.declared.fault.Fault.{Fault}
 use Rattle.ix_base.specs.declared.limits.TheConstants.{MAX_FILE_BYTES}
 use Rattle.ix_base.specs.declared.code.TheConstants.{SECTION_TABLE}
-use Rattle.index_model.specs.Meaning.{◌>>=◌, ◌>>◌, fault}
+use Rattle.index_model.specs.Meaning.{◌>>◌, fault}
 use Rattle.index_model.specs.Sections.{Header as SectionHeader, bytes_from, field, ident, table_at, section_count, names as names_of, table_fits}
 use Rattle.file_image.specs.declared.section_header.Header.{Header}
 

@@ -9,8 +9,12 @@ ghost use Rattle.file_image.specs.Found.{section, AreSmall};
 ghost use Rattle.file_image.specs.Headers.{IsTable};
 
 use crate::table::SectionHeaders;
-use ix_base::{Fault, MAX_FILE_BYTES, Stop, code};
+use ix_base::{Fault, MAX_FILE_BYTES, NoMemory, Stop, code};
+use reading_limit::ReadingLimit;
 use std::alloc::Global;
+
+// How many bytes the names of all sections may have. They may overlap, so they may have more than the file.
+const NAMES: u64 = 1 << 30;
 
 /// A section: its name, its flags and its bytes.
 #[derive(Clone, Copy)]
@@ -32,8 +36,10 @@ pub(crate) fn sections_of_table<'f>(
     ensures small { IfOk result (λ v. AreSmall v.items) }
 {
     let mut found = Vec::with_capacity(alloc, table.count)?;
+    let mut to_read = ReadingLimit::of(NAMES);
     for index in 1..table.count {
         let section = section_at(file, table, index)?;
+        to_read.take(section.name.len() as u64).ok_or(NoMemory)?;
         found.push(section)?;
     }
     Ok(found)

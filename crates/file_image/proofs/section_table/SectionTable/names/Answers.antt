@@ -1,4 +1,4 @@
-use Rattle.std.proofs.Common.{◌≤◌, ◌<◌, ℕ, subst, sym, ◌∙◌, arith}
+use Rattle.std.proofs.Common.{◌<◌, ◌∙◌, arith}
 use Rattle.index_model.specs.Sections.{section_count, names_index}
 use Rattle.file_image.proofs.Tables.{header_in_table, has_names}
 use Rattle.file_image.proofs.section_table.SectionTable.names.Goals as goal
