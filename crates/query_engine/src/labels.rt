@@ -6,6 +6,7 @@ ghost use Rattle.query_engine.specs.Labels.{labelled};
 ghost use Rattle.query_engine.specs.Seen.{labels_seen};
 
 use crate::label::Label;
+use reading_limit::ReadingLimit;
 use std::alloc::{AllocError, Global};
 use std::hash::{FoldHasher, Hasher};
 use std::mem::replace;
@@ -20,6 +21,12 @@ const LAST_MASK: u32 = 1073741823;
 
 // So many bytes of a name are hashed.
 const HASHED: usize = 256;
+
+// How many bytes of names that were met before may be compared, and how many more for each. Entries of a file may share one long
+// text, and to compare it for each of them would cost the square of what the file costs to read.
+const COMPARED: u64 = 1 << 30;
+
+const COMPARED_EACH: u64 = 4096;
 
 // What a slot holds: the number of a label, and the hash of it.
 #[derive(Clone, Copy)]
@@ -47,6 +54,8 @@ pub(crate) struct Labels<'r> {
     pub list: Vec<Label<'r>>,
     slots: Vec<Option<HashSlot>>,
     mask: u32,
+    // How many bytes more may be compared.
+    to_compare: ReadingLimit,
 }
 
 impl<'r> Labels<'r> {
@@ -58,10 +67,15 @@ impl<'r> Labels<'r> {
             list: Vec::new(alloc),
             slots: free_slots(alloc, FIRST_MASK)?,
             mask: FIRST_MASK,
+            to_compare: ReadingLimit::of(COMPARED),
         })
     }
 
     /// The number of a label, which is a new one where it isn't found.
+    ///
+    /// # Errors
+    ///
+    /// Also where labels that were met before have too many bytes.
     pub fn number(&mut self, alloc: Global, label: &Label<'r>) -> Result<u32, AllocError>
         requires { length self.now.list.items < 2 ^ 32 }
         ensures { IfOk result (λ n. Numbers (labels_seen self.old.list.items) (labels_seen self.new.list.items) (labelled label.now.linkage label.now.tail label.now.name.now) n) }
@@ -69,9 +83,12 @@ impl<'r> Labels<'r> {
         let hash = hash_of(label);
         let number = self.list.len() as u32;
         match self.place_of(label, hash) {
-            Probe::Known(known) => return Ok(known),
+            Probe::Known(known) => {
+                self.count(label.name.len())?;
+                return Ok(known);
+            }
             Probe::Free(at) => self.enter(at, HashSlot { hash, number }),
-            Probe::Crowded => {}
+            Probe::Crowded => self.count(label.name.len())?,
         }
         self.list.push(*label)?;
         if self.list.len() > self.mask as usize / 2 && self.mask < LAST_MASK {
@@ -94,6 +111,14 @@ impl<'r> Labels<'r> {
             numbers.push(self.number(alloc, label)?)?;
         }
         Ok(numbers)
+    }
+
+    // Takes in that a name of so many bytes was compared.
+    fn count(&mut self, bytes: usize) -> Result<(), AllocError>
+        ensures { self.new.list ≡ self.old.list }
+    {
+        self.to_compare.widen(COMPARED_EACH);
+        self.to_compare.take(bytes as u64).ok_or(AllocError)
     }
 
     // Where a label with this hash stands.

@@ -58,7 +58,8 @@ impl<'f> Table<'f> {
     ///
     /// # Errors
     ///
-    /// `NoMemory` where memory was refused. The runs are gone then.
+    /// `NoMemory` where memory was refused, or where entries share names so long that to compare them would cost far more than
+    /// the file does: more than 1 GiB, and 4 KiB for each entry. The runs are gone then.
     pub fn merge<R: Threads + Sync>(
         rt: &R,
         alloc: Global,
