@@ -1,13 +1,11 @@
 -- The nodes of all entries of a unit, by their offsets.
-use Rattle.std.proofs.Common.{◌≡◌, ℕ, Bool, true, false, cond, Option, Some, None, Ok, List, refl, sym, ap, subst, ◌∙◌}
-use Rattle.std.specs.Prelude.{Contains, find, nat_eq, option_map}
+use Rattle.std.proofs.Common.{◌≡◌, ℕ, Option, Some, None, Ok, List, refl, sym, ap, subst, ◌∙◌}
+use Rattle.std.specs.Prelude.{Contains, find, option_map}
 use Rattle.std.specs.List.{AllZip}
 use Rattle.std.specs.List.Sorted.{IsNonDecreasingBy}
-use Rattle.std.proofs.lemmas.Bool.{eqb-true}
 use Rattle.std.proofs.lemmas.Option.{same_Some}
 use Rattle.common_laws.proofs.Members.{to_map, to_flat_map}
 use Rattle.common_laws.proofs.Options.{of_option_map}
-use Rattle.indexmap.specs.IndexMap.{IndexMap, get}
 use Rattle.index_model.specs.declared.shard.Node.{Node}
 use Rattle.index_model.specs.declared.shard.Span.{Span}
 use Rattle.index_model.specs.Faults.{program_of}
@@ -19,7 +17,6 @@ use Rattle.index_model.proofs.Located.{Before, at_home, items_rise}
 use Rattle.index_model.proofs.OrderLaws.{walk_rises}
 use Rattle.index_model.proofs.Pairs.{pairs_map}
 use Rattle.index_model.proofs.UnitsApart.{program_apart}
-use Rattle.shard_build.specs.Again.{AreOfUnit, AreOfUnits}
 use Rattle.shard_build.specs.Entries.{IsNodeIn}
 use Rattle.shard_build.specs.Found.{IsUnitAt, located_in_span}
 use Rattle.shard_build.proofs.FoundNodes.{has_offset, offsets_rise_by, entry_there, none_there}

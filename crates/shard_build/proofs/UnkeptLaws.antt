@@ -1,10 +1,10 @@
 -- An entry of which nothing is kept changes nothing.
-use Rattle.std.proofs.Common.{◌≡◌, ℕ, ◌==◌, ◌&&◌, not, Bool, true, false, cond, List, [], ◌++◌, append-nil, Option, Some, None, option_and_then, Result, Ok, Err, inl, inr, refl, ap, ◌∙◌}
+use Rattle.std.proofs.Common.{◌≡◌, ℕ, ◌==◌, ◌&&◌, not, Bool, true, false, List, append-nil, Option, Some, None, option_and_then, Result, Ok, Err, inl, inr, refl, ap, ◌∙◌}
 use Rattle.std.specs.Option.{option_or}
 use Rattle.ix_base.specs.declared.fault.Fault.{Fault}
 use Rattle.index_model.specs.declared.unit.Unit.{Unit as UnitHeader}
 use Rattle.index_model.specs.Attributes.{attribute, read_as, as_text, linkage_value}
-use Rattle.index_model.specs.Forms.{Value, Str}
+use Rattle.index_model.specs.Forms.{Value}
 use Rattle.index_model.specs.Meaning.{at_place}
 use Rattle.index_model.specs.Rules.{is_in_table}
 use Rattle.index_model.specs.Sections.{Section}

@@ -33,7 +33,7 @@ pub(crate) struct ItemsSoFar<'f> {
 #[tactic(auto, unfolding(crate::specs::Kept::nodes_by))]
 pub(crate) fn add_node<'f>(
     nodes: &mut Nodes<'f>,
-    places: &TextPlaces,
+    places: &mut TextPlaces,
     home: &UnitInFile<'_, 'f>,
     frame: &UnitFacts,
     outer: Option<Open>,
@@ -70,7 +70,7 @@ fn has_node(
 // Adds the node of an entry, with its texts.
 fn add_node_with_texts<'f>(
     nodes: &mut Nodes<'f>,
-    places: &TextPlaces,
+    places: &mut TextPlaces,
     home: &UnitInFile<'_, 'f>,
     base: Option<u64>,
     outer: Option<Open>,
@@ -81,6 +81,7 @@ fn add_node_with_texts<'f>(
 {
     let offsets = TextOffsets::of(entry);
     let texts = home.texts_at(base, entry, &offsets)?;
+    places.count(&texts)?;
     let node = home.node(outer, entry, texts);
     nodes.push(&node, places.at_offsets(home, base, entry, &offsets))?;
     Ok(())

@@ -53,8 +53,10 @@ fn add_unit<'f>(
 {
     let home = UnitInFile::of(image, number);
     let section = image.sections().debug_abbrev();
-    let table = AbbrevTable::of(alloc, section, &home.unit, tables.take(home.unit.abbrev))?;
+    let kept = tables.take(home.unit.abbrev);
+    let read = kept.is_none();
+    let table = AbbrevTable::of(alloc, section, &home.unit, kept)?;
     run.unit(&home, &table.abbrevs)?;
-    tables.put(table)?;
+    tables.put(table, read)?;
     Ok(())
 }

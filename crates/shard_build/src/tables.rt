@@ -13,6 +13,7 @@ use index_model::Unit;
 use indexmap::IndexMap;
 use ix_base::code::BAD_ABBREVIATION;
 use ix_base::{Fault, NoMemory, Stop};
+use reading_limit::ReadingLimit;
 use std::alloc::Global;
 
 /// A table of abbreviations, and the offset at which it stands in `.debug_abbrev`.
@@ -88,6 +89,12 @@ impl AbbrevTable {
 // How many times the bytes of `.debug_abbrev` may be the bytes of the tables that are kept at once: tables may overlap.
 const OVERLAP: u64 = 4;
 
+// How many times the bytes of `.debug_abbrev`, and how many bytes beside, may be the bytes of the tables that a run reads. Those of
+// a program that a compiler and a linker made don't overlap, so it reads each byte once.
+const READINGS: u64 = 64;
+
+const READ_BESIDE: u64 = 1 << 20;
+
 /// The tables of a run of units. One that a later unit of the run has too is kept, so that it is read once.
 #[derive(Drop)]
 pub(crate) struct Tables {
@@ -98,6 +105,8 @@ pub(crate) struct Tables {
     // How many bytes those that are kept take at least in `.debug_abbrev`, and how many they may take.
     bytes: u64,
     most: u64,
+    // How many bytes those that are still to be read may take.
+    to_read: ReadingLimit,
 }
 
 impl Tables {
@@ -115,6 +124,11 @@ impl Tables {
             left,
             bytes: 0,
             most: (length as u64).saturating_mul(OVERLAP),
+            to_read: ReadingLimit::of(
+                (length as u64)
+                    .saturating_mul(READINGS)
+                    .saturating_add(READ_BESIDE),
+            ),
         })
     }
 
@@ -128,11 +142,20 @@ impl Tables {
         Some(table)
     }
 
-    /// Keeps the table of a unit, if a later unit of the run has it too and there is room for it.
-    pub fn put(&mut self, table: AbbrevTable) -> Result<(), NoMemory>
+    /// Keeps the table of a unit, if a later unit of the run has it too and there is room for it. A table that was read for the
+    /// unit counts to those that the run reads.
+    ///
+    /// # Errors
+    ///
+    /// Also where the run would read too many bytes of tables that overlap.
+    pub fn put(&mut self, table: AbbrevTable, read: bool) -> Result<(), NoMemory>
         ensures { OnOk result ((section : List ℕ) → AreAtOffsets section self.old.kept → IsAtOffset section table → AreAtOffsets section self.new.kept) }
     {
-        let bytes = self.bytes.saturating_add(table.abbrevs.least_bytes());
+        let own = table.abbrevs.least_bytes();
+        self.to_read
+            .take(if read { own } else { 0 })
+            .ok_or(NoMemory)?;
+        let bytes = self.bytes.saturating_add(own);
         let needed = self.is_needed(table.offset)?;
         if !needed || bytes > self.most {
             return Ok(());

@@ -1,21 +1,30 @@
 //! Where in the file the texts of entries are thought to stand. Nothing rests on it: a list of nodes compares the bytes there.
 
 use crate::home::UnitInFile;
-use crate::texts::TextOffsets;
+use crate::texts::{ItemTexts, TextOffsets};
 use dwarf_codes::attribute::DW_AT_name;
 use entry_scan::Item;
 use file_image::SectionTable;
 use index_model::{Part, Places, Value};
-use ix_base::{Cursor, MAX_FILE_BYTES};
+use ix_base::{Cursor, MAX_FILE_BYTES, NoMemory};
 use memchr::memmem;
+use reading_limit::ReadingLimit;
 
-/// Where in the file the sections begin in which texts stand, 0 where there is no such section.
+// How many bytes of texts a run may read, and how many more for each entry. Entries of a file may share one long text, and to read
+// it for each of them would cost the square of what the file costs to read.
+const READ: u64 = 1 << 30;
+
+const READ_EACH: u64 = 4096;
+
+/// Where in the file the sections begin in which texts stand, 0 where there is no such section, and how many bytes of texts may
+/// still be read.
 #[derive(Clone, Copy)]
 pub(crate) struct TextPlaces {
     info: u64,
     types: u64,
     str: u64,
     line_str: u64,
+    to_read: ReadingLimit,
 }
 
 impl TextPlaces {
@@ -26,6 +35,7 @@ impl TextPlaces {
             types: 0,
             str: 0,
             line_str: 0,
+            to_read: ReadingLimit::of(READ),
         };
         if file.len() as u64 <= MAX_FILE_BYTES {
             if let Ok(table) = SectionTable::open(file) {
@@ -67,6 +77,13 @@ impl TextPlaces {
                 offsets.linkage,
             ),
         }
+    }
+
+    /// Takes in that the texts of an entry were read. Wants memory where too many bytes were.
+    pub fn count(&mut self, texts: &ItemTexts<'_>) -> Result<(), NoMemory> {
+        let bytes = bytes_of(texts.name).saturating_add(bytes_of(texts.linkage));
+        self.to_read.widen(READ_EACH);
+        self.to_read.take(bytes).ok_or(NoMemory)
     }
 
     // Where the text of an attribute stands, which may be known to be an offset of `.debug_str`.
@@ -131,6 +148,14 @@ impl TextPlaces {
                     .saturating_add(home.unit.start.saturating_sub(base))
             }
         }
+    }
+}
+
+// How many bytes a text has, if there is one.
+fn bytes_of(text: Option<&[u8]>) -> u64 {
+    match text {
+        Some(text) => text.len() as u64,
+        None => 0,
     }
 }
 

@@ -28,7 +28,7 @@ impl<'f> ItemsSoFar<'f> {
         let visited = is_visited_in(outer, self.frame.ada);
         add_node(
             &mut self.nodes,
-            &self.places,
+            &mut self.places,
             home,
             &self.frame,
             outer,

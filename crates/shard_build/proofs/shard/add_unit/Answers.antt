@@ -13,7 +13,7 @@ use Rattle.shard_build.proofs.shard.add_unit.Goals as goal
 pub of-requires : goal.of-requires
 of-requires c =
     let section : c.debug_abbrev-section.result.now ≡ section_bytes c.args.image.now.sections (codes ".debug_abbrev") = c.debug_abbrev-section.ensures.value ∙ ap (λ (ss : List Section). section_bytes ss (codes ".debug_abbrev")) c.sections.ensures in
-    λ t e. subst (λ (bytes : List ℕ). IsAtOffset bytes t) (sym section) (c.take.ensures.taken _ c.requires.tables t e)
+    λ t e. subst (λ (bytes : List ℕ). IsAtOffset bytes t) (sym section) (c.take-kept.ensures.taken _ c.requires.tables t e)
 
 pub returns-in_err-table-clause-value : goal.returns-in_err-table-clause-value
 returns-in_err-table-clause-value c u is =
@@ -51,5 +51,5 @@ returns c =
           subst (λ (x : UnitHeader). IsOkAnd (scanned im.sections (c.args.number, x)) (λ w. HoldsOneMore im.sections c.args.run.now c.unit.new.self w)) same here;
       tables =
           let own_table = subst (λ (bytes : List ℕ). IsAtOffset bytes c.in_ok-table.table) section c.in_ok-table.ensures.place in
-          c.in_ok-put.ensures _ (c.take.ensures.kept _ c.requires.tables) own_table;
+          c.in_ok-put.ensures _ (c.take-kept.ensures.kept _ c.requires.tables) own_table;
     }
