@@ -14,6 +14,12 @@ use ix_base::NoMemory;
 use std::alloc::Global;
 use std::collections::BTreeSet;
 
+// How many ranges lists may give for each byte of their sections, and how many beside. A list may count from another base in each
+// unit, and then it gives other ranges in each.
+const RANGES: u64 = 4;
+
+const RANGES_BESIDE: u64 = 1 << 16;
+
 /// A list, by all that its ranges depend on.
 #[derive(Clone, Copy, PartialEq, Eq, PartialOrd, Ord, Drop)]
 pub(crate) struct RangeList {
@@ -31,6 +37,8 @@ pub(crate) struct RangeList {
 pub struct FoundRanges {
     pub(crate) ranges: Vec<UnitRange>,
     pub(crate) lists: BTreeSet<RangeList>,
+    // How many ranges lists gave.
+    pub(crate) from_lists: u64,
 }
 
 impl FoundRanges {
@@ -42,6 +50,7 @@ impl FoundRanges {
         FoundRanges {
             ranges: Vec::new(alloc),
             lists: BTreeSet::new(alloc),
+            from_lists: 0,
         }
     }
 
@@ -57,6 +66,19 @@ impl FoundRanges {
         ensures { IsTrue result → Contains self.now.lists.keys list }
     {
         self.lists.contains(&list)
+    }
+
+    // Takes in that a list gave so many ranges, where the sections of lists have so many bytes. Wants memory where lists gave too
+    // many.
+    pub(crate) fn count(&mut self, ranges: u64, bytes: u64) -> Result<(), NoMemory>
+        ensures ranges { self.new.ranges ≡ self.old.ranges }
+        ensures lists { self.new.lists ≡ self.old.lists }
+    {
+        self.from_lists = self.from_lists.saturating_add(ranges);
+        if self.from_lists > bytes.saturating_mul(RANGES).saturating_add(RANGES_BESIDE) {
+            return Err(NoMemory);
+        }
+        Ok(())
     }
 
     // Remembers that a list was read.

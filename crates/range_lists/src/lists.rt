@@ -149,6 +149,12 @@ impl<'f> RangeUnit<'f> {
         }
     }
 
+    // How many bytes the sections have in which lists stand.
+    fn bytes_of_lists(&self) -> u64 {
+        let pairs = self.sections.debug_ranges().len() as u64;
+        pairs.saturating_add(self.sections.debug_rnglists().len() as u64)
+    }
+
     // Adds the ranges of the list at a place, unless it was read before.
     fn add_list_once(
         &self,
@@ -168,7 +174,10 @@ impl<'f> RangeUnit<'f> {
         if found.has(list) {
             return Ok(());
         }
+        let before = found.ranges.len();
         let ends = self.add_list_at(found, list)?;
+        let ranges = found.ranges.len().saturating_sub(before) as u64;
+        found.count(ranges, self.bytes_of_lists())?;
         found.note_all(ends.as_slice())?;
         Ok(found.note(list)?)
     }

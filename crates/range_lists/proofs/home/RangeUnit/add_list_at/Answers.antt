@@ -46,7 +46,7 @@ returns-then-has c read own =
     let unit = c.args.self.now.number in
     let list = c.args.list in
     let old = c.args.found.now in
-    let now : FoundRanges = record { ranges = c.add_range.new.ranges; lists = c.entries.found.lists } in
+    let now : FoundRanges = record { ranges = c.add_range.new.ranges; lists = c.entries.found.lists; from_lists = c.entries.found.from_lists } in
     let i = c.read_entry.new.cursor in
     let base = c.in-Some.next in
     let more : c.entries.number < length (lists_in list.format ss) = omega (arith, c.entries-test.true, ap (λ (bs : List ℕ). length bs) c.lists_in-bytes.ensures.value) in
@@ -62,7 +62,7 @@ entries-preserved c =
     let unit = c.args.self.now.number in
     let list = c.args.list in
     let old = c.args.found.now in
-    let now : FoundRanges = record { ranges = c.add_range.new.ranges; lists = c.entries.found.lists } in
+    let now : FoundRanges = record { ranges = c.add_range.new.ranges; lists = c.entries.found.lists; from_lists = c.entries.found.from_lists } in
     let i = c.read_entry.new.cursor in
     let base = c.in-Some.next in
     let more : c.entries.number < length (lists_in list.format ss) = omega (arith, c.entries-test.true, ap (λ (bs : List ℕ). length bs) c.lists_in-bytes.ensures.value) in

@@ -18,6 +18,6 @@ returns c read =
     let ends = c.in_ok-ends.ends.items in
     let keys : (other : RangeList) → Contains c.note.new.self.lists.keys other → (list ≡ other) ⊎ (Contains ends other ⊎ Contains now.lists.keys other) = λ other m. ⊎_elim
     (λ (one : list ≡ other). inl one)
-    (λ (earlier : Contains c.note_all.new.self.lists.keys other). inr (subst (λ (es : List RangeList). Contains es other ⊎ Contains now.lists.keys other) c.as_slice.ensures.value (c.in_ok-note_all.ensures.lists other earlier)))
+    (λ (earlier : Contains c.note_all.new.self.lists.keys other). inr (subst (λ (es : List RangeList). Contains es other ⊎ Contains now.lists.keys other) c.as_slice.ensures.value (rw c.count.ensures.lists at (c.in_ok-note_all.ensures.lists other earlier))))
     (c.in_ok-note.ensures.lists other m) in
-    read_now c.args.self.now.sections.now (unit_with c.args.self.now) c.args.self.now.number list (addresses_at c.args.self.now) c.args.found.now read now c.note.new.self ends (c.in_ok-note.ensures.ranges ∙ c.in_ok-note_all.ensures.ranges) keys (c.in_ok-ends.ensures read refl)
+    read_now c.args.self.now.sections.now (unit_with c.args.self.now) c.args.self.now.number list (addresses_at c.args.self.now) c.args.found.now read now c.note.new.self ends (c.in_ok-note.ensures.ranges ∙ c.in_ok-note_all.ensures.ranges ∙ c.count.ensures.ranges) keys (c.in_ok-ends.ensures read refl)
