@@ -1,6 +1,6 @@
 -- What stands before the names of all entries with one lexical parent.
 use Rattle.std.proofs.Common.{◌≡◌, ℕ, List, [], map, Option, None, option_map, Result, Ok, Err, refl, sym, subst}
-use Rattle.std.specs.Prelude.{Contains, IsOkAnd}
+use Rattle.std.specs.Prelude.{IsOkAnd}
 use Rattle.std.specs.Borrow.{Bor}
 use Rattle.ix_base.specs.declared.limits.TheConstants.{MAX_PATH_STEPS}
 use Rattle.index_model.specs.Names.{Member, component, scope_path}

@@ -14,6 +14,12 @@ use ix_base::NoMemory;
 use std::alloc::Global;
 use std::sync::Arc;
 
+// How many bytes the names of all runs may have that are put together, and those of one run at the least. A short file may put
+// one long scope before many names, and an index has 4 GiB at most.
+const FORMED: u64 = 1 << 32;
+
+const FORMED_IN_RUN: u64 = 1 << 28;
+
 /// The entries of run `k`, in section order, each with its linkage entry behind it. The shards are those of consecutive runs
 /// that make up all units of the image's file, and the links are what the references of these runs give.
 ///
@@ -21,6 +27,11 @@ use std::sync::Arc;
 /// the scope path stand before the name, joined by `::`; in Ada the name is decoded; in other languages it is as it is
 /// spelled. A linkage entry has the linkage name of a subprogram or variable, where that isn't the qualified name, and no
 /// simple name. A name that stands in the file as it is isn't copied.
+///
+/// # Errors
+///
+/// `NoMemory` where memory was refused, or where names that are put together have more bytes than 4 GiB shared among the runs, and
+/// than 256 MiB.
 pub fn run_of<'f>(
     alloc: Global,
     image: &Image<'f>,
@@ -32,8 +43,28 @@ pub fn run_of<'f>(
     requires within { k < length shards.now }
     ensures { ForLinkedRun image.now (map arc_value shards.now) (map arc_value linked.now) k (λ p ks. IfOk result (λ run. run ≡ entries_of p ks)) }
 {
+    let entries = linked[k].entries.as_slice();
+    if formed_bytes(entries) > most_formed(shards.len()) {
+        return Err(NoMemory);
+    }
     let mut names = QualifiedNames::new(alloc, image, shards)?;
-    entries_of(alloc, &mut names, linked[k].entries.as_slice())
+    entries_of(alloc, &mut names, entries)
+}
+
+// How many bytes the names of one of so many runs may have that are put together.
+fn most_formed(runs: usize) -> u64 {
+    (FORMED / (runs.max(1) as u64)).max(FORMED_IN_RUN)
+}
+
+// How many bytes the names of these entries have that are put together.
+fn formed_bytes(linked: &[LinkedEntry<'_>]) -> u64 {
+    let mut bytes: u64 = 0;
+    for entry in linked {
+        if entry.length as usize != entry.name.len() {
+            bytes = bytes.saturating_add(u64::from(entry.length));
+        }
+    }
+    bytes
 }
 
 // The entries of a run, by what the references of its indexed entries give.

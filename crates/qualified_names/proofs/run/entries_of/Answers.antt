@@ -1,5 +1,4 @@
-use Rattle.std.proofs.Common.{List, [], drop, length, refl, sym, ap, subst, ◌∙◌, arith}
-use Rattle.index_model.specs.declared.shard.LinkedEntry.{LinkedEntry}
+use Rattle.std.proofs.Common.{refl, sym, ap, subst, ◌∙◌, arith}
 use Rattle.index_model.specs.Faults.{program_of}
 use Rattle.index_model.specs.Links.{indexed_in}
 use Rattle.index_model.specs.Shards.{AreShardsOf}

@@ -34,7 +34,7 @@ entries_of-requires c =
       file = ap (λ (e : EntriesOf). program_of e.image.file) same ∙ r.is;
       shards = subst (AreShardsOf r.program) (sym (ap (λ (e : EntriesOf). e.shards) same)) r.are;
       links = e.0;
-      are = subst (λ (es : List LinkedEntry). AllZip (IsIndexed r.program) es (indexed_in e.0)) (sym c.as_slice.ensures) (run_zip c.args.image.now S L k l within li r.program r.is r.are r.links e.0 e.1);
+      are = subst (λ (es : List LinkedEntry). AllZip (IsIndexed r.program) es (indexed_in e.0)) (sym c.as_slice-entries.ensures) (run_zip c.args.image.now S L k l within li r.program r.is r.are r.links e.0 e.1);
     }
 
 pub returns : goal.returns
@@ -49,4 +49,4 @@ returns c p file h own ks is =
     let same = c.in_ok-names.ensures in
     let here = ap (λ (e : EntriesOf). program_of e.image.file) same ∙ file in
     let shards = subst (AreShardsOf p) (sym (ap (λ (e : EntriesOf). e.shards) same)) h in
-    c.entries_of.ensures p here shards ks (subst (λ (es : List LinkedEntry). AllZip (IsIndexed p) es (indexed_in ks)) (sym c.as_slice.ensures) (run_zip c.args.image.now S L k l within li p file h own ks is))
+    c.entries_of.ensures p here shards ks (subst (λ (es : List LinkedEntry). AllZip (IsIndexed p) es (indexed_in ks)) (sym c.as_slice-entries.ensures) (run_zip c.args.image.now S L k l within li p file h own ks is))
