@@ -19,8 +19,15 @@ use crate::found::FileHit;
 use crate::names::is_match;
 use crate::place::{line_place, unit_at};
 use file_image::{Image, Sections};
-use ix_base::{NoMemory, Stop};
+use ix_base::{Cursor, NoMemory, Stop};
+use reading_limit::ReadingLimit;
 use std::alloc::Global;
+
+// How many times the bytes of `.debug_abbrev` and `.debug_line`, and how many bytes beside, may be the bytes of the tables that a run
+// reads. Those of a program that a compiler and a linker made don't overlap, so it reads each byte once.
+const READINGS: u64 = 64;
+
+const READ_BESIDE: u64 = 1 << 20;
 
 /// The table that was read last: where it stands, and how many files were found before it.
 #[derive(Clone, Copy)]
@@ -111,6 +118,65 @@ impl<'n, 'f> FilesSoFar<'n, 'f> {
     }
 }
 
+// How many bytes of tables a run may read.
+fn limit_for(image: &Image<'_>) -> ReadingLimit {
+    let abbreviations = image.sections().debug_abbrev().len() as u64;
+    let lines = image.sections().get(b".debug_line").len() as u64;
+    let all = abbreviations.saturating_add(lines);
+    ReadingLimit::of(all.saturating_mul(READINGS).saturating_add(READ_BESIDE))
+}
+
+// The tables that were read last.
+#[derive(Clone, Copy)]
+struct LastRead {
+    // Where the table of abbreviations stands.
+    abbreviations: Option<u64>,
+    // Where the table of lines stands.
+    lines: Option<u64>,
+}
+
+impl<'n, 'f> FilesSoFar<'n, 'f> {
+    fn last_read(&self) -> LastRead {
+        LastRead {
+            abbreviations: match &self.at_hand {
+                Some(table) => Some(table.offset),
+                None => None,
+            },
+            lines: match self.last {
+                Some(last) => Some(last.place),
+                None => None,
+            },
+        }
+    }
+
+    // How many bytes the tables have that were read behind others.
+    fn read_behind(&self, image: &Image<'_>, before: LastRead) -> u64 {
+        let now = self.last_read();
+        let mut bytes: u64 = 0;
+        if now.abbreviations != before.abbreviations
+            && let Some(table) = &self.at_hand
+        {
+            bytes = table.abbrevs.least_bytes();
+        }
+        if now.lines != before.lines
+            && let Some(place) = now.lines
+        {
+            bytes = bytes.saturating_add(length_of_lines(image, place));
+        }
+        bytes
+    }
+}
+
+// How many bytes the table of lines at a place says that it has.
+fn length_of_lines(image: &Image<'_>, place: u64) -> u64 {
+    let lines = image.sections().get(b".debug_line");
+    let at = place.min(lines.len() as u64) as usize;
+    match Cursor::new(lines, at).initial_length() {
+        Some(initial) => initial.length,
+        None => 0,
+    }
+}
+
 /// The files with this name in the units from a number on up to another.
 pub(crate) fn hits_in_run<'f>(
     alloc: Global,
@@ -128,8 +194,13 @@ pub(crate) fn hits_in_run<'f>(
         last: None,
         at_hand: None,
     };
+    let mut to_read = limit_for(image);
     'units: for number in from..to {
+        let before = run.last_read();
         run.add_unit(alloc, image, number)?;
+        to_read
+            .take(run.read_behind(image, before))
+            .ok_or(NoMemory)?;
     }
     let FilesSoFar { hits, .. } = run;
     Ok(hits)
