@@ -74,3 +74,7 @@ size_more whole size rest h le = by h.left h.few h.small h.is
       small = let p = pow-suc 128 (suc left) in omega (arith, p);
       is = let n : length (uleb_in (suc (suc left)) rest) ≡ suc (length (uleb_in (suc left) (rest / 128))) = ap (λ (w : List ℕ). length w) (next (suc left) rest le) in omega (arith, is);
     }
+
+-- a number below 128 has one byte
+pub one_byte : (number : ℕ) → number < 128 → length (uleb_bytes number) ≡ 1
+one_byte number lt = ap (λ (w : List ℕ). length w) (last 9 number lt)

@@ -1,10 +1,11 @@
 -- The rows of the abbreviations, and the place of a row among them.
-use Rattle.std.proofs.Common.{◌≡◌, ◌≢◌, ℕ, zero, suc, ◌+◌, ◌-◌, ◌<◌, ◌≤◌, Bool, true, false, eqb, eq-eqb, List, [], ◌∷◌, ◌++◌, length, get_or, take, drop, map, Option, refl, sym, ap, ◌∙◌, subst, inl, inr, arith}
+use Rattle.std.proofs.Common.{◌≡◌, ◌≢◌, ℕ, zero, suc, ◌+◌, ◌-◌, ◌<◌, ◌≤◌, Bool, true, false, eqb, eq-eqb, List, [], ◌∷◌, ◌++◌, length, get_or, take, drop, map, Option, None, Some, refl, sym, ap, ◌∙◌, subst, inl, inr, arith}
 use mathlib.Core.Bool.{not, ◌&&◌, beq, true≢false}
 use Rattle.std.specs.Prelude.{Contains, position, unwrap_or, insert}
 use Rattle.std.specs.List.Sorted.{IsPartitionedBy, IsPartitionPoint}
 use Rattle.std.proofs.lemmas.Bool.{cases_lt, and_right}
 use Rattle.std.proofs.lemmas.List.{get_or-map, length-map, length-take-le, map-append, take-map, drop-map, get_or-take, take_more, take_all, get_or_default}
+use Rattle.std.proofs.lemmas.List.Quantifiers.{position-Some}
 use Rattle.std.proofs.lemmas.List.Elements.{Contains-get_or, Contains-push, Contains-push_cases, Contains-append_left}
 use Rattle.index_model.specs.NameIndex.{Row as IndexRow, row_lt, row_eq, rows_of, row_of}
 use Rattle.index_model.specs.Ordered.{with_item, ascending, place_of}
@@ -115,6 +116,14 @@ module _ (rows : List Row) (row : Row) (p : ℕ) (within : p ≤ length rows) (p
     where
       front : (k : ℕ) (d : IndexRow) → k < p → row_lt (get_or (take p (map row_seen rows)) k d) (row_seen row) ≡ true
       front k d lt = rw (get_or-take p (map row_seen rows) k d lt) (before k d lt)
+
+-- a row's place is at most behind all
+pub place_low : (row : IndexRow) (xs : List IndexRow) → place_of row_eq row xs ≤ length xs
+place_low row xs = by (position (row_eq row) xs) refl
+  where
+    by : (o : Option ℕ) → position (row_eq row) xs ≡ o → unwrap_or o 0 ≤ length xs
+    by None e = omega arith
+    by (Some i) e = let p = position-Some (row_eq row) xs i row e in omega (arith, p.0)
 
 -- the rows are partitioned by a row
 pub row_parts : (rows : List Row) (row : Row) → Rises row_lt (map row_seen rows) → IsPartitionedBy (λ r. row_lt (row_seen r) (row_seen row)) rows

@@ -2,7 +2,7 @@
 
 ghost use Rattle.std.specs.Prelude.{◌≡◌, ◌+◌, ◌≤◌, ◌<◌, ◌++◌, true, false, length, map, Contains, IsTrue, IfOk, OnOk};
 ghost use Rattle.std.specs.List.Sorted.{IsPartitionPoint};
-ghost use Rattle.index_model.specs.NameIndex.{rows_of, row_lt, row_eq, abbreviation_table, abbreviation_bytes};
+ghost use Rattle.index_model.specs.NameIndex.{rows_of, row_lt, row_eq, abbreviation_table, abbreviation_bytes, uleb_bytes};
 ghost use Rattle.index_model.specs.Ordered.{place_of};
 ghost use Rattle.debugnames_write.specs.Answers.{Answers};
 ghost use Rattle.index_model.specs.Order.{Rises, Adds};
@@ -27,6 +27,9 @@ const DIE_OFFSET: u8 = 3;
 const UDATA: u8 = 0x0F;
 
 const REF4: u8 = 0x13;
+
+// Codes below this have one byte (DWARF 5, section 7.6).
+const LEAST_OF_TWO_BYTES: usize = 128;
 
 // The bytes of an abbreviation behind its code and its tag.
 const ATTRIBUTES_SIZE: u64 = 6;
@@ -72,6 +75,20 @@ impl Abbreviations {
         ensures { result ≡ place_of row_eq (row_seen row) self.now + 1 }
     {
         place_of(&self.rows, row) as u64 + 1
+    }
+
+    /// In how many bytes the code of the abbreviation of a row is written. Few abbreviations have codes of one byte, and then it
+    /// isn't looked up.
+    pub fn code_size(&self, row: Row) -> u64
+        requires { Contains self.now (row_seen row) }
+        ensures size { result ≡ length (uleb_bytes (place_of row_eq (row_seen row) self.now + 1)) }
+        ensures few { result ≤ 10 }
+    {
+        if self.rows.len() + 1 < LEAST_OF_TWO_BYTES {
+            1
+        } else {
+            uleb_size(self.code(row))
+        }
     }
 
     /// How many bytes the abbreviations and the zero behind them have.

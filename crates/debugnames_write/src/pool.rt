@@ -106,8 +106,8 @@ fn group_size(abbreviations: &Abbreviations, items: &[IndexEntry<'_>]) -> u64
 {
     let mut size: u64 = 1;
     for item in items {
-        let code = abbreviations.code(item.row);
-        let more = uleb_size(code) + uleb_size(u64::from(item.unit)) + 4;
+        let code = abbreviations.code_size(item.row);
+        let more = code + uleb_size(u64::from(item.unit)) + 4;
         size = size.saturating_add(more);
     }
     size

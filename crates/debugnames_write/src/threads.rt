@@ -2,6 +2,8 @@
 
 ghost use Rattle.std.specs.Prelude.{◌<◌};
 
+use std::thread::{Threads, join};
+
 // Fewer items aren't worth a thread.
 const LEAST: usize = 8192;
 
@@ -16,5 +18,23 @@ pub(crate) fn threads_for(halvings: u32, items: usize) -> usize
         1
     } else {
         1 << halvings.min(MOST_HALVINGS)
+    }
+}
+
+/// What two closures give. Where work is halved for threads, the first is called on a thread of its own if one can be started.
+pub(crate) fn both<R: Threads, F: FnOnce() -> A + Send, G: FnOnce() -> B, A: Send, B>(
+    rt: &R,
+    halvings: u32,
+    first: F,
+    second: G,
+) -> (A, B)
+    requires { F.pre first × G.pre second }
+    ensures first { F.post first result.0 }
+    ensures second { G.post second result.1 }
+{
+    if halvings == 0 {
+        (first(), second())
+    } else {
+        join(rt, first, second)
     }
 }

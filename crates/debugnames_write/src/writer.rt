@@ -1,11 +1,16 @@
 //! The call that writes an index.
 
-ghost use Rattle.std.specs.Prelude.{◌≡◌, ◌<◌, ◌≤◌, length, All, IfOk, IfErr, OnOk};
+ghost use Rattle.std.specs.Prelude.{◌≡◌, ◌<◌, ◌≤◌, length, flat_map, All, IfOk, IfErr, OnOk};
+ghost use Rattle.std.specs.Thread.{IsSync};
 ghost use Rattle.index_model.specs.declared.entry.Entry.{Entry};
 ghost use Rattle.index_model.specs.NameIndex.{name_index_bytes, name_index_strings};
+ghost use Rattle.index_model.specs.Layout.{ended};
+ghost use Rattle.debugnames_write.specs.Answers.{Answers};
 ghost use Rattle.debugnames_write.specs.Conditions.{AreIndexable, Fits};
-ghost use Rattle.debugnames_write.specs.Groups.{AreSorted};
+ghost use Rattle.debugnames_write.specs.Groups.{AreSorted, group_names};
+ghost use Rattle.debugnames_write.specs.Laid.{laid_out};
 ghost use Rattle.debugnames_write.specs.Made.{AreMadeOf};
+ghost use Rattle.debugnames_write.specs.Names.{HaveBuckets, HaveRows};
 ghost use Rattle.debugnames_write.specs.Units.{ArePlacesOf};
 ghost use Rattle.debugnames_write.specs.declared.writer.WriteStop.TheVariants as stops;
 
@@ -13,8 +18,9 @@ use crate::abbreviations::Abbreviations;
 use crate::groups::groups_of;
 use crate::index::index_bytes;
 use crate::item::{IndexEntry, sorted_items};
-use crate::name::sorted_names;
+use crate::name::{Name, sorted_names};
 use crate::strings::strings_of;
+use crate::threads::both;
 use crate::units::UnitPlaces;
 use index_model::{List, Unit};
 use ix_base::NoMemory;
@@ -125,18 +131,18 @@ fn name_bytes<R: Threads + Sync>(
 {
     let groups = groups_of(rt, alloc, halvings, items)?;
     let named = sorted_names(rt, alloc, halvings, &groups, old_strings)?;
-    let names = index_bytes(
-        rt,
-        alloc,
-        halvings,
-        units,
-        places,
-        abbreviations,
-        &named.names,
-    )?;
-    let strings = strings_of(alloc, &groups, (named.strings_end - old_strings) as usize)?;
+    let sorted: &[Name<'_>] = &named.names;
+    let size = (named.strings_end - old_strings) as usize;
+    let strings = || -> Result<Vec<u8>, AllocError>
+        ensures { IfOk result (λ v. v.items ≡ flat_map ended (group_names groups.entry.items)) }
+    { strings_of(alloc, &groups, size) };
+    let names = || -> Result<Vec<u8>, WriteStop>
+        requires { IsSync R.row × (length units.now ≤ 16777215) × All (λ u. u.start < 4294967296) units.now × ArePlacesOf units.now places.now × (length sorted.now < 4294967296) × HaveBuckets sorted.now × All (λ n. HaveRows abbreviations.now n.items.now) sorted.now }
+        ensures { Answers result (λ v. (v.items ≡ laid_out units.entry.now abbreviations.entry.now sorted.entry.now) × (length v.items ≤ 4294967283)) (4294967283 < length (laid_out units.entry.now abbreviations.entry.now sorted.entry.now)) }
+    { index_bytes(rt, alloc, halvings, units, places, abbreviations, sorted) };
+    let (strings, names) = both(rt, halvings, strings, names);
     Ok(NameBytes {
-        names: List::of(names),
-        strings: List::of(strings),
+        names: List::of(names?),
+        strings: List::of(strings?),
     })
 }

@@ -1,7 +1,5 @@
-use Rattle.std.proofs.Common.{length, ap, ◌∙◌, arith}
-use Rattle.std.specs.Prelude.{flat_map}
-use Rattle.index_model.specs.Layout.{ended}
-use Rattle.debugnames_write.specs.Groups.{group_names}
+use Rattle.std.proofs.Common.{rules, ◌<◌, length, ap, ◌∙◌, arith, All}
+use Rattle.debugnames_write.specs.Names.{HaveBuckets, HaveRows}
 use Rattle.debugnames_write.proofs.Stops.{stopped_large}
 use Rattle.debugnames_write.proofs.Written.{strings_rise, strings_stop, strings_added, names_few, names_buckets, names_rows, index_is, index_stop, index_fits}
 use Rattle.debugnames_write.proofs.writer.name_bytes.Goals as goal
@@ -17,46 +15,36 @@ returns-in_err-named-clause-too_large g c = λ entries made.
     let stop = rw c.deref.ensures.value at c.in_err-named.ensures in
     stopped_large c.from_residual-in_err-named.result c.in_err-named.field-0.0 c.from_residual-in_err-named.ensures.1 stop (λ pass. strings_stop c.args.units.now c.args.old_strings entries made.in_order c.args.items.now c.in_ok-groups.groups.items made.all made.same c.in_ok-groups.ensures pass)
 
-pub index_bytes-requires-clause-few : goal.index_bytes-requires-clause-few
-index_bytes-requires-clause-few g c κs within =
+pub both-strings-requires-after_bounds : goal.both-strings-requires-after_bounds
+both-strings-requires-after_bounds g c κs within =
     let entries = c.requires.made.0 in
     let made = c.requires.made.1 in
     let n = rw c.deref.ensures.value at c.in_ok-named.ensures in
-    rw c.deref-2.ensures.value (names_few c.args.units.now c.args.old_strings entries made.in_order c.args.items.now c.in_ok-groups.groups.items made.all made.same c.in_ok-groups.ensures n.made n.made_are c.in_ok-named.named.names.items n.moved n.in_order)
-
-pub index_bytes-requires-clause-buckets : goal.index_bytes-requires-clause-buckets
-index_bytes-requires-clause-buckets g c κs within =
-    let entries = c.requires.made.0 in
-    let made = c.requires.made.1 in
-    let n = rw c.deref.ensures.value at c.in_ok-named.ensures in
-    rw c.deref-2.ensures.value (names_buckets c.args.units.now c.args.old_strings entries made.in_order c.args.items.now c.in_ok-groups.groups.items made.all made.same c.in_ok-groups.ensures n.made n.made_are c.in_ok-named.named.names.items n.moved n.in_order)
-
-pub index_bytes-requires-clause-rows : goal.index_bytes-requires-clause-rows
-index_bytes-requires-clause-rows g c κs within =
-    let entries = c.requires.made.0 in
-    let made = c.requires.made.1 in
-    let n = rw c.deref.ensures.value at c.in_ok-named.ensures in
-    rw c.deref-2.ensures.value (names_rows c.args.units.now c.args.old_strings entries made.in_order c.args.items.now c.in_ok-groups.groups.items made.all made.same c.in_ok-groups.ensures n.made n.made_are c.in_ok-named.named.names.items n.moved n.in_order c.args.abbreviations.now made.rows_are)
+    let few : length c.deref-sorted.result.now < 4294967296 = rw c.deref-sorted.ensures.value (names_few c.args.units.now c.args.old_strings entries made.in_order c.args.items.now c.in_ok-groups.groups.items made.all made.same c.in_ok-groups.ensures n.made n.made_are c.in_ok-named.named.names.items n.moved n.in_order) in
+    let buckets : HaveBuckets c.deref-sorted.result.now = rw c.deref-sorted.ensures.value (names_buckets c.args.units.now c.args.old_strings entries made.in_order c.args.items.now c.in_ok-groups.groups.items made.all made.same c.in_ok-groups.ensures n.made n.made_are c.in_ok-named.named.names.items n.moved n.in_order) in
+    let rows : All (λ n. HaveRows c.args.abbreviations.now n.items.now) c.deref-sorted.result.now = rw c.deref-sorted.ensures.value (names_rows c.args.units.now c.args.old_strings entries made.in_order c.args.items.now c.in_ok-groups.groups.items made.all made.same c.in_ok-groups.ensures n.made n.made_are c.in_ok-named.named.names.items n.moved n.in_order c.args.abbreviations.now made.rows_are) in
+    (tt, ((search rules, c.requires.units, c.requires.starts, c.requires.places, few, buckets, rows), search rules))
 
 pub returns-in_err-names-clause-too_large : goal.returns-in_err-names-clause-too_large
 returns-in_err-names-clause-too_large g c = λ entries made.
     let n = rw c.deref.ensures.value at c.in_ok-named.ensures in
-    let stop = rw c.deref-2.ensures.value at c.in_err-names.ensures in
+    let stop = rw c.deref-sorted.ensures.value at (rw c.in_err-names.was at c.both-strings.ensures.second) in
     stopped_large c.from_residual-in_err-names.result c.in_err-names.field-0.0 c.from_residual-in_err-names.ensures.1 stop (λ pass. index_stop c.args.units.now c.args.old_strings entries made.in_order c.args.items.now c.in_ok-groups.groups.items made.all made.same c.in_ok-groups.ensures n.made n.made_are c.in_ok-named.named.names.items n.moved n.in_order c.args.abbreviations.now made.rows_are pass)
 
 pub returns-clause-names : goal.returns-clause-names
 returns-clause-names g c = λ entries made.
     let n = rw c.deref.ensures.value at c.in_ok-named.ensures in
-    let written = rw c.deref-2.ensures.value at c.in_ok-names.ensures.0 in
-    c.of.ensures ∙ written ∙ index_is c.args.units.now c.args.old_strings entries made.in_order c.args.items.now c.in_ok-groups.groups.items made.all made.same c.in_ok-groups.ensures n.made n.made_are c.in_ok-named.named.names.items n.moved n.in_order c.args.abbreviations.now made.rows_are
+    let written = rw c.deref-sorted.ensures.value at (rw c.in_ok-names.was at c.both-strings.ensures.second) in
+    c.of.ensures ∙ written.0 ∙ index_is c.args.units.now c.args.old_strings entries made.in_order c.args.items.now c.in_ok-groups.groups.items made.all made.same c.in_ok-groups.ensures n.made n.made_are c.in_ok-named.named.names.items n.moved n.in_order c.args.abbreviations.now made.rows_are
 
 pub returns-clause-strings : goal.returns-clause-strings
 returns-clause-strings g c = λ entries made.
-    c.of-2.ensures ∙ c.in_ok-strings.ensures ∙ ap (λ w. flat_map ended (group_names w)) c.deref-3.ensures.value ∙ strings_added c.args.units.now c.args.old_strings entries made.in_order c.args.items.now c.in_ok-groups.groups.items made.all made.same c.in_ok-groups.ensures
+    let strings = rw c.in_ok-strings.was at c.both-strings.ensures.first in
+    c.of-2.ensures ∙ strings ∙ strings_added c.args.units.now c.args.old_strings entries made.in_order c.args.items.now c.in_ok-groups.groups.items made.all made.same c.in_ok-groups.ensures
 
 pub returns-clause-fits : goal.returns-clause-fits
 returns-clause-fits g c = λ entries made.
     let n = rw c.deref.ensures.value at c.in_ok-named.ensures in
-    let written = rw c.deref-2.ensures.value at c.in_ok-names.ensures.0 in
-    let long = ap (λ w. length w) written in
-    index_fits c.args.units.now c.args.old_strings entries made.in_order c.args.items.now c.in_ok-groups.groups.items made.all made.same c.in_ok-groups.ensures n.made n.made_are c.in_ok-named.named.names.items n.moved n.in_order c.args.abbreviations.now made.rows_are (omega (arith, long, c.in_ok-names.ensures.1))
+    let written = rw c.deref-sorted.ensures.value at (rw c.in_ok-names.was at c.both-strings.ensures.second) in
+    let long = ap (λ w. length w) written.0 in
+    index_fits c.args.units.now c.args.old_strings entries made.in_order c.args.items.now c.in_ok-groups.groups.items made.all made.same c.in_ok-groups.ensures n.made n.made_are c.in_ok-named.named.names.items n.moved n.in_order c.args.abbreviations.now made.rows_are (omega (arith, long, written.1))
