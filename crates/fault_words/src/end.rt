@@ -34,7 +34,7 @@ pub static ENDS: [StatusText; 15] = ends! {
     4 Stored "can't be stored" "see that its folder is there, that you may write it, and that the disk has room";
     5 Nothing "standard output can't be written" "see that the disk has room and that nobody closed the pipe";
     6 Nothing "standard input can't be read" "see what it is connected to";
-    7 Nothing "out of memory" "programs that were measured took 4 to 6 times the length of .debug_info; the replies of race have 1 GiB";
+    7 Nothing "out of memory" "programs that were measured took 4 to 6 times the length of .debug_info; the replies of race have 1 GiB, and so do texts that entries share";
     8 Read "the index is refused" "make the index again with gdbix index";
     9 Nothing "the index is too large for its format" "no remedy: an index has at most 4 GiB";
     10 Read "too big: a file has at most 1,073,741,824 bytes, a script 1,048,576" "strip what isn't debug information with objcopy --only-keep-debug";
