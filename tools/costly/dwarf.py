@@ -56,6 +56,27 @@ def program(info, table, **more):
     return pack(parts + [(b"." + name.encode(), data) for name, data in more.items()])[0]
 
 
+def with_sections(data, count, name):
+    """The program with so many more empty sections, all of one name (gABI, chapter 4, "Sections")."""
+    at, = struct.unpack_from("<Q", data, 40)
+    number, index = struct.unpack_from("<HH", data, 60)
+    headers = bytearray(data[at:at + 64 * number])
+    names_at, size = struct.unpack_from("<QQ", headers, 64 * index + 24)
+    names = data[names_at:names_at + size] + name + b"\0"
+    struct.pack_into("<QQ", headers, 64 * index + 24, len(data), len(names))
+    headers += struct.pack("<IIQQQQIIQQ", size, 1, 0, 0, 0, 0, 0, 0, 1, 0) * count
+    number += count
+    if number >= 0xFF00:
+        # The size and the link of section 0 tell what the header has no room for.
+        struct.pack_into("<Q", headers, 32, number)
+        struct.pack_into("<I", headers, 40, index)
+        number, index = 0, 0xFFFF
+    file = bytearray(data + names + headers)
+    struct.pack_into("<Q", file, 40, len(data) + len(names))
+    struct.pack_into("<HH", file, 60, number, index)
+    return bytes(file)
+
+
 def reference(code, target):
     """An entry of one reference."""
     return uleb(code) + struct.pack("<I", target)
