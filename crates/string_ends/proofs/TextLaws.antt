@@ -77,6 +77,13 @@ front_is m rest text s e f =
     let there : Some s ≡ Some text = sym whole ∙ ap before_zero (take-append-drop m rest) ∙ e in
     cc
 
+-- what ends in the front ends
+pub no_front : (m : ℕ) (rest s : List ℕ) → before_zero rest ≡ None → text_in (take m rest) 0 ≡ Some s → ⊥
+no_front m rest s e f =
+    let whole : before_zero (take m rest ++ drop m rest) ≡ Some s = before_stays (drop m rest) (take m rest) s (sym (at_front (take m rest)) ∙ f) in
+    let clash : None ≡ Some s = sym e ∙ sym (ap before_zero (take-append-drop m rest)) ∙ whole in
+    absurd (cc)
+
 -- a string that has no end there is longer than the name
 pub front_isnt : (m : ℕ) (rest text name : List ℕ) → m ≡ min (length rest) (length name + 1) → before_zero rest ≡ Some text → text_in (take m rest) 0 ≡ None → bytes_eq text name ≡ false
 front_isnt m rest text name most e f = by (bytes_eq text name) refl

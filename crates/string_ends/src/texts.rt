@@ -1,6 +1,6 @@
 //! The strings of names, told apart without a search for the end of each: many may be ends of one long text.
 
-ghost use Rattle.std.specs.Prelude.{◌≡◌, Some, List, ℕ, bytes_eq, option_map};
+ghost use Rattle.std.specs.Prelude.{◌≡◌, false, None, Some, List, ℕ, bytes_eq, option_map};
 ghost use Rattle.ix_base.specs.Reading.{before_zero};
 ghost use Rattle.string_ends.specs.Texts.{text_in, IsLastEnd};
 
@@ -27,9 +27,11 @@ pub fn last_end(strings: &[u8]) -> usize
     end
 }
 
-/// Whether the string at the front of these bytes is a name. No more of them is read than the name has, and its zero.
+/// Whether the string at the front of these bytes is a name. No more of them is read than the name has, and its zero. Where no zero
+/// follows it is none.
 pub fn is_text(rest: &[u8], name: &[u8]) -> bool
-    ensures { (text : List ℕ) → before_zero rest.now ≡ Some text → result ≡ bytes_eq text name.now }
+    ensures text { (text : List ℕ) → before_zero rest.now ≡ Some text → result ≡ bytes_eq text name.now }
+    ensures none { before_zero rest.now ≡ None → result ≡ false }
 {
     let most = rest.len().min(name.len() + 1);
     match text_at(&rest[..most], 0) {
