@@ -12,10 +12,10 @@ use Rattle.std.proofs.lemmas.Nat.{mod_below, mul-mod_first}
 use Rattle.std.proofs.lemmas.Slice.Eq.{bytes_eq-Decides}
 use Rattle.std.proofs.Math.Nat.{mod-add-mod}
 use Rattle.index_model.specs.Hashes.{gdb_hash, odd, slot_on_path}
-use Rattle.index_model.specs.GdbIndexRead.{Slot, is_other, is_table_size}
+use Rattle.index_model.specs.GdbIndexRead.{Slot, is_other, is_table_size, slot_or_none}
 use Rattle.index_model.specs.GdbPath.{path_end}
 use Rattle.gdbindex_read.specs.declared.homes.PathStart.{PathStart}
-use Rattle.gdbindex_read.specs.Homes.{AreFound, AreHomes, IsHome}
+use Rattle.gdbindex_read.specs.Homes.{AreFound, AreHomes, IsHome, IsPrintAt}
 use Rattle.gdbindex_read.specs.Slots.{is_found_from, is_reached}
 use Rattle.gdbindex_read.proofs.Loops.{found_from, found_from_all, found_from_here, found_from_more}
 use Rattle.gdbindex_read.proofs.Paths.{ends, is_found_there, path_end_is}
@@ -123,3 +123,19 @@ homes_more slots homes new n size each last k h is = elim (cases_lt k n) as (λ 
         let more : n < k = grind (arith, nat_tests) in
         let clash : None ≡ Some h = sym (get_or_past (homes ++ new ∷ []) k None (omega (arith, length_push homes new, size, more))) ∙ is in
         absurd cc
+
+-- a slot whose print is another than that of a name has another name
+pub told_other : (slots : List (Option Slot)) (k print : ℕ) (name : List ℕ) → IsPrintAt slots k print → (print ≡ print_of name → ⊥) → is_other name (slot_or_none slots k) ≡ true
+told_other slots k print name (slot, there, is) ne = ap (is_other name) there ∙ by (bytes_eq slot.name name) refl
+  where
+    by : (b : Bool) → bytes_eq slot.name name ≡ b → not (bytes_eq slot.name name) ≡ true
+    by false e = ap not e
+    by true e = absurd (ne (is ∙ ap print_of ((bytes_eq-Decides slot.name name).0 e)))
+
+-- the print at the place of a slot is that of its name
+pub own_print : (slots : List (Option Slot)) (k : ℕ) (print : Option ℕ) → IfSome print (IsPrintAt slots k) → (slot : Slot) (name : List ℕ) → slot_or_none slots k ≡ Some slot → name ≡ slot.name → IfSome print (λ p. p ≡ print_of name)
+own_print slots k None is slot text there named = record {}
+own_print slots k (Some p) (other, at, is) slot text there named =
+    let both : Some other ≡ Some slot = sym at ∙ there in
+    let same : other ≡ slot = cc in
+    is ∙ ap (λ (s : Slot). print_of s.name) same ∙ ap print_of (sym named)

@@ -18,6 +18,14 @@ pub record AreHomes (slots : List (Option FullSlot)) (homes : List (Option PathS
   pub size : length homes ≡ length slots
   pub each : (k : ℕ) (h : PathStart) → slice_index_or homes k None ≡ Some h → IsHome slots k h
 
+-- the homes of some slots
+abbrev pub AreHomesOf : List (Option FullSlot) → List (Option PathStart) → Type 0
+AreHomesOf slots homes = (k : ℕ) (h : PathStart) → slice_index_or homes k None ≡ Some h → IsHome slots k h
+
+-- the slot at a place isn't empty, and this is the print of its name
+abbrev pub IsPrintAt : List (Option FullSlot) → ℕ → ℕ → Type 0
+IsPrintAt slots k print = (slot : FullSlot) × (slot_or_none slots k ≡ Some slot) × (print ≡ print_of slot.name)
+
 -- the slots at these places are found by their names
 abbrev pub AreFound : List (Option FullSlot) → List Bool → Type 0
 AreFound slots found = (k : ℕ) → slice_index_or found k false ≡ true → is_reached slots k ≡ true

@@ -1,27 +1,21 @@
 //! The whole index, and its look-ups.
 
-ghost use Rattle.std.specs.Prelude.{◌≡◌, ◌<◌, ◌^◌, List, ℕ, length, option_map};
+ghost use Rattle.std.specs.Prelude.{◌≡◌, option_map};
 ghost use Rattle.index_model.specs.GdbIndexRead.{gdb_index, gdb_index_hits, main_name, number_at};
-ghost use Rattle.index_model.specs.Gives.{GivesAlways};
+ghost use Rattle.index_model.specs.Gives.{Gives, GivesAlways};
 ghost use Rattle.index_model.specs.Seen.{main_seen};
-ghost use Rattle.gdbindex_read.specs.Areas.{AreAreasOf, HasShortcut};
 
-use crate::addresses::AddressArea;
-use crate::areas::Areas;
 use crate::elements::Elements;
-use crate::shortcut::Shortcut;
-use crate::symbols::SymbolTable;
+use crate::parts::Parts;
 use index_model::MainName;
-use ix_base::Fault;
+use ix_base::{Fault, Stop};
 use std::alloc::Global;
 use std::marker::Model;
 
 /// A `.gdb_index` without a fault. It borrows the bytes, and contracts see what they mean.
 #[derive(Drop)]
 pub struct GdbIndex<'a> {
-    addresses: AddressArea<'a>,
-    symbols: SymbolTable<'a>,
-    main: Option<Shortcut<'a>>,
+    parts: Parts<'a>,
 }
 
 impl<'a> Model for GdbIndex<'a> {
@@ -41,32 +35,25 @@ impl<'a> GdbIndex<'a> {
     ///
     /// Whatever the bytes are, no part of the constant pool is read again for each slot that has it: strings that are ends of one
     /// text are hashed in one pass, vectors that many slots share or that begin inside one another are read once, and slots whose
-    /// names share a path are found in one walk along it. So this costs n log n. It takes memory in proportion to the bytes; where
-    /// none is left the answer is the same, but such names, vectors and paths are gone over one by one.
+    /// names share a path are found in one walk along it. So all but the paths cost n log n, and so do they as far as slots are empty: in a
+    /// table that is full each name may lead past all others, which `open_limited` ends. It takes memory in proportion to the bytes;
+    /// where none is left the answer is the same, but such names, vectors and paths are gone over one by one.
     pub fn open(alloc: Global, bytes: &'a [u8]) -> Result<GdbIndex<'a>, Fault>
         ensures { GivesAlways (λ i. i) result (gdb_index bytes.now) }
     {
-        let areas = Areas::open(bytes)?;
-        areas.check_units()?;
-        GdbIndex::of(alloc, &areas)
+        let parts = Parts::open(alloc, bytes)?;
+        parts.symbols.check_paths(alloc)?;
+        Ok(GdbIndex { parts })
     }
 
-    // The index in areas whose lists of units are whole.
-    fn of(alloc: Global, areas: &Areas<'a>) -> Result<GdbIndex<'a>, Fault>
-        requires made { (section : List ℕ) × AreAreasOf section areas.now }
-        requires small { length areas.now.table.bytes.now < 2 ^ 32 }
-        requires shortcut { HasShortcut areas.now }
-        ensures { (section : List ℕ) → AreAreasOf section areas.now → GivesAlways (λ i. i) result (gdb_index section) }
+    /// The same, or `Stop::Memory` where more bytes would be gone over along the paths of names than 16 for each of the symbol table,
+    /// and 64 MiB.
+    pub fn open_limited(alloc: Global, bytes: &'a [u8]) -> Result<GdbIndex<'a>, Stop>
+        ensures { Gives (λ i. i) result (gdb_index bytes.now) }
     {
-        let addresses = AddressArea::open(areas)?;
-        let symbols = SymbolTable::open(alloc, areas)?;
-        let main = Shortcut::open(areas)?;
-        symbols.check_paths(alloc)?;
-        Ok(GdbIndex {
-            addresses,
-            symbols,
-            main,
-        })
+        let parts = Parts::open(alloc, bytes)?;
+        parts.symbols.check_short_paths(alloc)??;
+        Ok(GdbIndex { parts })
     }
 
     /// The elements of a name: those of each slot that isn't empty and whose string is the name, in the order of the table.
@@ -74,7 +61,7 @@ impl<'a> GdbIndex<'a> {
     pub fn find(&self, name: &[u8]) -> Elements<'a>
         ensures { result ≡ gdb_index_hits self.now name.now }
     {
-        self.symbols.find(name)
+        self.parts.symbols.find(name)
     }
 
     /// The index number of the unit of the first address entry that contains the address. An entry doesn't contain its end.
@@ -82,14 +69,14 @@ impl<'a> GdbIndex<'a> {
     pub fn unit_at(&self, address: u64) -> Option<u32>
         ensures { result ≡ number_at self.now address }
     {
-        self.addresses.unit_at(address)
+        self.parts.addresses.unit_at(address)
     }
 
     /// The language of main and its name, where the index has them and the language fits in 16 bits.
     pub fn main_name(&self) -> Option<MainName<'a>>
         ensures { option_map main_seen result ≡ main_name self.now }
     {
-        let main = self.main?;
+        let main = self.parts.main?;
         if main.language > u32::from(u16::MAX) {
             return None;
         }

@@ -19,6 +19,7 @@ mod elements;
 mod header;
 mod homes;
 mod index;
+mod parts;
 mod path;
 mod runs;
 mod shortcut;

@@ -1,13 +1,15 @@
 //! The symbol table: which elements a name has.
 
-ghost use Rattle.std.specs.Prelude.{◌≡◌, ◌<◌, ◌^◌, true, length, IfOk, IfSome};
+ghost use Rattle.std.specs.Prelude.{◌≡◌, ◌<◌, ◌^◌, ℕ, true, bytes_eq, length, IfOk, IfSome, Some};
 ghost use Rattle.std.specs.List.{enumerate_from};
 ghost use Rattle.index_model.specs.GdbIndexRead.{is_other, is_table_size, reached, slot_or_none};
+ghost use Rattle.index_model.specs.declared.index_code.TheConstants.{GDB_LOST_SLOT as LOST_SLOT};
 ghost use Rattle.index_model.specs.GdbPath.{elements_at, path_end};
 ghost use Rattle.index_model.specs.Gives.{GivesAlways};
 ghost use Rattle.index_model.specs.Meaning.{each, wrong_in};
 ghost use Rattle.gdbindex_read.specs.Areas.{areas_seen, item};
-ghost use Rattle.gdbindex_read.specs.Homes.{AreFound};
+ghost use Rattle.gdbindex_read.specs.Homes.{AreFound, AreHomesOf};
+ghost use Rattle.string_ends.specs.Tails.{print_of};
 ghost use Rattle.gdbindex_read.specs.Slots.{checked_slots, elements_in, is_reached, name_in, slot_count, slot_in, slots_seen, table_of};
 
 use crate::area::{Area, fault};
@@ -17,8 +19,16 @@ use crate::path::Path;
 use crate::slots::{SLOT_LENGTH, Slot, check_size, check_slots, string_at};
 use crate::walks::FoundSlots;
 use index_model::index_code::GDB_LOST_SLOT;
-use ix_base::Fault;
+use ix_base::{Fault, NoMemory};
+use reading_limit::ReadingLimit;
 use std::alloc::Global;
+use string_ends::is_text;
+
+// How many bytes may be gone over along paths: so many for each byte of the table, and so many beside. Slots that are all full may be
+// passed by each name.
+const PASSED_PER_BYTE: u64 = 16;
+
+const PASSED_BESIDE: u64 = 1 << 26;
 
 /// The symbol table of an index, and the constant pool that its slots lead to.
 #[derive(Clone, Copy)]
@@ -51,14 +61,57 @@ impl<'a> SymbolTable<'a> {
         requires few { slot_count self.now < 2 ^ 32 }
         ensures { wrong_in result ≡ wrong_in (each (reached (slots_seen self.now)) (enumerate_from 0 (slots_seen self.now))) }
     {
-        let found = FoundSlots::of(alloc, self);
+        match self.check_short_paths(alloc) {
+            Ok(checked) => checked,
+            Err(NoMemory) => self.check_each_path(),
+        }
+    }
+
+    /// The same, as long as no more bytes are gone over along paths than 16 for each of the table, and 64 MiB.
+    pub fn check_short_paths(&self, alloc: Global) -> Result<Result<(), Fault>, NoMemory>
+        requires size { is_table_size (slot_count self.now) ≡ true }
+        requires few { slot_count self.now < 2 ^ 32 }
+        ensures { IfOk result (λ checked. wrong_in checked ≡ wrong_in (each (reached (slots_seen self.now)) (enumerate_from 0 (slots_seen self.now)))) }
+    {
+        let mut limit = self.path_limit();
+        let found = FoundSlots::of(alloc, self, &mut limit);
         let count = self.len();
         for place in 0..count {
-            if !self.is_found(&found, place) {
-                return Err(fault(GDB_LOST_SLOT, self.table.at + SLOT_LENGTH * place));
+            let is_found = self.is_found(&found, place, &mut limit)?;
+            if !is_found {
+                return Ok(Err(self.lost(place)));
+            }
+        }
+        Ok(Ok(()))
+    }
+
+    // The same, slot by slot and however long the paths are.
+    fn check_each_path(&self) -> Result<(), Fault>
+        requires size { is_table_size (slot_count self.now) ≡ true }
+        ensures { wrong_in result ≡ wrong_in (each (reached (slots_seen self.now)) (enumerate_from 0 (slots_seen self.now))) }
+    {
+        let count = self.len();
+        for place in 0..count {
+            if !self.is_reached(place) {
+                return Err(self.lost(place));
             }
         }
         Ok(())
+    }
+
+    // The fault of a slot that isn't found by its name.
+    fn lost(&self, place: usize) -> Fault
+        requires { place < slot_count self.now }
+        ensures { result ≡ record { code = LOST_SLOT; at = (item 8 (table_of self.now) place).at } }
+    {
+        fault(GDB_LOST_SLOT, self.table.at + SLOT_LENGTH * place)
+    }
+
+    // How many bytes may be gone over along paths.
+    fn path_limit(&self) -> ReadingLimit {
+        let mut limit = ReadingLimit::of(PASSED_BESIDE);
+        limit.widen((self.table.bytes.len() as u64).saturating_mul(PASSED_PER_BYTE));
+        limit
     }
 
     /// The elements of a name. Where each slot is found by its name, no slot behind the end of the path has it.
@@ -112,9 +165,22 @@ impl<'a> SymbolTable<'a> {
         ensures { result ≡ is_other name.now (slot_or_none (slots_seen self.now) place) }
     {
         match self.slot(place) {
-            Some(slot) => self.name(slot) != name,
+            Some(slot) => !self.has_name(slot, name),
             None => false,
         }
+    }
+
+    // Whether this is the name of a slot. Its end isn't sought: many names may be ends of one long text.
+    fn has_name(&self, slot: Slot, name: &[u8]) -> bool
+        ensures { result ≡ bytes_eq (name_in self.now.pool.now slot.name) name.now }
+    {
+        if name.is_empty() {
+            return self.name(slot).is_empty();
+        }
+        let Some(rest) = self.pool.get(slot.name as usize..) else {
+            return false;
+        };
+        is_text(rest, name)
     }
 
     // Where the path of a name ends: at the first slot that is empty or has the name.
@@ -137,13 +203,75 @@ impl<'a> SymbolTable<'a> {
     }
 
     // Whether the path of its name leads to the slot at a place, if it isn't empty. That needn't be asked of those that were found.
-    fn is_found(&self, found: &FoundSlots, place: usize) -> bool
+    fn is_found(
+        &self,
+        found: &FoundSlots,
+        place: usize,
+        limit: &mut ReadingLimit,
+    ) -> Result<bool, NoMemory>
         requires size { is_table_size (slot_count self.now) ≡ true }
         requires place { place < slot_count self.now }
         requires found { AreFound (slots_seen self.now) found.now.places.items }
-        ensures { result ≡ is_reached (slots_seen self.now) place }
+        requires homes { AreHomesOf (slots_seen self.now) found.now.homes.items }
+        ensures { IfOk result (λ is. is ≡ is_reached (slots_seen self.now) place) }
     {
-        found.has(place) || self.is_reached(place)
+        if found.has(place) {
+            return Ok(true);
+        }
+        let Some(slot) = self.slot(place) else {
+            return Ok(true);
+        };
+        let end = self.short_path_end(found, self.name(slot), found.print(place), limit)?;
+        Ok(end == Some(place))
+    }
+
+    // Where the path of a name ends, as long as no more bytes are gone over than a limit allows. Its print is told, if it is known.
+    fn short_path_end(
+        &self,
+        found: &FoundSlots,
+        name: &[u8],
+        print: Option<u64>,
+        limit: &mut ReadingLimit,
+    ) -> Result<Option<usize>, NoMemory>
+        requires homes { AreHomesOf (slots_seen self.now) found.now.homes.items }
+        requires print { IfSome print (λ p. p ≡ print_of name.now) }
+        ensures { IfOk result (λ k. k ≡ path_end (slots_seen self.now) name.now) }
+    {
+        let slots = self.len();
+        if slots == 0 {
+            return Ok(None);
+        }
+        let mut path = Path::new(name, slots);
+        for _steps in 0..slots {
+            let is_told = is_another(found.print(path.place), print);
+            limit.take(self.cost(name, is_told)).ok_or(NoMemory)?;
+            if !self.is_other_if(is_told, path.place, name) {
+                return Ok(Some(path.place));
+            }
+            path.advance();
+        }
+        Ok(None)
+    }
+
+    // Whether the slot at a place isn't empty and has another name, which its print may have told already.
+    fn is_other_if(&self, is_told: bool, place: usize, name: &[u8]) -> bool
+        requires place { place < slot_count self.now }
+        requires told { is_told ≡ true → is_other name.now (slot_or_none (slots_seen self.now) place) ≡ true }
+        ensures { result ≡ is_other name.now (slot_or_none (slots_seen self.now) place) }
+    {
+        is_told || self.is_other(place, name)
+    }
+
+    // How many bytes are gone over where a slot is passed, whose name has to be compared unless its print tells it from this one.
+    fn cost(&self, name: &[u8], is_told: bool) -> u64 {
+        let compared = if is_told {
+            0
+        } else if name.is_empty() {
+            self.pool.len()
+        } else {
+            name.len()
+        };
+        (SLOT_LENGTH as u64).saturating_add(compared as u64)
     }
 
     // Whether the path of its name leads to the slot at a place, if it isn't empty.
@@ -156,5 +284,15 @@ impl<'a> SymbolTable<'a> {
             Some(slot) => self.path_end(self.name(slot)) == Some(place),
             None => true,
         }
+    }
+}
+
+// Whether these are the prints of two names, which are known. Then the names differ.
+fn is_another(print: Option<u64>, own: Option<u64>) -> bool
+    ensures { result ≡ true → (m : ℕ) × (n : ℕ) × (print ≡ Some m) × (own ≡ Some n) × (m ≡ n → ⊥) }
+{
+    match (print, own) {
+        (Some(print), Some(own)) => print != own,
+        (None, _) | (_, None) => false,
     }
 }

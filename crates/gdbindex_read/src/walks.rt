@@ -3,16 +3,18 @@
 //! Names with one begin share a path, so that a path that were followed for each of them would cost as much as all its slots, as often
 //! as it has names. Here each path is walked once, as far as its last name.
 
-ghost use Rattle.std.specs.Prelude.{◌≡◌, ◌⊎◌, ◌<◌, ◌^◌, ℕ, IfSome, IsTrue, List, Option, true, false, length, slice_index_or};
+ghost use Rattle.std.specs.Prelude.{◌≡◌, ◌⊎◌, ◌<◌, ◌^◌, ℕ, [], IfSome, IsTrue, List, Option, true, false, length, slice_index_or};
 ghost use Rattle.std.specs.BTreeSet.{contains};
 ghost use Rattle.std.specs.Ordering.{nat_cmp};
 ghost use Rattle.index_model.specs.GdbIndexRead.{Slot, is_table_size};
-ghost use Rattle.gdbindex_read.specs.Homes.{AreFound, AreHomes};
+ghost use Rattle.gdbindex_read.specs.Homes.{AreFound, AreHomes, AreHomesOf, IsPrintAt};
 ghost use Rattle.gdbindex_read.specs.Slots.{slot_count, slots_seen};
 
 use crate::homes::PathStart;
 use crate::path::Path;
+use crate::slots::SLOT_LENGTH;
 use crate::symbols::SymbolTable;
+use reading_limit::ReadingLimit;
 use std::alloc::Global;
 use std::collections::BTreeSet;
 
@@ -22,29 +24,36 @@ pub(crate) struct FoundSlots {
     places: Vec<bool>,
     // The prints of their names.
     prints: BTreeSet<u64>,
+    // What is known of the names of all slots.
+    homes: Vec<Option<PathStart>>,
 }
 
 impl FoundSlots {
-    /// The slots of a table that are found on the paths of their names. None are where no memory is left.
-    pub fn of(alloc: Global, table: &SymbolTable<'_>) -> FoundSlots
+    /// The slots of a table that are found on the paths of their names. None are where no memory is left, and no more than were before so
+    /// many bytes of slots were passed.
+    pub fn of(alloc: Global, table: &SymbolTable<'_>, limit: &mut ReadingLimit) -> FoundSlots
         requires size { is_table_size (slot_count table.now) ≡ true }
         requires few { slot_count table.now < 2 ^ 32 }
-        ensures { AreFound (slots_seen table.now) result.places.items }
+        ensures found { AreFound (slots_seen table.now) result.places.items }
+        ensures homes { AreHomesOf (slots_seen table.now) result.homes.items }
     {
         let mut found = FoundSlots::none(alloc, table.len());
         if let Some(homes) = table.homes(alloc) {
-            found.walk_all(alloc, &homes);
+            found.walk_all(alloc, &homes, limit);
+            found.homes = homes;
         }
         found
     }
 
     // None of so many slots.
     fn none(alloc: Global, slots: usize) -> FoundSlots
-        ensures { (k : ℕ) → slice_index_or result.places.items k false ≡ true → ⊥ }
+        ensures places { (k : ℕ) → slice_index_or result.places.items k false ≡ true → ⊥ }
+        ensures homes { result.homes.items ≡ [] }
     {
         FoundSlots {
             places: vec![in alloc; false; slots].unwrap_or(Vec::new(alloc)),
             prints: BTreeSet::new(alloc),
+            homes: Vec::new(alloc),
         }
     }
 
@@ -55,8 +64,18 @@ impl FoundSlots {
         self.places.get(place).copied().unwrap_or(false)
     }
 
+    /// The print of a slot's name, where it is known.
+    pub fn print(&self, place: usize) -> Option<u64>
+        ensures { (slots : List (Option Slot)) → AreHomesOf slots self.now.homes.items → IfSome result (IsPrintAt slots place) }
+    {
+        match self.homes.get(place) {
+            Some(Some(home)) => Some(home.print),
+            _ => None,
+        }
+    }
+
     // Walks along the paths that names have.
-    fn walk_all(&mut self, alloc: Global, homes: &[Option<PathStart>])
+    fn walk_all(&mut self, alloc: Global, homes: &[Option<PathStart>], limit: &mut ReadingLimit)
         requires { length homes.now < 2 ^ 32 }
         ensures { (slots : List (Option Slot)) → AreHomes slots homes.now → is_table_size (length slots) ≡ true → AreFound slots self.old.places.items → AreFound slots self.new.places.items }
     {
@@ -65,13 +84,19 @@ impl FoundSlots {
         };
         for begin in 0..names.len() {
             if 0 < names[begin] {
-                self.walk(homes, begin, names[begin]);
+                self.walk(homes, begin, names[begin], limit);
             }
         }
     }
 
     // Walks along the path of so many names. It ends where one is missing.
-    fn walk(&mut self, homes: &[Option<PathStart>], begin: usize, names: u32)
+    fn walk(
+        &mut self,
+        homes: &[Option<PathStart>],
+        begin: usize,
+        names: u32,
+        limit: &mut ReadingLimit,
+    )
         requires few { length homes.now < 2 ^ 32 }
         requires begin { begin < length homes.now }
         ensures { (slots : List (Option Slot)) → AreHomes slots homes.now → is_table_size (length slots) ≡ true → AreFound slots self.old.places.items → AreFound slots self.new.places.items }
@@ -79,6 +104,9 @@ impl FoundSlots {
         let mut path = Path::of_hash(begin, homes.len());
         let mut left = names;
         for _steps in 0..homes.len() {
+            if limit.take(SLOT_LENGTH as u64).is_none() {
+                return;
+            }
             let Some(home) = homes[path.place] else {
                 return;
             };

@@ -8,8 +8,8 @@ use Rattle.gdbindex_read.proofs.walks.FoundSlots.of.Goals as goal
 pub walk_all-requires : goal.walk_all-requires
 walk_all-requires c = omega (arith, ap length c.deref.ensures.value, c.in-Some.ensures.size, length-slots c.args.table.now, c.requires.few)
 
-pub returns-in-Some : goal.returns-in-Some
-returns-in-Some c =
+pub returns-in-Some-clause-found : goal.returns-in-Some-clause-found
+returns-in-Some-clause-found c =
     let slots = slots_seen c.args.table.now in
     let are = subst (AreHomes slots) (sym c.deref.ensures.value) c.in-Some.ensures in
-    c.walk_all.ensures slots are (ap is_table_size (length-slots c.args.table.now) ∙ c.requires.size) (λ k is. absurd (c.none-found.ensures k is))
+    c.walk_all.ensures slots are (ap is_table_size (length-slots c.args.table.now) ∙ c.requires.size) (λ k is. absurd (c.none-found.ensures.places k is))

@@ -2,7 +2,7 @@ use Rattle.std.proofs.Common.{◌≡◌}
 use Rattle.index_model.specs.GdbIndexRead.{reached}
 use Rattle.gdbindex_read.specs.Slots.{slots_seen, slot_of}
 use Rattle.gdbindex_read.proofs.Loops.{fault_from}
-use Rattle.gdbindex_read.proofs.symbols.SymbolTable.check_paths.Given as goal
+use Rattle.gdbindex_read.proofs.symbols.SymbolTable.check_each_path.Given as goal
 
 -- the first fault is that of the slots that are left
 abbrev pub invariant-loop-place : goal.invariant-loop-place

@@ -7,22 +7,22 @@ use Rattle.gdbindex_read.specs.Areas.{item}
 use Rattle.gdbindex_read.specs.Slots.{slots_seen, slot_of, slot_in, table_of, is_found_from}
 use Rattle.gdbindex_read.proofs.Loops.{fault_from_more, fault_from_here, fault_from_none}
 use Rattle.gdbindex_read.proofs.SlotsRead.{here, all_reached, reached_none, reached_lost}
-use Rattle.gdbindex_read.proofs.symbols.SymbolTable.check_paths.Goals as goal
+use Rattle.gdbindex_read.proofs.symbols.SymbolTable.check_each_path.Goals as goal
 
-pub returns-then-not-is_found : goal.returns-then-not-is_found
-returns-then-not-is_found c =
+pub returns-then-not-is_reached : goal.returns-then-not-is_reached
+returns-then-not-is_reached c =
     let t = c.args.self.now in
     let k = c.loop-place.place in
     let at : ℕ = (item 8 (table_of t) k).at in
-    let lost : is_found_from (slots_seen t) k (slot_of t k) ≡ false = ap (is_found_from (slots_seen t) k) (sym (here t k (omega (arith, c.len-count.ensures)))) ∙ sym c.is_found.ensures ∙ c.if-not-is_found.true in
+    let lost : is_found_from (slots_seen t) k (slot_of t k) ≡ false = ap (is_found_from (slots_seen t) k) (sym (here t k (omega (arith, c.len-count.ensures)))) ∙ sym c.is_reached.ensures ∙ c.if-not-is_reached.true in
     let wrong = reached_lost (slots_seen t) k t.pool.now at (slot_in (item 8 (table_of t) k).rest) lost in
-    ap (λ (f : Fault). Some f) c.fault.ensures ∙ sym (sym (all_reached t c.len-count.result c.len-count.ensures) ∙ sym c.loop-place.invariant ∙ fault_from_here (reached (slots_seen t)) (λ (k : ℕ). (k, slot_of t k)) k c.len-count.result (fault GDB_LOST_SLOT at) (omega arith) wrong)
+    ap (λ (f : Fault). Some f) c.lost.ensures ∙ sym (sym (all_reached t c.len-count.result c.len-count.ensures) ∙ sym c.loop-place.invariant ∙ fault_from_here (reached (slots_seen t)) (λ (k : ℕ). (k, slot_of t k)) k c.len-count.result (fault GDB_LOST_SLOT at) (omega arith) wrong)
 
 pub loop-place-preserved : goal.loop-place-preserved
 loop-place-preserved c =
     let t = c.args.self.now in
     let k = c.loop-place.place in
-    let found : is_found_from (slots_seen t) k (slot_of t k) ≡ true = ap (is_found_from (slots_seen t) k) (sym (here t k (omega (arith, c.len-count.ensures)))) ∙ sym c.is_found.ensures ∙ c.if-not-is_found.false in
+    let found : is_found_from (slots_seen t) k (slot_of t k) ≡ true = ap (is_found_from (slots_seen t) k) (sym (here t k (omega (arith, c.len-count.ensures)))) ∙ sym c.is_reached.ensures ∙ c.if-not-is_reached.false in
     sym (fault_from_more (reached (slots_seen t)) (λ (k : ℕ). (k, slot_of t k)) k c.len-count.result (omega arith) (reached_none (slots_seen t) k (slot_of t k) found)) ∙ c.loop-place.invariant
 
 pub returns : goal.returns
