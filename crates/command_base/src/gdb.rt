@@ -14,12 +14,14 @@ use crate::reply::{ended, write};
 use crate::status::Status;
 use gdbindex_read::GdbIndex;
 use index_model::{Answer, Query, Reply};
+use ix_base::Stop;
 use name_quotes::Spelling;
 use outside::Sink;
 use query_text::{Question, write_elements, write_index_fault};
 use std::alloc::Global;
 
-/// Writes the answer of the index in these bytes to the query, or its first fault. The query is one that it answers.
+/// Writes the answer of the index in these bytes to the query, or its first fault. The query is one that it answers. The status is
+/// `NoMemory` where paths in its symbol table are longer together than `GdbIndex::open_limited` goes.
 pub fn look_gdb<K: Sink>(
     alloc: Global,
     bytes: &[u8],
@@ -31,9 +33,10 @@ pub fn look_gdb<K: Sink>(
     ensures causes { CausesOfResult (Rose (K.write_faults out.old) (K.write_faults out.new)) result }
     ensures counts { K.write_faults out.old ≤ K.write_faults out.new }
 {
-    match GdbIndex::open(alloc, bytes) {
+    match GdbIndex::open_limited(alloc, bytes) {
         Ok(index) => answer_by_gdb(&index, question, out),
-        Err(fault) => ended(write_index_fault(out, fault), Status::IndexRefused),
+        Err(Stop::Memory) => Status::NoMemory,
+        Err(Stop::Fault(fault)) => ended(write_index_fault(out, fault), Status::IndexRefused),
     }
 }
 
