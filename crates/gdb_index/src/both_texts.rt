@@ -43,6 +43,15 @@ impl<'f> BothTexts<'f> {
         }
     }
 
+    /// How many bytes both releases' texts have.
+    pub fn size(&self) -> u64 {
+        let newer = self
+            .newer
+            .as_ref()
+            .map_or(0, |text| text.bytes().len() as u64);
+        newer.saturating_add(self.older.bytes().len() as u64)
+    }
+
     /// The same texts, held once more.
     pub fn share(&self) -> Result<BothTexts<'f>, NoMemory>
         ensures { IfOk result (λ texts. (release : ReleaseOf) → text_by release texts ≡ text_by release self.now) }

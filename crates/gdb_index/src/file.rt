@@ -15,6 +15,7 @@ use gdb_scopes::FilePlaces;
 use gdb_texts::SpelledTexts;
 use index_model::Unit;
 use ix_base::{MAX_UNITS, NoMemory};
+use reading_limit::ReadingLimit;
 use std::alloc::Global;
 use std::marker::Model;
 use std::thread::Threads;
@@ -69,14 +70,15 @@ impl<'s, 'f> ReadFile<'s, 'f> {
         self.image.units()
     }
 
-    /// The names of the file's items, before any unit is gone over.
-    pub fn names<'r>(&'r self, alloc: Global) -> FileNames<'s, 'r, 'f>
+    /// The names of the file's items, before any unit is gone over. So many bytes may be put together.
+    pub fn names<'r>(&'r self, alloc: Global, to_form: ReadingLimit) -> FileNames<'s, 'r, 'f>
         ensures { result ≡ self.now }
     {
         FileNames::new(
             alloc,
             FilePlaces::new(alloc, self.image, &self.readings),
             &self.texts,
+            to_form,
         )
     }
 

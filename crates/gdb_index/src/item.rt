@@ -33,6 +33,7 @@ pub(crate) fn list_item<'f>(
     let chain = names.chain(alloc, item)?;
     let local = names.is_static(alloc, reading.class, item, &chain)?;
     let listed = listed_names(alloc, names, reading.class, seen, &chain)?;
+    names.count_formed(listed.formed())?;
     let common = ItemEntries {
         unit: reading.owner,
         offset: item.offset,

@@ -14,6 +14,7 @@ ghost use Rattle.gdb_scopes.specs.Places.{ForItem, IsSeenIn};
 ghost use Rattle.gdb_index.specs.Items.{texts_in, texts_of};
 
 use crate::names::FileNames;
+use cxx_spelling::SpelledName;
 use gdb_entries::LanguageClass;
 use gdb_items::{Chain, UnitItem};
 use gdb_names::{BothNames, ItemNames, SecondName, item_names};
@@ -28,6 +29,29 @@ pub(crate) struct ListedNames<'f> {
     pub full: Option<BothNames<'f>>,
     /// The one before which no scope stands.
     pub second: Option<BothNames<'f>>,
+}
+
+impl ListedNames<'_> {
+    /// How many bytes of them don't stand in the file as they are.
+    pub fn formed(&self) -> u64 {
+        formed_of(&self.full).saturating_add(formed_of(&self.second))
+    }
+}
+
+// How many bytes of a name don't stand in the file as they are.
+fn formed_of(name: &Option<BothNames<'_>>) -> u64 {
+    let Some(name) = name else {
+        return 0;
+    };
+    let newer = name.newer.as_ref().map_or(0, |text| owned_length(text));
+    owned_length(&name.older).saturating_add(newer)
+}
+
+fn owned_length(text: &SpelledName<'_>) -> u64 {
+    match text {
+        SpelledName::Lent(_) => 0,
+        SpelledName::Owned(bytes) => bytes.len() as u64,
+    }
 }
 
 /// The names of an item that is looked at in a unit of this class, and whose chain this is.

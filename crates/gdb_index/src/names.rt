@@ -19,6 +19,7 @@ use gdb_scopes::{FilePlaces, SeenItem};
 use gdb_texts::SpelledTexts;
 use indexmap::IndexMap;
 use ix_base::NoMemory;
+use reading_limit::ReadingLimit;
 use std::alloc::Global;
 use std::marker::Model;
 
@@ -31,6 +32,8 @@ pub struct FileNames<'s, 'r, 'f> {
     pub(crate) steps: IndexMap<u64, Step<'f>>,
     // What scopes put before names, by the joint offsets of their items.
     pub(crate) fronts: IndexMap<u64, Front>,
+    // How many bytes may still be put together.
+    to_form: ReadingLimit,
 }
 
 impl<'s, 'r, 'f> Model for FileNames<'s, 'r, 'f> {
@@ -45,11 +48,12 @@ impl<'s, 'r, 'f> Model for FileNames<'s, 'r, 'f> {
 }
 
 impl<'s, 'r, 'f> FileNames<'s, 'r, 'f> {
-    /// The names of a file's items, before any is formed.
+    /// The names of a file's items, before any is formed. So many bytes may be put together.
     pub fn new(
         alloc: Global,
         places: FilePlaces<'s, 'r, 'f>,
         texts: &'r SpelledTexts<'s, 'f>,
+        to_form: ReadingLimit,
     ) -> FileNames<'s, 'r, 'f>
         requires { AreTextsOf places.file texts.now }
         ensures { result ≡ places.entry }
@@ -59,7 +63,20 @@ impl<'s, 'r, 'f> FileNames<'s, 'r, 'f> {
             texts,
             steps: IndexMap::new(alloc),
             fronts: IndexMap::new(alloc),
+            to_form,
         }
+    }
+
+    /// How many bytes may still be put together.
+    pub(crate) fn to_form(&self) -> ReadingLimit {
+        self.to_form
+    }
+
+    /// Takes in that so many bytes are put together.
+    pub(crate) fn count_formed(&mut self, bytes: u64) -> Result<(), NoMemory>
+        ensures { self.new ≡ self.old }
+    {
+        self.to_form.take(bytes).ok_or(NoMemory)
     }
 
     /// The full name of an item with this name that is looked at in a unit of this class, and whose chain this is: the name is spelled and

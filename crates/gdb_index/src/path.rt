@@ -34,6 +34,7 @@ impl<'s, 'r, 'f> FileNames<'s, 'r, 'f> {
                 return Ok(Vec::new(alloc));
             }
             let step = self.step(alloc, member)?;
+            self.count_formed(step.size())?;
             add(&mut texts, step.component)?;
             left -= 1;
             next = step.scope;

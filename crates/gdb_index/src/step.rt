@@ -49,6 +49,11 @@ impl<'f> Step<'f> {
         Ok(Step { component, scope })
     }
 
+    /// How many bytes its component has.
+    pub fn size(&self) -> u64 {
+        self.component.as_ref().map_or(0, |text| text.size())
+    }
+
     /// The same step, held once more.
     pub fn share(&self) -> Result<Step<'f>, NoMemory>
         ensures { IfOk result (IsSameStep self.now) }

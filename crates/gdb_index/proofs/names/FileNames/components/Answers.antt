@@ -15,7 +15,7 @@ loop-next-init c = record {
 
 pub loop-next-preserved : goal.loop-next-preserved
 loop-next-preserved c = record {
-  same = c.step.ensures.kept ∙ c.loop-next.invariant.same;
+  same = c.count_formed.ensures ∙ c.step.ensures.kept ∙ c.loop-next.invariant.same;
   range = omega (arith, c.loop-next.invariant.range);
   followed = λ p is o d here scope.
       let f = c.args.self.now.file in
