@@ -15,6 +15,7 @@ pub mod OrderLaws
 mod BelowLaws
 mod MergedLaws
 mod ListedLaws
+mod ListingLaws
 mod CountingLaws
 pub mod RankLaws
 mod SearchLaws

@@ -1,5 +1,5 @@
 -- Entries whose names are simple are found by name as by simple name.
-use Rattle.std.proofs.Common.{◌≡◌, ℕ, ◌+◌, ◌-◌, Bool, true, false, List, [], ◌∷◌, ◌++◌, length, drop, map, refl, sym, ap, ◌∙◌, arith}
+use Rattle.std.proofs.Common.{◌≡◌, ℕ, ◌+◌, ◌-◌, Bool, true, false, List, [], ◌∷◌, ◌++◌, length, get_or, drop, map, refl, sym, ap, ◌∙◌, arith}
 use Rattle.std.specs.Prelude.{filter, flat_map, bytes_eq, All}
 use Rattle.std.specs.List.{enumerate_from}
 use Rattle.std.specs.Set.{distinct_count}
@@ -9,9 +9,9 @@ use Rattle.index_model.specs.Answers.{places, is_named, is_simply_named}
 use Rattle.index_model.specs.Entries.{simple_of}
 use Rattle.query_engine.specs.declared.way.Way.TheVariants.{ByName}
 use Rattle.query_engine.specs.Asked.{is_asked}
-use Rattle.query_engine.specs.Listed.{is_listed}
+use Rattle.query_engine.specs.declared.listing.ListedNames.{ListedNames}
+use Rattle.query_engine.specs.Listed.{is_listed, names_of, AreListedBy}
 use Rattle.query_engine.specs.Counts.{name_count, simple_count, without_linkage}
-use Rattle.query_engine.specs.Orders.{AreByText}
 use Rattle.query_engine.specs.Simple.{IsWhole}
 
 -- the simple name of such an entry is its name
@@ -50,12 +50,14 @@ flat_same f g same (x ∷ xs) =
     λ i. first i ++ rest i
 
 -- they are listed by their names
-pub by_listed : (es : List Entry) (ps : List ℕ) → All IsWhole es → AreByText (is_asked ByName) es ps → AreByText is_listed es ps
-by_listed es ps whole h = record {
-  texts = h.texts;
+pub by_listed : (es : List Entry) (l : ListedNames) → All IsWhole es → AreListedBy (is_asked ByName) es l → AreListedBy is_listed es l
+by_listed es l whole h = record {
   ascending = h.ascending;
   all = λ t none. sym (listed_same t es whole) ∙ h.all t none;
-  are = h.are ∙ flat_same (λ (t : List ℕ). places (is_asked ByName t) es) (λ (t : List ℕ). places (is_listed t) es) (λ t. listed_same t es whole) h.texts;
+  own = record {
+    counts = λ k d lt. h.own.counts k d lt ∙ ap (λ (w : List ℕ). length w) (listed_same (get_or l.names.items k d).name.now es whole);
+    are = h.own.are ∙ flat_same (λ (t : List ℕ). places (is_asked ByName t) es) (λ (t : List ℕ). places (is_listed t) es) (λ t. listed_same t es whole) (names_of l.names.items);
+  };
 }
 
 same_names : (es : List Entry) → All IsWhole es → map simple_of (without_linkage es) ≡ map (λ (e : Entry). e.name) es

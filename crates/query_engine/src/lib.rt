@@ -11,6 +11,7 @@ mod key;
 mod label;
 mod labels;
 mod listed;
+mod listing;
 mod marks;
 mod names;
 mod order;
@@ -23,4 +24,5 @@ mod spelling;
 mod table;
 mod way;
 
+pub use listing::{ListedName, ListedNames};
 pub use table::Table;

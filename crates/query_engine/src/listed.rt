@@ -4,11 +4,11 @@
 
 ghost use Rattle.std.specs.Prelude.{◌≡◌, ◌<◌, ◌≤◌, ◌+◌, ◌++◌, ℕ, All, IfOk, OnOk, MatchBool, drop, length};
 ghost use Rattle.query_engine.specs.Asked.{TailsFit};
-ghost use Rattle.query_engine.specs.Listed.{is_listed, merged, take_below, drop_below, AreListedTo, AreMarked, ComesBeforeEnd, EndsAt, HasSimple, IsAhead, IsMarkAt};
-ghost use Rattle.query_engine.specs.Orders.{AreByText};
+ghost use Rattle.query_engine.specs.Listed.{is_listed, merged, take_below, drop_below, AddsName, AreListedBy, AreListedTo, AreMarked, ComesBeforeEnd, EndsAt, HasSimple, IsAhead, IsMarkAt};
 ghost use Rattle.query_engine.specs.Sorted.{AreNamesBy, name_at};
 ghost use Rattle.query_engine.specs.declared.way.Way.TheVariants as ways;
 
+use crate::listing::{ListedName, ListedNames};
 use crate::names::SortedNames;
 use crate::spelling::FrontedText;
 use index_model::Entry;
@@ -24,31 +24,30 @@ const MOST_HALVINGS: u32 = 4;
 
 /// Entries, which of them are linkage entries, and both orders of them.
 #[derive(Clone, Copy)]
-struct BothOrders<'t, 'f> {
+struct BothOrders<'s, 't, 'f> {
     entries: &'t [Entry<'f>],
-    linkage: &'t [bool],
-    names: &'t SortedNames,
-    simple: &'t SortedNames,
+    linkage: &'s [bool],
+    names: &'s SortedNames,
+    simple: &'s SortedNames,
     ghost tails: { TailsFit entries.now },
     ghost marked: { AreMarked entries.now linkage.now },
     ghost named: { AreNamesBy ways.ByName entries.now names.now },
     ghost simply_named: { AreNamesBy ways.BySimple entries.now simple.now },
 }
 
-/// The places of all entries by the names under which they are listed, and then ascending. Threads share work that is halved so
-/// often for them.
-pub(crate) fn places_as_listed<R: Threads + Sync>(
+/// All entries by the names under which they are listed. Threads share work that is halved so often for them.
+pub(crate) fn names_as_listed<'t, R: Threads + Sync>(
     rt: &R,
     alloc: Global,
     halvings: u32,
-    entries: &[Entry<'_>],
+    entries: &'t [Entry<'_>],
     names: &SortedNames,
     simple: &SortedNames,
-) -> Result<Vec<u32>, AllocError>
+) -> Result<ListedNames<'t>, AllocError>
     requires tails { TailsFit entries.now }
     requires names { AreNamesBy ways.ByName entries.now names.now }
     requires simple { AreNamesBy ways.BySimple entries.now simple.now }
-    ensures { IfOk result (λ v. AreByText is_listed entries.now v.items) }
+    ensures { IfOk result (AreListedBy is_listed entries.now) }
 {
     let linkage = linkage_of(rt, alloc, halvings, entries)?;
     let both = BothOrders {
@@ -57,13 +56,13 @@ pub(crate) fn places_as_listed<R: Threads + Sync>(
         names,
         simple,
     };
-    let mut places = Vec::with_capacity(alloc, entries.len())?;
+    let mut listed = ListedNames::with_capacity(alloc, names.len(), entries.len())?;
     let mut passed = 0;
     for index in 0..names.len() {
-        passed = both.push_name(index, passed, &mut places)?;
+        passed = both.push_name(index, passed, &mut listed)?;
     }
-    both.push_simple_below(None, passed, &mut places)?;
-    Ok(places)
+    both.push_simple_below(None, passed, &mut listed)?;
+    Ok(listed)
 }
 
 // Which entries are linkage entries.
@@ -98,31 +97,50 @@ fn is_linkage_at(entries: &[Entry<'_>], place: usize) -> bool
     entries[place].linkage
 }
 
-impl BothOrders<'_, '_> {
-    // Appends the places of the entries that are listed by the name at an index, behind those of all simple names before it. So many
-    // simple names were passed before; gives how many are then.
+impl<'t> BothOrders<'_, 't, '_> {
+    // Appends the name at an index with the places of the entries that it lists, behind all simple names before it. So many simple
+    // names were passed before; gives how many are then.
     fn push_name(
         &self,
         index: usize,
         passed: usize,
-        places: &mut Vec<u32>,
+        listed: &mut ListedNames<'t>,
     ) -> Result<usize, AllocError>
         requires index { index < length self.now.names.now.groups.items }
         requires passed { passed ≤ length self.now.simple.now.groups.items }
-        ensures listed { AreListedTo self.now.entries.now self.now.names.now self.now.simple.now index passed places.old.items → IfOk result (λ j. AreListedTo self.now.entries.now self.now.names.now self.now.simple.now (index + 1) j places.new.items) }
+        ensures listed { AreListedTo self.now.entries.now self.now.names.now self.now.simple.now index passed listed.old → IfOk result (λ j. AreListedTo self.now.entries.now self.now.names.now self.now.simple.now (index + 1) j listed.new) }
         ensures within { IfOk result (λ j. j ≤ length self.now.simple.now.groups.items) }
     {
-        let text = FrontedText::new(self.names.text_at(self.entries, index));
-        let passed = self.push_simple_below(Some(text), passed, places)?;
+        let name = self.names.text_at(self.entries, index);
+        let text = FrontedText::new(name);
+        let passed = self.push_simple_below(Some(text), passed, listed)?;
         let named = self.names.places_at(self.entries, index);
         if self.has_simple(passed, &text) {
             let plain = self.simple.places_at(self.entries, passed);
-            push_merged(places, self.linkage, named, plain)?;
+            self.push_both(listed, name, named, plain)?;
             Ok(passed + 1)
         } else {
-            push_merged(places, self.linkage, named, &[])?;
+            self.push_both(listed, name, named, &[])?;
             Ok(passed)
         }
+    }
+
+    // Appends a name with those of its entries that are linkage entries, and with others.
+    fn push_both(
+        &self,
+        listed: &mut ListedNames<'t>,
+        name: &'t [u8],
+        named: &[u32],
+        plain: &[u32],
+    ) -> Result<(), AllocError>
+        requires { All (λ p. p < length self.now.linkage.now) named.now }
+        ensures { OnOk result (AddsName name.now (merged self.now.linkage.now named.now plain.now) listed.old listed.new) }
+    {
+        let before = listed.places.len();
+        push_merged(&mut listed.places, self.linkage, named, plain)?;
+        let count = listed.places.len() - before;
+        listed.names.push(ListedName { name, count })?;
+        Ok(())
     }
 
     // Whether the simple name at an index is this text.
@@ -133,22 +151,25 @@ impl BothOrders<'_, '_> {
             && self.simple.order_at(self.entries, index, text) == Ordering::Equal
     }
 
-    // Appends the places of the simple names before a text, or of all, where so many were passed before. Gives how many are then.
+    // Appends the simple names before a text, or all, where so many were passed before. Gives how many are then.
     fn push_simple_below(
         &self,
         end: Option<FrontedText<'_>>,
         passed: usize,
-        places: &mut Vec<u32>,
+        listed: &mut ListedNames<'t>,
     ) -> Result<usize, AllocError>
         requires { passed ≤ length self.now.simple.now.groups.items }
-        ensures listed { (k : ℕ) → EndsAt self.now.entries.now self.now.names.now k end.entry → AreListedTo self.now.entries.now self.now.names.now self.now.simple.now k passed places.old.items → IfOk result (λ j. AreListedTo self.now.entries.now self.now.names.now self.now.simple.now k j places.new.items × IsAhead self.now.entries.now self.now.simple.now j end.entry) }
+        ensures listed { (k : ℕ) → EndsAt self.now.entries.now self.now.names.now k end.entry → AreListedTo self.now.entries.now self.now.names.now self.now.simple.now k passed listed.old → IfOk result (λ j. AreListedTo self.now.entries.now self.now.names.now self.now.simple.now k j listed.new × IsAhead self.now.entries.now self.now.simple.now j end.entry) }
         ensures within { IfOk result (λ j. j ≤ length self.now.simple.now.groups.items) }
     {
         for index in passed..self.simple.len() {
             if self.is_behind(index, end) {
                 return Ok(index);
             }
-            places.extend_from_slice(self.simple.places_at(self.entries, index))?;
+            listed.push(
+                self.simple.text_at(self.entries, index),
+                self.simple.places_at(self.entries, index),
+            )?;
         }
         Ok(self.simple.len())
     }

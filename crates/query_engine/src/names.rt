@@ -10,11 +10,12 @@ ghost use Rattle.query_engine.specs.Asked.{TailsFit, is_asked};
 ghost use Rattle.query_engine.specs.Counts.{name_count, without_linkage, is_plain};
 ghost use Rattle.query_engine.specs.declared.way.Way.TheVariants.{ByName};
 ghost use Rattle.query_engine.specs.Marked.{AreLabelled, HaveFewLabels};
-ghost use Rattle.query_engine.specs.Orders.{AreByText};
+ghost use Rattle.query_engine.specs.Listed.{AreListedBy};
 ghost use Rattle.query_engine.specs.Sorted.{AreNamesBy, AreNamesOf, name_at, group_text};
 
 use crate::groups::{Group, groups_of};
 use crate::label::Label;
+use crate::listing::ListedNames;
 use crate::marks::Labelled;
 use crate::order::order_of;
 use crate::spelling::FrontedText;
@@ -116,16 +117,21 @@ impl SortedNames {
         &self.places[group.start as usize..group.end as usize]
     }
 
-    /// The places of all entries, of one text after the other, and ascending within a text.
-    pub fn all_places(&self, alloc: Global, entries: &[Entry<'_>]) -> Result<Vec<u32>, AllocError>
-        requires { AreNamesOf entries.now self.now }
-        ensures { IfOk result (λ v. AreByText (is_asked self.now.way) entries.now v.items) }
+    /// The texts with the places of their entries.
+    pub fn listed<'r>(
+        &self,
+        alloc: Global,
+        entries: &'r [Entry<'_>],
+    ) -> Result<ListedNames<'r>, AllocError>
+        requires tails { TailsFit entries.now }
+        requires names { AreNamesOf entries.now self.now }
+        ensures { IfOk result (AreListedBy (is_asked self.now.way) entries.now) }
     {
-        let mut places = Vec::with_capacity(alloc, entries.len())?;
+        let mut listed = ListedNames::with_capacity(alloc, self.len(), entries.len())?;
         for index in 0..self.len() {
-            places.extend_from_slice(self.places_at(entries, index))?;
+            listed.push(self.text_at(entries, index), self.places_at(entries, index))?;
         }
-        Ok(places)
+        Ok(listed)
     }
 
     /// How many texts have an entry that isn't a linkage entry.

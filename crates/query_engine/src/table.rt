@@ -5,12 +5,12 @@ ghost use Rattle.index_model.specs.Answers.{places, is_named, is_simply_named};
 ghost use Rattle.query_engine.specs.Asked.{TailsFit, is_asked};
 ghost use Rattle.query_engine.specs.Counts.{name_count, simple_count, without_linkage, text_count};
 ghost use Rattle.query_engine.specs.Halving.{AddsHalvings};
-ghost use Rattle.query_engine.specs.Orders.{AreByText};
 ghost use Rattle.query_engine.specs.Sorted.{AreNamesOf};
-ghost use Rattle.query_engine.specs.Listed.{is_listed};
+ghost use Rattle.query_engine.specs.Listed.{AreListedBy, is_listed};
 ghost use Rattle.query_engine.specs.Texts.{table_names};
 
-use crate::listed::places_as_listed;
+use crate::listed::names_as_listed;
+use crate::listing::ListedNames;
 use crate::names::SortedNames;
 use crate::orders::Orders;
 use crate::search::find;
@@ -134,23 +134,23 @@ impl<'f> Table<'f> {
         self.by_name.places_at(&self.entries, index)
     }
 
-    /// The places of all entries by the names under which a `.debug_names` lists them, and then ascending: linkage entries
-    /// stand there under their names, all others under their simple names. n entries with m distinct names cost n steps and m
-    /// comparisons at most of each of both orders.
+    /// The entries by the names under which a `.debug_names` lists them: linkage entries stand there under their names, all
+    /// others under their simple names. A name under which none stands may be among them, with no entries. n entries with m
+    /// distinct names cost n steps and m comparisons at most of each of both orders.
     ///
     /// # Errors
     ///
     /// `NoMemory` where memory was refused.
-    pub fn places_as_listed<R: Threads + Sync>(
-        &self,
+    pub fn names_as_listed<'t, R: Threads + Sync>(
+        &'t self,
         rt: &R,
         alloc: Global,
-    ) -> Result<Vec<u32>, NoMemory>
-        ensures { IfOk result (λ v. AreByText is_listed self.now v.items) }
+    ) -> Result<ListedNames<'t>, NoMemory>
+        ensures { IfOk result (AreListedBy is_listed self.now) }
     {
         match &self.by_simple {
-            SimpleNames::Shared => Ok(self.by_name.all_places(alloc, &self.entries)?),
-            SimpleNames::Own(simple) => Ok(places_as_listed(
+            SimpleNames::Shared => Ok(self.by_name.listed(alloc, &self.entries)?),
+            SimpleNames::Own(simple) => Ok(names_as_listed(
                 rt,
                 alloc,
                 self.halvings,

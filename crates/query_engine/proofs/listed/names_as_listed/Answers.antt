@@ -1,12 +1,12 @@
 use Rattle.std.proofs.Common.{◌≤◌, ℕ, length, inl, inr, arith}
 use Rattle.std.proofs.lemmas.Bool.{cases_lt}
 use Rattle.query_engine.proofs.ListedLaws.{none_listed, all_listed}
-use Rattle.query_engine.proofs.listed.places_as_listed.Goals as goal
+use Rattle.query_engine.proofs.listed.names_as_listed.Goals as goal
 
 pub loop-index-init : goal.loop-index-init
 loop-index-init g c = record {
   within = omega arith;
-  listed = none_listed c.args.entries.now c.args.names.now c.args.simple.now c.requires.names c.requires.simple c.in_ok-places.places.items c.in_ok-places.ensures.items;
+  listed = none_listed c.args.entries.now c.args.names.now c.args.simple.now c.requires.names c.requires.simple c.in_ok-listed.listed c.in_ok-listed.ensures;
 }
 
 pub returns : goal.returns
@@ -18,4 +18,4 @@ returns g c =
       | inl low ↦ absurd (passed.1 low tt)
       | inr high ↦ high
     ] in
-    all_listed c.args.entries.now c.args.names.now c.args.simple.now c.requires.names c.requires.simple c.loop-index.index c.in_ok-push_simple_below.field-0 c.push_simple_below.new.places.items (omega (arith, c.loop-index-test.false, c.len-index-end.ensures)) all passed.0
+    all_listed c.args.entries.now c.args.names.now c.args.simple.now c.requires.names c.requires.simple c.loop-index.index c.in_ok-push_simple_below.field-0 c.push_simple_below.new.listed (omega (arith, c.loop-index-test.false, c.len-index-end.ensures)) all passed.0
