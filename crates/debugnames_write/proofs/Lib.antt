@@ -1,8 +1,6 @@
 mod Lists
 mod Orders
 mod UnitLaws
-mod SortLaws
-mod GroupLaws
 mod RowLaws
 mod LebLaws
 mod NameLaws
@@ -10,7 +8,10 @@ mod BucketLaws
 mod PoolLaws
 mod TableLaws
 mod Whole
-mod ListedLaws
+mod IndexedLaws
+mod PartLaws
+mod ItemLaws
+mod GroupLaws
 mod Stops
 mod NamesMade
 mod Assembly

@@ -18,6 +18,7 @@ use Rattle.index_model.specs.Layout.{below, u32_bytes}
 use Rattle.index_model.specs.NameIndex.{Indexed, units_of_sort, unit_offsets, indexed_entry, all_indexed, string_of_entry}
 use Rattle.index_model.specs.Units.{is_types}
 use Rattle.debugnames_write.specs.Conditions.{FollowFrom, IsInside}
+use Rattle.debugnames_write.specs.Seen.{nameless}
 use Rattle.debugnames_write.specs.Units.{is_listed, is_type_at, place_at}
 use Rattle.debugnames_write.proofs.Lists.{enumerate_append, enumerate_more, around, position_at, places_below}
 
@@ -222,18 +223,18 @@ entry_low units e d h short =
     omega (arith, inside.0, inside.1, long)
 
 -- an entry of a unit of `.debug_info`, field by field
-pub entry_made : (units : List UnitHeader) (e : Entry) (d : UnitHeader) (name : List ℕ) (types : Bool) (unit : ℕ) → IsInside units e → is_types (get_or units e.unit d).part ≡ false
-    → name ≡ string_of_entry e → types ≡ is_type_unit (get_or units e.unit d) → unit ≡ place_at units e.unit
-    → Some (record { name = name; tag = e.tag; types = types; unit = unit; offset = e.offset - (get_or units e.unit d).start }) ≡ indexed_entry units e
-entry_made units e d name types unit h info is_name is_types_ is_unit_ =
+pub entry_made : (units : List UnitHeader) (e : Entry) (d : UnitHeader) (types : Bool) (unit : ℕ) → IsInside units e → is_types (get_or units e.unit d).part ≡ false
+    → types ≡ is_type_unit (get_or units e.unit d) → unit ≡ place_at units e.unit
+    → Some (record { name = []; tag = e.tag; types = types; unit = unit; offset = e.offset - (get_or units e.unit d).start }) ≡ option_map nameless (indexed_entry units e)
+entry_made units e d types unit h info is_types_ is_unit_ =
     let within = entry_within units e h in
     let made = indexed_is units e (get_or units e.unit d) within (get_or_default units e.unit d (get_or units e.unit d) within) (is_type_unit (get_or units e.unit d)) refl info in
-    (λ i. Some (record { name = is_name i; tag = e.tag; types = is_types_ i; unit = is_unit_ i; offset = e.offset - (get_or units e.unit d).start })) ∙ sym made
+    (λ i. Some (record { name = []; tag = e.tag; types = is_types_ i; unit = is_unit_ i; offset = e.offset - (get_or units e.unit d).start })) ∙ sym (ap (option_map nameless) made)
 
-pub entry_left_out : (units : List UnitHeader) (e : Entry) (d : UnitHeader) → IsInside units e → is_types (get_or units e.unit d).part ≡ true → None ≡ indexed_entry units e
+pub entry_left_out : (units : List UnitHeader) (e : Entry) (d : UnitHeader) → IsInside units e → is_types (get_or units e.unit d).part ≡ true → None ≡ option_map nameless (indexed_entry units e)
 entry_left_out units e d h types =
     let within = entry_within units e h in
-    sym (not_indexed units e (get_or units e.unit d) within (get_or_default units e.unit d (get_or units e.unit d) within) types)
+    sym (ap (option_map nameless) (not_indexed units e (get_or units e.unit d) within (get_or_default units e.unit d (get_or units e.unit d) within) types))
 
 pub entry_fits : (units : List UnitHeader) (e : Entry) (d : UnitHeader) → IsInside units e → sum_by (λ u. u.length) units < 4294967296 → Fits w32 (e.offset - (get_or units e.unit d).start)
 entry_fits units e d h short = let low = entry_low units e d h short in omega arith

@@ -1,10 +1,10 @@
 -- The parts put together are the index.
-use Rattle.std.proofs.Common.{◌≡◌, ℕ, ◌+◌, ◌*◌, ◌<◌, Bool, true, false, List, [], ◌∷◌, ◌++◌, length, get_or, map, refl, sym, ap, ◌∙◌, subst, inl, inr, arith, length-append, append_assoc}
+use Rattle.std.proofs.Common.{◌≡◌, ℕ, ◌+◌, ◌*◌, true, false, List, ◌++◌, length, get_or, map, refl, sym, ap, ◌∙◌, subst, arith, length-append, append_assoc}
 use Rattle.std.specs.Prelude.{All, Contains, bytes_eq, flat_map}
 use Rattle.std.proofs.lemmas.List.{get_or-map, length-map}
-use Rattle.std.proofs.lemmas.List.Elements.{All-map, All-filter, All-contains_itself}
+use Rattle.std.proofs.lemmas.List.Elements.{All-map, All-filter, All-contains_itself, All-weaker}
 use Rattle.std.proofs.lemmas.List.FromFn.{length-range_with_len}
-use Rattle.common_laws.proofs.Members.{contains_here, contains_later, contains_cases}
+use Rattle.common_laws.proofs.Members.{to_map}
 use Rattle.common_laws.proofs.Lists.{length_of_fours}
 use Rattle.common_laws.proofs.Appended.{flat_map-map}
 use Rattle.index_model.specs.declared.entry.Entry.{Entry}
@@ -12,61 +12,31 @@ use Rattle.index_model.specs.declared.unit.Unit.{Unit as UnitHeader}
 use Rattle.index_model.specs.Hashes.{name_hash}
 use Rattle.index_model.specs.Layout.{below, u32_bytes, ended, start_of}
 use Rattle.index_model.specs.NameIndex.{Indexed, Row as IndexRow, all_indexed, names_in, in_index_order, row_of, row_lt, rows_of, entry_bytes, group, bucket, string_offset, units_of_sort, unit_offsets, abbreviation_table, name_index_bytes}
-use Rattle.index_model.specs.Ordered.{bytes_lt}
-use Rattle.query_engine.proofs.TextOrder.{same_from_eq, eq_from_same}
 use Rattle.debugnames_write.specs.declared.groups.NameEntries.{NameEntries}
 use Rattle.debugnames_write.specs.declared.item.IndexEntry.{IndexEntry}
 use Rattle.debugnames_write.specs.declared.name.Name.{Name}
-use Rattle.debugnames_write.specs.Groups.{SameByName, IsGroupOf, entries_named, group_names}
+use Rattle.debugnames_write.specs.Groups.{IsGroupOf, entries_named, entries_of, group_names}
 use Rattle.debugnames_write.specs.Laid.{groups_bytes, head_bytes, bucket_bytes, hash_bytes, string_bytes, start_bytes, pool_bytes, laid_out}
 use Rattle.debugnames_write.specs.Names.{Kept, kept_of_name, kept_of_group, IsNameOf, HaveRows}
 use Rattle.debugnames_write.specs.Rows.{row_seen}
-use Rattle.debugnames_write.specs.Seen.{item_seen, items_seen, texts}
+use Rattle.debugnames_write.specs.Seen.{item_seen, items_seen, nameless, texts}
 use Rattle.debugnames_write.proofs.Lists.{flat_map_same, map_same, map-map}
-use Rattle.index_model.proofs.Orders.{bytes_order, ascending_is, ascending_rises, ascending_has, ascending_only}
+use Rattle.index_model.proofs.Orders.{ascending_has}
 use Rattle.index_model.proofs.IndexOrders.{row_order}
 use Rattle.debugnames_write.proofs.PoolLaws.{name_bytes}
 
--- ---- the names of entries
-
-named_some : (z : List ℕ) (es : List Indexed) → Contains (map (λ e. e.name) es) z → 0 < length (entries_named z es)
-named_some z [] c = absurd (omega (arith, c.1))
-named_some z (x ∷ xs) c = by (bytes_eq x.name z) refl (named_some z xs)
-  where
-    by : (b : Bool) → bytes_eq x.name z ≡ b → (Contains (map (λ e. e.name) xs) z → 0 < length (entries_named z xs)) → 0 < length (entries_named z (x ∷ xs))
-    by true e rest = rw e (omega arith)
-    by false e rest = rw e (elim (contains_cases x.name (map (λ e. e.name) xs) z c) [
-      | inl same ↦ absurd (let g : true ≡ false = sym (eq_from_same x.name z same) ∙ e in cc)
-      | inr d ↦ rest d
-    ])
-
-some_named : (z : List ℕ) (es : List Indexed) → 0 < length (entries_named z es) → Contains (map (λ e. e.name) es) z
-some_named z [] lt = absurd (omega arith)
-some_named z (x ∷ xs) lt = by (bytes_eq x.name z) refl (some_named z xs)
-  where
-    by : (b : Bool) → bytes_eq x.name z ≡ b → (0 < length (entries_named z xs) → Contains (map (λ e. e.name) xs) z) → Contains (map (λ e. e.name) (x ∷ xs)) z
-    by true e rest = subst (λ (w : List ℕ). Contains (map (λ (e : Indexed). e.name) (x ∷ xs)) w) (same_from_eq x.name z e) (contains_here x.name (map (λ (e : Indexed). e.name) xs))
-    by false e rest = contains_later x.name (map (λ (e : Indexed). e.name) xs) z (rest (let g = rw e at lt in g))
-
--- lists with the same entries of each name have the same names
-pub same_names : (es fs : List Indexed) → SameByName es fs → names_in es ≡ names_in fs
-same_names es fs same = ascending_is bytes_lt bytes_order (map (λ (e : Indexed). e.name) es) (names_in fs) (ascending_rises bytes_lt bytes_order (map (λ (e : Indexed). e.name) fs))
-    (λ z c. ascending_has bytes_lt bytes_order (map (λ (e : Indexed). e.name) fs) z (some_named z fs (subst (λ (w : List Indexed). 0 < length w) (same z) (named_some z es c))))
-    (λ z c. some_named z es (subst (λ (w : List Indexed). 0 < length w) (sym (same z)) (named_some z fs (ascending_only bytes_lt bytes_order (map (λ (e : Indexed). e.name) fs) z c))))
-
 -- ---- each entry has a row
 
-all_unmap : {X Y : Type 0} (P : Y → Type 0) (f : X → Y) (xs : List X) → All P (map f xs) → All (λ x. P (f x)) xs
+pub all_unmap : {X Y : Type 0} (P : Y → Type 0) (f : X → Y) (xs : List X) → All P (map f xs) → All (λ x. P (f x)) xs
 all_unmap P f xs h k d lt = let size = length-map xs f in subst P (get_or-map f xs k d (f d) lt) (h k (f d) (omega (arith, size)))
 
-pub contains_map : {X Y : Type 0} (f : X → Y) (xs : List X) (x : X) → Contains xs x → Contains (map f xs) (f x)
-contains_map f xs x c = (c.0, (let size = length-map xs f in omega (arith, size, c.1)), get_or-map f xs c.0 x (f x) c.1 ∙ ap f c.2)
-
-pub have_rows : (es : List Indexed) (name : List ℕ) (items : List IndexEntry) → items_seen items ≡ entries_named name es → HaveRows (rows_of es) items
+pub have_rows : (es : List Indexed) (name : List ℕ) (items : List IndexEntry) → items_seen items ≡ entries_of es name → HaveRows (rows_of es) items
 have_rows es name items own =
     let all : All (Contains es) (entries_named name es) = All-filter (λ (e : Indexed). bytes_eq e.name name) (Contains es) es (All-contains_itself es) in
-    let seen : All (Contains es) (items_seen items) = subst (λ (w : List Indexed). All (Contains es) w) (sym own) all in
-    λ k d lt. ascending_has row_lt row_order (map row_of es) (row_seen (get_or items k d).row) (contains_map row_of es (item_seen (get_or items k d)) (all_unmap (Contains es) item_seen items seen k d lt))
+    let rows : All (λ (e : Indexed). Contains (map row_of es) (row_of e)) (entries_named name es) = All-weaker (Contains es) (λ (e : Indexed). Contains (map row_of es) (row_of e)) (to_map row_of es) (entries_named name es) all in
+    let bare : All (λ (e : Indexed). Contains (map row_of es) (row_of e)) (entries_of es name) = All-map (λ (e : Indexed). Contains (map row_of es) (row_of e)) nameless (entries_named name es) rows in
+    let seen : All (λ (e : Indexed). Contains (map row_of es) (row_of e)) (items_seen items) = subst (λ (w : List Indexed). All (λ (e : Indexed). Contains (map row_of es) (row_of e)) w) (sym own) bare in
+    λ k d lt. ascending_has row_lt row_order (map row_of es) (row_seen (get_or items k d).row) (all_unmap (λ (e : Indexed). Contains (map row_of es) (row_of e)) item_seen items seen k d lt)
 
 -- ---- names and groups
 
@@ -75,13 +45,13 @@ module _ (names : List Name) (gs : List NameEntries) (kept : map kept_of_name na
   kept_texts = sym (map-map (λ (p : Kept). p.0) kept_of_name names) ∙ ap (map (λ (p : Kept). p.0)) kept ∙ map-map (λ (p : Kept). p.0) kept_of_group gs
 
   abbrev Own : List Indexed → Kept → Type 0
-  Own es p = items_seen p.1 ≡ entries_named p.0 es
+  Own es p = items_seen p.1 ≡ entries_of es p.0
 
-  pub kept_items : (es fs : List Indexed) → SameByName es fs → All (IsGroupOf fs) gs → All (λ n. items_seen n.items.now ≡ entries_named n.text.now es) names
-  kept_items es fs same each =
-      let own : All (Own fs) (map kept_of_group gs) = All-map (Own fs) kept_of_group gs each in
-      let moved : All (Own fs) (map kept_of_name names) = subst (λ (w : List Kept). All (Own fs) w) (sym kept) own in
-      λ k d lt. all_unmap (Own fs) kept_of_name names moved k d lt ∙ sym (same (get_or names k d).text.now)
+  pub kept_items : (es : List Indexed) → All (IsGroupOf es) gs → All (λ n. items_seen n.items.now ≡ entries_of es n.text.now) names
+  kept_items es each =
+      let own : All (Own es) (map kept_of_group gs) = All-map (Own es) kept_of_group gs each in
+      let moved : All (Own es) (map kept_of_name names) = subst (λ (w : List Kept). All (Own es) w) (sym kept) own in
+      λ k d lt. all_unmap (Own es) kept_of_name names moved k d lt
 
 -- ---- the bytes
 
@@ -91,7 +61,7 @@ framed units table n buckets hashes strings starts pool =
     u32_bytes (length body) ++ body
 
 module _ (units : List UnitHeader) (old : ℕ) (entries : List Entry) (names : List Name) (order : texts names ≡ in_index_order (names_in (all_indexed units entries)))
-    (each : All (IsNameOf (names_in (all_indexed units entries)) old) names) (own : All (λ n. items_seen n.items.now ≡ entries_named n.text.now (all_indexed units entries)) names) where
+    (each : All (IsNameOf (names_in (all_indexed units entries)) old) names) (own : All (λ n. items_seen n.items.now ≡ entries_of (all_indexed units entries) n.text.now) names) where
   abbrev es : List Indexed
   es = all_indexed units entries
 
@@ -109,7 +79,7 @@ module _ (units : List UnitHeader) (old : ℕ) (entries : List Entry) (names : L
 
   groups_are : groups_bytes rows names ≡ map (group rows es) ordered
   groups_are =
-      map_same (name_bytes rows) (λ (n : Name). group rows es n.text.now) names (λ k d lt. ap (λ (w : List Indexed). ended (flat_map (entry_bytes rows) w)) (own k d lt))
+      map_same (name_bytes rows) (λ (n : Name). group rows es n.text.now) names (λ k d lt. ap (λ (w : List Indexed). ended (flat_map (entry_bytes rows) w)) (own k d lt) ∙ ap ended (flat_map-map (entry_bytes rows) nameless (entries_named (get_or names k d).text.now es)))
       ∙ sym (map-map (group rows es) (λ (n : Name). n.text.now) names) ∙ ap (map (group rows es)) order
 
   hashes_are : hash_bytes names ≡ flat_map (λ t. u32_bytes (name_hash t)) ordered

@@ -13,28 +13,26 @@ use Rattle.index_model.specs.Layout.{ended}
 use Rattle.index_model.specs.NameIndex.{Indexed, Row as IndexRow, all_indexed, names_in, in_index_order, rows_of, name_index_bytes, name_index_strings}
 use Rattle.index_model.specs.Ordered.{bytes_lt}
 use Rattle.debugnames_write.specs.declared.groups.NameEntries.{NameEntries}
-use Rattle.debugnames_write.specs.declared.item.IndexEntry.{IndexEntry}
 use Rattle.debugnames_write.specs.declared.name.Name.{Name}
 use Rattle.debugnames_write.specs.declared.name.NameTable.{NameTable}
 use Rattle.debugnames_write.specs.Conditions.{Fits}
-use Rattle.debugnames_write.specs.Groups.{SameByName, AreGroupsOf, group_names, entries_named}
+use Rattle.debugnames_write.specs.Groups.{AreGroupsOf, group_names, entries_of}
 use Rattle.debugnames_write.specs.Laid.{laid_out}
 use Rattle.debugnames_write.specs.Names.{AreNamesOf, IsNameOf, HaveBuckets, HaveRows, StringsPass}
 use Rattle.index_model.specs.Order.{Rises}
 use Rattle.debugnames_write.specs.Seen.{items_seen, name_key, texts}
 use Rattle.debugnames_write.proofs.NameLaws.{index_order}
 use Rattle.index_model.proofs.Orders.{bytes_order, ascending_rises}
-use Rattle.debugnames_write.proofs.Whole.{same_names, have_rows, kept_texts, kept_items, whole_is}
+use Rattle.debugnames_write.proofs.Whole.{have_rows, kept_texts, kept_items, whole_is}
 
 -- each text takes a byte at least
 ended_long : (xs : List (List ℕ)) → length xs ≤ length (flat_map ended xs)
 ended_long [] = omega arith
 ended_long (x ∷ xs) = let rest = ended_long xs in omega (arith, rest, length-append (ended x) (flat_map ended xs), length-append x (0 ∷ []))
 
-module _ (units : List UnitHeader) (old : ℕ) (entries : List Entry) (items sorted : List IndexEntry) (gs : List NameEntries)
-    (all : items_seen items ≡ all_indexed units entries) (same : SameByName (items_seen items) (items_seen sorted)) (groups : AreGroupsOf (items_seen sorted) gs) where
-  pub strings_are : group_names gs ≡ names_in (all_indexed units entries)
-  strings_are = groups.names ∙ sym (same_names (items_seen items) (items_seen sorted) same) ∙ ap names_in all
+module _ (units : List UnitHeader) (old : ℕ) (entries : List Entry) (gs : List NameEntries) (groups : AreGroupsOf (all_indexed units entries) gs) where
+  strings_are : group_names gs ≡ names_in (all_indexed units entries)
+  strings_are = groups.names
 
   pub strings_rise : Rises bytes_lt (group_names gs)
   strings_rise = subst (λ (w : List (List ℕ)). Rises bytes_lt w) (sym strings_are) (ascending_rises bytes_lt bytes_order (map (λ (e : Indexed). e.name) (all_indexed units entries)))
@@ -70,14 +68,8 @@ module _ (units : List UnitHeader) (old : ℕ) (entries : List Entry) (items sor
     each_named : All (IsNameOf (names_in (all_indexed units entries)) old) names
     each_named = subst (λ (w : List (List ℕ)). All (IsNameOf w old) names) strings_are each_after
 
-    abbrev Owns : List Indexed → Name → Type 0
-    Owns es n = items_seen n.items.now ≡ entries_named n.text.now es
-
-    own_items : All (Owns (items_seen items)) names
-    own_items = All-permutation (Owns (items_seen items)) ns.names.items names moved (kept_items ns.names.items gs named.kept (items_seen items) (items_seen sorted) same groups.each)
-
-    own_all : All (Owns (all_indexed units entries)) names
-    own_all = subst (λ (w : List Indexed). All (Owns w) names) all own_items
+    own_all : All (λ n. items_seen n.items.now ≡ entries_of (all_indexed units entries) n.text.now) names
+    own_all = All-permutation (λ (n : Name). items_seen n.items.now ≡ entries_of (all_indexed units entries) n.text.now) ns.names.items names moved (kept_items ns.names.items gs named.kept (all_indexed units entries) groups.each)
 
     pub names_few : length names < 4294967296
     names_few = let long = ended_long (group_names gs) in omega (arith, many, long, named.end, named.fits)
@@ -89,16 +81,16 @@ module _ (units : List UnitHeader) (old : ℕ) (entries : List Entry) (items sor
         let some : 0 < length names = omega arith in
         (own, let below = mod_below (name_hash (get_or names k d).text.now) (length names) some in omega (arith, own, below))
 
-    pub names_rows : (rows : List IndexRow) → rows ≡ rows_of (items_seen items) → All (λ n. HaveRows rows n.items.now) names
-    names_rows rows is k d lt = subst (λ (w : List IndexRow). HaveRows w (get_or names k d).items.now) (sym is) (have_rows (items_seen items) (get_or names k d).text.now (get_or names k d).items.now (own_items k d lt))
+    pub names_rows : (rows : List IndexRow) → rows ≡ rows_of (all_indexed units entries) → All (λ n. HaveRows rows n.items.now) names
+    names_rows rows is k d lt = subst (λ (w : List IndexRow). HaveRows w (get_or names k d).items.now) (sym is) (have_rows (all_indexed units entries) (get_or names k d).text.now (get_or names k d).items.now (own_all k d lt))
 
-    pub index_is : (rows : List IndexRow) → rows ≡ rows_of (items_seen items) → laid_out units rows names ≡ name_index_bytes units old entries
-    index_is rows is = ap (λ (w : List IndexRow). laid_out units w names) (is ∙ ap rows_of all) ∙ whole_is units old entries names order_is each_named own_all
+    pub index_is : (rows : List IndexRow) → rows ≡ rows_of (all_indexed units entries) → laid_out units rows names ≡ name_index_bytes units old entries
+    index_is rows is = ap (λ (w : List IndexRow). laid_out units w names) is ∙ whole_is units old entries names order_is each_named own_all
 
-    pub index_stop : (rows : List IndexRow) → rows ≡ rows_of (items_seen items) → 4294967283 < length (laid_out units rows names) → Fits units old entries → ⊥
+    pub index_stop : (rows : List IndexRow) → rows ≡ rows_of (all_indexed units entries) → 4294967283 < length (laid_out units rows names) → Fits units old entries → ⊥
     index_stop rows is pass fits = let long = ap (λ (w : List ℕ). length w) (index_is rows is) in let few = fits.names in omega (arith, long, few, pass)
 
-    pub index_fits : (rows : List IndexRow) → rows ≡ rows_of (items_seen items) → length (laid_out units rows names) ≤ 4294967283 → Fits units old entries
+    pub index_fits : (rows : List IndexRow) → rows ≡ rows_of (all_indexed units entries) → length (laid_out units rows names) ≤ 4294967283 → Fits units old entries
     index_fits rows is few = record {
       names = let long = ap (λ (w : List ℕ). length w) (index_is rows is) in omega (arith, long, few);
       strings = let long = ap (λ (w : List ℕ). length w) strings_added in omega (arith, long, named.end, named.fits);

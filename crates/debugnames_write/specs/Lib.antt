@@ -1,6 +1,8 @@
 pub mod Answers
 pub mod Conditions
+pub mod Counts
 pub mod Groups
+pub mod Items
 pub mod Laid
 pub mod Made
 pub mod Names

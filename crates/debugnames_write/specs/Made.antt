@@ -3,13 +3,10 @@ use Rattle.std.specs.Prelude.{◌≡◌, List}
 use Rattle.index_model.specs.declared.entry.Entry.{Entry}
 use Rattle.index_model.specs.declared.unit.Unit.{Unit as UnitHeader}
 use Rattle.index_model.specs.NameIndex.{Row as IndexRow, all_indexed, rows_of}
-use Rattle.debugnames_write.specs.declared.item.IndexEntry.{IndexEntry}
-use Rattle.debugnames_write.specs.Groups.{SameByName}
-use Rattle.debugnames_write.specs.Seen.{items_seen}
+use Rattle.debugnames_write.specs.declared.groups.NameEntries.{NameEntries}
+use Rattle.debugnames_write.specs.Groups.{AreGroupsOf}
 
--- the entries that the index has, of each name in section order, and the rows of them in section order
-pub record AreMadeOf (units : List UnitHeader) (rows : List IndexRow) (items : List IndexEntry) (entries : List Entry) : Type 0 where
-  pub in_order : List IndexEntry
-  pub all : items_seen in_order ≡ all_indexed units entries
-  pub same : SameByName (items_seen in_order) (items_seen items)
-  pub rows_are : rows ≡ rows_of (items_seen in_order)
+-- the entries that the index has by their names, and the rows of them
+pub record AreMadeOf (units : List UnitHeader) (rows : List IndexRow) (groups : List NameEntries) (entries : List Entry) : Type 0 where
+  pub groups_are : AreGroupsOf (all_indexed units entries) groups
+  pub rows_are : rows ≡ rows_of (all_indexed units entries)

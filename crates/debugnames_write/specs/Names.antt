@@ -1,10 +1,11 @@
 -- What is kept of each name.
-use Rattle.std.specs.Prelude.{◌≡◌, ℕ, ◌+◌, ◌%◌, ◌<◌, ◌≤◌, List, length, map, flat_map, All, Contains, IsPermutation, IsSorted}
+use Rattle.std.specs.Prelude.{◌≡◌, ℕ, ◌+◌, ◌%◌, ◌<◌, ◌≤◌, List, [], ◌∷◌, length, map, take, drop, flat_map, All, Contains, IsPermutation, IsSorted}
 use Rattle.std.specs.Ordering.{nat_cmp}
 use Rattle.std.specs.Cmp.Lexicographic.{slice_cmp}
 use Rattle.index_model.specs.Hashes.{name_hash}
 use Rattle.index_model.specs.Layout.{below, ended, start_of}
 use Rattle.index_model.specs.NameIndex.{Row as IndexRow, string_offset}
+use Rattle.query_engine.specs.declared.listing.ListedName.{ListedName}
 use Rattle.debugnames_write.specs.declared.groups.NameEntries.{NameEntries}
 use Rattle.debugnames_write.specs.declared.item.IndexEntry.{IndexEntry}
 use Rattle.debugnames_write.specs.declared.name.Name.{Name}
@@ -18,6 +19,11 @@ use Rattle.debugnames_write.specs.Seen.{name_key}
 -- a name with its entries
 abbrev pub Kept : Type 0
 Kept = List ℕ × List IndexEntry
+
+-- the names, each with as many of the entries as it has, of one name after the other
+unfoldable pub cut : List IndexEntry → List ListedName → List Kept
+cut items [] = []
+cut items (n ∷ ns) = (n.name.now, take n.count items) ∷ cut (drop n.count items) ns
 
 -- what a name keeps of its group
 abbrev pub kept_of_name : Name → Kept

@@ -56,7 +56,7 @@ impl Model for Abbreviations {
 
 impl Abbreviations {
     /// The abbreviations of these entries.
-    pub fn of(alloc: Global, items: &[IndexEntry<'_>]) -> Result<Abbreviations, AllocError>
+    pub fn of(alloc: Global, items: &[IndexEntry]) -> Result<Abbreviations, AllocError>
         ensures { IfOk result (λ a. a ≡ rows_of (items_seen items.now)) }
     {
         let mut rows = Vec::new(alloc);
@@ -116,7 +116,7 @@ impl Abbreviations {
 }
 
 // Whether the entry at the index has the row of the one before it.
-fn keeps_row(items: &[IndexEntry<'_>], index: usize) -> bool
+fn keeps_row(items: &[IndexEntry], index: usize) -> bool
     requires { index < length items.now }
     ensures { IsTrue result → KeepsRowAt items.now index }
 {

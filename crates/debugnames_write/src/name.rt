@@ -28,7 +28,7 @@ pub(crate) struct Name<'r> {
     pub text: &'r [u8],
     /// Where the string stands in `.debug_str`.
     pub string: u32,
-    pub items: &'r [IndexEntry<'r>],
+    pub items: &'r [IndexEntry],
 }
 
 impl PartialEq for Name<'_> {

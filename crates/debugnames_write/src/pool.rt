@@ -100,7 +100,7 @@ pub(crate) fn push_pool(
 }
 
 // How many bytes the entries of a name and the zero behind them have.
-fn group_size(abbreviations: &Abbreviations, items: &[IndexEntry<'_>]) -> u64
+fn group_size(abbreviations: &Abbreviations, items: &[IndexEntry]) -> u64
     requires { HaveRows abbreviations.now items.now }
     ensures { result ≡ min (length (entries_bytes abbreviations.now items.now)) (2 ^ 64 - 1) }
 {
@@ -117,7 +117,7 @@ fn group_size(abbreviations: &Abbreviations, items: &[IndexEntry<'_>]) -> u64
 fn push_group(
     out: &mut Vec<u8>,
     abbreviations: &Abbreviations,
-    items: &[IndexEntry<'_>],
+    items: &[IndexEntry],
 ) -> Result<(), AllocError>
     requires { HaveRows abbreviations.now items.now }
     ensures { OnOk result (out.new.items ≡ out.old.items ++ entries_bytes abbreviations.now items.now) }

@@ -7,7 +7,7 @@ ghost use Rattle.index_model.specs.NameIndex.{name_index_bytes, name_index_strin
 ghost use Rattle.index_model.specs.Layout.{ended};
 ghost use Rattle.debugnames_write.specs.Answers.{Answers};
 ghost use Rattle.debugnames_write.specs.Conditions.{AreIndexable, Fits};
-ghost use Rattle.debugnames_write.specs.Groups.{AreSorted, group_names};
+ghost use Rattle.debugnames_write.specs.Groups.{group_names};
 ghost use Rattle.debugnames_write.specs.Laid.{laid_out};
 ghost use Rattle.debugnames_write.specs.Made.{AreMadeOf};
 ghost use Rattle.debugnames_write.specs.Names.{HaveBuckets, HaveRows};
@@ -15,9 +15,9 @@ ghost use Rattle.debugnames_write.specs.Units.{ArePlacesOf};
 ghost use Rattle.debugnames_write.specs.declared.writer.WriteStop.TheVariants as stops;
 
 use crate::abbreviations::Abbreviations;
-use crate::groups::groups_of;
+use crate::groups::{NameEntries, groups_of};
 use crate::index::index_bytes;
-use crate::item::{IndexEntry, sorted_items};
+use crate::listed::{ListedItems, sorted_items};
 use crate::name::{Name, sorted_names};
 use crate::strings::strings_of;
 use crate::threads::both;
@@ -93,8 +93,9 @@ pub fn write<R: Threads + Sync>(
     ensures too_large { IfErr result (λ stop. stop ≡ stops.TooLarge → ¬ Fits units.now old_strings table.now) }
 {
     let places = UnitPlaces::of(alloc, units)?;
-    let items = sorted_items(rt, alloc, units, &places, table)?;
+    let ListedItems { names, items } = sorted_items(rt, alloc, units, &places, table)?;
     let abbreviations = Abbreviations::of(alloc, &items)?;
+    let groups = groups_of(alloc, &names, &items)?;
     let halvings = table.halvings();
     name_bytes(
         rt,
@@ -103,12 +104,12 @@ pub fn write<R: Threads + Sync>(
         units,
         &places,
         &abbreviations,
-        &items,
+        &groups,
         old_strings,
     )
 }
 
-// The bytes for entries that are sorted by their names. Work over them is halved so often for threads.
+// The bytes for the entries of these names. Work over them is halved so often for threads.
 fn name_bytes<R: Threads + Sync>(
     rt: &R,
     alloc: Global,
@@ -116,26 +117,24 @@ fn name_bytes<R: Threads + Sync>(
     units: &[Unit],
     places: &UnitPlaces,
     abbreviations: &Abbreviations,
-    items: &[IndexEntry<'_>],
+    groups: &[NameEntries<'_>],
     old_strings: u64,
 ) -> Result<NameBytes, WriteStop>
     requires units { length units.now ≤ 16777215 }
     requires starts { All (λ u. u.start < 4294967296) units.now }
     requires places { ArePlacesOf units.now places.now }
-    requires sorted { AreSorted items.now }
-    requires made { (entries : List Entry) × AreMadeOf units.now abbreviations.now items.now entries }
-    ensures names { (entries : List Entry) → AreMadeOf units.now abbreviations.now items.now entries → IfOk result (λ bytes. bytes.names ≡ name_index_bytes units.now old_strings entries) }
-    ensures strings { (entries : List Entry) → AreMadeOf units.now abbreviations.now items.now entries → IfOk result (λ bytes. bytes.strings ≡ name_index_strings units.now entries) }
-    ensures fits { (entries : List Entry) → AreMadeOf units.now abbreviations.now items.now entries → OnOk result (Fits units.now old_strings entries) }
-    ensures too_large { (entries : List Entry) → AreMadeOf units.now abbreviations.now items.now entries → IfErr result (λ stop. stop ≡ stops.TooLarge → ¬ Fits units.now old_strings entries) }
+    requires made { (entries : List Entry) × AreMadeOf units.now abbreviations.now groups.now entries }
+    ensures names { (entries : List Entry) → AreMadeOf units.now abbreviations.now groups.now entries → IfOk result (λ bytes. bytes.names ≡ name_index_bytes units.now old_strings entries) }
+    ensures strings { (entries : List Entry) → AreMadeOf units.now abbreviations.now groups.now entries → IfOk result (λ bytes. bytes.strings ≡ name_index_strings units.now entries) }
+    ensures fits { (entries : List Entry) → AreMadeOf units.now abbreviations.now groups.now entries → OnOk result (Fits units.now old_strings entries) }
+    ensures too_large { (entries : List Entry) → AreMadeOf units.now abbreviations.now groups.now entries → IfErr result (λ stop. stop ≡ stops.TooLarge → ¬ Fits units.now old_strings entries) }
 {
-    let groups = groups_of(rt, alloc, halvings, items)?;
-    let named = sorted_names(rt, alloc, halvings, &groups, old_strings)?;
+    let named = sorted_names(rt, alloc, halvings, groups, old_strings)?;
     let sorted: &[Name<'_>] = &named.names;
     let size = (named.strings_end - old_strings) as usize;
     let strings = || -> Result<Vec<u8>, AllocError>
-        ensures { IfOk result (λ v. v.items ≡ flat_map ended (group_names groups.entry.items)) }
-    { strings_of(alloc, &groups, size) };
+        ensures { IfOk result (λ v. v.items ≡ flat_map ended (group_names groups.entry.now)) }
+    { strings_of(alloc, groups, size) };
     let names = || -> Result<Vec<u8>, WriteStop>
         requires { IsSync R.row × (length units.now ≤ 16777215) × All (λ u. u.start < 4294967296) units.now × ArePlacesOf units.now places.now × (length sorted.now < 4294967296) × HaveBuckets sorted.now × All (λ n. HaveRows abbreviations.now n.items.now) sorted.now }
         ensures { Answers result (λ v. (v.items ≡ laid_out units.entry.now abbreviations.entry.now sorted.entry.now) × (length v.items ≤ 4294967283)) (4294967283 < length (laid_out units.entry.now abbreviations.entry.now sorted.entry.now)) }

@@ -34,4 +34,4 @@ returns c = λ text e.
     let le : n.base ≤ nth (tables_of n).strings.numbers k = omega (arith, c.get-offset.ensures, c.if-offset-self.false) in
     let offset : ℕ = c.get-offset.result - n.base in
     let there : text_in n.strings.now offset ≡ Some text = ap (λ (o : ℕ). text_in n.strings.now (o - n.base)) c.get-offset.ensures ∙ sym (string_from (tables_of n) n.strings.now n.base k le) ∙ e in
-    c.is_text.ensures text (ap before_zero (take_rest n.strings.now offset) ∙ text_from n.strings.now text offset there)
+    c.is_text.ensures.text text (ap before_zero (take_rest n.strings.now offset) ∙ text_from n.strings.now text offset there)
