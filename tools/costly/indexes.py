@@ -2,6 +2,7 @@
 import struct
 
 from costly.dwarf import spellings, uleb
+from costly.prints import one_print
 
 ELEMENTS = struct.pack("<II", 1, 0x10000000)
 ABBREVIATION = b"\1\x16\3\x13"
@@ -66,6 +67,34 @@ def vectors_inside_one_another(n):
 def slots_of_one_hash(n):
     """n names that have one hash"""
     return _gdb_index(list(spellings(n)), ELEMENTS)
+
+
+def full_slots(n):
+    """n names in n slots, where n is a power of two: none is empty, and each name stands far behind its first slot"""
+    return _full_index([b"%d" % number for number in range(n)])
+
+
+def full_slots_of_ends(n):
+    """n names in n slots, each an end of one string of 4n bytes, where n is a power of two"""
+    length = 4 * n
+    slots = Slots(n // 2)
+    slots.slots = [(len(ELEMENTS) + length - 2 * end, 0) for end in range(n, 2 * n)]
+    return slots.index(ELEMENTS + b"y" * length + b"\0"), None
+
+
+def slots_of_one_print(n):
+    """n names of 24 bytes in n slots, where n is a power of two: none is empty, and all names have the number by which `look` tells names"""
+    return _full_index(list(one_print(n)))
+
+
+def _full_index(names):
+    """An index whose slots are full of these names in their order."""
+    slots, pool = Slots(len(names) // 2), bytearray(ELEMENTS)
+    slots.slots = []
+    for name in names:
+        slots.slots.append((len(pool), 0))
+        pool += name + b"\0"
+    return slots.index(bytes(pool)), None
 
 
 def slots_of_ends(n):
