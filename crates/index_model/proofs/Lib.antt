@@ -4,11 +4,12 @@ pub mod Meanings
 pub mod Scans
 pub mod UnitReads
 pub mod UnitTilingLaws
-mod ValueReads
+pub mod ValueReads
 pub mod TextReads
 pub mod TokenReads
 pub mod ParentLaws
 pub mod OrderLaws
+pub mod FirstEntry
 pub mod TextLaws
 pub mod FirstSome
 pub mod Pairs

@@ -5,7 +5,8 @@ use Rattle.std.proofs.lemmas.Bool.{cases_lt}
 use Rattle.std.proofs.lemmas.Bool.Decides.{nat_tests}
 use Rattle.std.proofs.lemmas.List.FromFn.{length-map-range_with_len, get_or-map-range_with_len}
 use Rattle.std.proofs.lemmas.List.Folds.{list_any_at}
-use Rattle.std.proofs.Math.Nat.{add-mul-mod_self_right, mod-eq_of_lt}
+use Rattle.std.proofs.Math.Nat.{add-mul-mod_self_right, mod-eq_of_lt, mod-add-mod}
+use Rattle.std.proofs.lemmas.Nat.{mul-mod_first}
 use Rattle.index_model.specs.Hashes.{odd, gdb_hash, path, slot_on_path}
 use Rattle.index_model.specs.GdbSlots.{free_slot, slots_behind, ArePlaced}
 
@@ -152,3 +153,7 @@ each_is_placed k taken [] le = tt
 each_is_placed k taken (n ∷ ns) le =
     let slot = unwrap_or (free_slot (2 ^ k) taken n) 0 in
     (some_is (free_slot (2 ^ k) taken n) (slot_is_free k taken n (omega (arith, le))), each_is_placed k (slot ∷ taken) ns (omega (arith, le)))
+
+-- the path of a hash is that of the slot that it begins with
+pub same_path : (slots hash i : ℕ) → slot_on_path slots (hash % slots) i ≡ slot_on_path slots hash i
+same_path slots hash i = ap (λ (n : ℕ). (hash % slots + i * odd n) % slots) (mul-mod_first hash 17 slots) ∙ mod-add-mod hash slots (i * odd (hash * 17 % slots))

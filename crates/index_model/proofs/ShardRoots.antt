@@ -1,5 +1,5 @@
 -- What shards say of the roots of units, and of their imports.
-use Rattle.std.proofs.Common.{◌≡◌, ℕ, suc, ◌+◌, ◌-◌, ◌<◌, ◌≤◌, Bool, true, false, cond, leb, eqb, ◌&&◌, ◌||◌, List, [], ◌∷◌, ◌++◌, map, flat_map, Option, Some, None, Ok, refl, sym, ap, ◌∙◌, arith, ⊎_elim}
+use Rattle.std.proofs.Common.{◌≡◌, ℕ, suc, ◌+◌, ◌-◌, ◌<◌, ◌≤◌, Bool, true, false, cond, leb, eqb, ◌&&◌, ◌||◌, List, [], ◌∷◌, ◌++◌, length, map, flat_map, Option, Some, None, Ok, refl, sym, ap, ◌∙◌, arith, ⊎_elim}
 use Rattle.std.specs.Prelude.{Contains, find, slice_get, is_some, option_and_then}
 use Rattle.std.specs.Option.{option_map, option_or}
 use Rattle.std.specs.List.{AllZip, list_any}
@@ -210,3 +210,11 @@ module _ (ss : List Section) (o : ℕ) where
   -- the shards give the language of the first unit that imports the entry
   pub importing_are : (shards : List Shard) (runs : List (List Walked)) (n : ℕ) → AllZip (StandsFor ss) shards runs → Numbered n (joined runs) → first_some (importing_in o) shards ≡ option_and_then own_language (find imports_it (joined runs))
   importing_are shards runs n z h = all_importing shards runs n z h ∙ first_importing (joined runs)
+
+-- the number of a unit is below their count
+pub numbered_high : (n : ℕ) (ws : List Walked) (w : Walked) → Numbered n ws → Contains ws w → w.number < n + length ws
+numbered_high n [] w h c = absurd (omega (arith, c.1))
+numbered_high n (v ∷ vs) w h c = ⊎_elim
+    (λ (same : v ≡ w). omega (arith, h.0, ap (λ (x : Walked). x.number) same))
+    (λ (later : Contains vs w). omega (arith, numbered_high (n + 1) vs w h.1 later))
+    (contains_cases v vs w c)

@@ -47,7 +47,7 @@ passes_on m n i j k a b =
     let r : drop m i.rest ≡ j.rest = ap (λ (x : Input). x.rest) a.on in
     record { there = omega (arith, a.there, b.there, ap (λ (x : List ℕ). length x) r, length-drop m i.rest); on = past_past m n i ∙ ap (past n) a.on ∙ b.on }
 
-abbrev PassesSome : Input → Input → Type 0
+abbrev pub PassesSome : Input → Input → Type 0
 PassesSome i j = (m : ℕ) × (0 < m) × Passes m i j
 
 wide : Input → Option (Length × Input)
@@ -66,7 +66,7 @@ either true c i short x h is = (4, omega arith, subst (Passes 4 i) (ap (λ (p : 
 either false true i short x h is = wide_passes i short x h is
 either false false i short x h is = absurd cc
 
-initial_passes : (i : Input) (x : Length × Input) → initial_length i ≡ Some x → PassesSome i x.1
+pub initial_passes : (i : Input) (x : Length × Input) → initial_length i ≡ Some x → PassesSome i x.1
 unfolding initial_length wide
 initial_passes i x is =
     let s = bind_some (number 4 i) (λ short. cond (ltb short.0 0xFFFFFFF0) (Some (record { length = short.0; wide = false }, short.1)) (cond (eqb short.0 0xFFFFFFFF) (wide short.1) None)) x is in
