@@ -1,8 +1,7 @@
 -- An entry that is read again is that of its unit, and it has its texts.
-use Rattle.std.proofs.Common.{◌≡◌, ℕ, suc, ◌+◌, ◌-◌, ◌≤◌, Bool, eqb, length, List, [], ◌∷◌, Option, Some, None, Result, Ok, Err, refl, sym, ap, subst, ◌∙◌, arith, ⊎_elim}
+use Rattle.std.proofs.Common.{◌≡◌, ℕ, ◌+◌, ◌-◌, ◌≤◌, Bool, eqb, length, List, [], ◌∷◌, Option, Some, None, Result, Ok, Err, refl, sym, ap, subst, ◌∙◌, arith, ⊎_elim}
 use Rattle.std.specs.Prelude.{Contains, codes, find, option_and_then}
-use Rattle.std.proofs.lemmas.Bool.{cases_eq}
-use Rattle.common_laws.proofs.Members.{contains_here, contains_cases, to_map}
+use Rattle.common_laws.proofs.Members.{contains_cases, to_map}
 use Rattle.ix_base.specs.declared.fault.Fault.{Fault}
 use Rattle.ix_base.specs.Reading.{Input}
 use Rattle.index_model.specs.declared.unit.Unit.{Unit as UnitHeader}
@@ -14,13 +13,12 @@ use Rattle.index_model.specs.LawsTexts.{StandsIn}
 use Rattle.index_model.specs.Parents.{parent_offset}
 use Rattle.index_model.specs.ShardParts.{IsNodeOf, IsSeenOf}
 use Rattle.index_model.specs.declared.shard.Node.{Node}
-use Rattle.index_model.specs.Program.{Walked, Located, walked, items_of, located, root_of}
+use Rattle.index_model.specs.Program.{Walked, Located, walked, items_of, located}
 use Rattle.index_model.specs.Sections.{Section, section_bytes}
 use Rattle.index_model.specs.Strings.{Texts, base_of, texts_of}
 use Rattle.index_model.specs.Walk.{Item, walk_of, parent_of}
-use Rattle.index_model.proofs.Meanings.{bind_ok, then_ok, same_ok}
-use Rattle.index_model.proofs.OrderLaws.{walks_in_order, walk_rises}
-use Rattle.index_model.proofs.ParentLaws.{Rise, rise_below}
+use Rattle.index_model.proofs.FirstEntry.{first_is_root}
+use Rattle.index_model.proofs.Meanings.{bind_ok, first_ok, then_ok, same_ok}
 use Rattle.index_model.proofs.Scans.{read, walked_by}
 use Rattle.index_model.proofs.TextLaws.{attribute_texts_in}
 use Rattle.index_model.proofs.Located.{at_home}
@@ -35,36 +33,14 @@ use Rattle.shard_build.proofs.RunLaws.{body_is}
 -- ---- the root
 
 module _ (ss : List Section) (u : ℕ × UnitHeader) (w : Walked) (is : walked ss u ≡ Ok w) where
-  -- the first entry is the root
-  first_is_root : (r : Item) (rest : List Item) → items_of w ≡ r ∷ rest → root_of w ≡ Some r
-  first_is_root r rest all =
-      let member : Contains (items_of w) r = subst (λ (ds : List Item). Contains ds r) (sym all) (contains_here r rest) in
-      let o = walks_in_order ss u w is in
-      ⊎_elim
-      (λ (top : r.depth ≡ 0). (o.root r member top).0)
-      (λ (other : r.depth ≡ 0 → ⊥).
-      let h = o.parents r member (omega (arith, other)) in
-      let n = walk_rises ss u w is in
-      let rise : Rise n.0 (r ∷ rest) = subst (Rise n.0) all n.1 in
-      let c : Contains (r ∷ rest) h.parent = subst (λ (ds : List Item). Contains ds h.parent) all h.member in
-      absurd (⊎_elim
-      (λ (same : r ≡ h.parent). omega (arith, h.earlier, ap (λ (d : Item). d.at) same))
-      (λ (later : Contains rest h.parent). omega (arith, h.earlier, rise_below (suc r.at) rest h.parent rise.1 later))
-      (contains_cases r rest h.parent c)))
-      (cases_eq r.depth 0)
-
   pub base_by_root : (r : Item) (rest : List Item) → items_of w ≡ r ∷ rest → read_as as_offset 0x72 r ≡ base_of 0x72 w
-  base_by_root r rest all = ap (option_and_then (read_as as_offset 0x72)) (sym (first_is_root r rest all))
+  base_by_root r rest all = ap (option_and_then (read_as as_offset 0x72)) (sym (first_is_root ss u w is r rest all))
 
 -- without entries there is no base
 pub no_base : (w : Walked) → items_of w ≡ [] → None ≡ base_of 0x72 w
 no_base w none = ap (λ (ds : List Item). option_and_then (read_as as_offset 0x72) (find (λ d. eqb d.depth 0) ds)) (sym none)
 
 -- ---- texts
-
-first_ok : {A B E : Type 0} (r : Result A E) (s : Result B E) (y : B) → (r >> s) ≡ Ok y → (x : A) × (r ≡ Ok x)
-first_ok (Ok x) s y is = (x, refl)
-first_ok (Err e) s y is = absurd cc
 
 each_ok : {A B E : Type 0} (f : A → Result B E) (xs : List A) (ys : List B) → each f xs ≡ Ok ys → (x : A) → Contains xs x → (y : B) × (f x ≡ Ok y)
 each_ok f [] ys is x c = absurd (omega (arith, c.1))

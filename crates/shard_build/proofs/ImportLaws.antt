@@ -21,12 +21,12 @@ module _ (ss : List Section) (w : Walked) where
   abbrev import : ℕ → Import
   import t = record { unit = w.number; target = t }
 
-  same_target : (o : Option Reference) → option_and_then (target_by ss u) (option_map as_next o) ≡ option_and_then (target_of ss w) o
+  pub same_target : (o : Option Reference) → option_and_then (target_by ss u) (option_map as_next o) ≡ option_and_then (target_of ss w) o
   unfolding target_of
   same_target None = refl
   same_target (Some r) = refl
 
-  one_more : (o : Option ℕ) (more : List ℕ) → option_to_list (option_map import o) ++ map import more ≡ map import (cons_option o more)
+  pub one_more : (o : Option ℕ) (more : List ℕ) → option_to_list (option_map import o) ++ map import more ≡ map import (cons_option o more)
   one_more None more = refl
   one_more (Some t) more = refl
 
