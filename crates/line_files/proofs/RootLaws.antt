@@ -1,9 +1,7 @@
 -- The first entry of a unit is its root, and it says where the unit's line table begins.
-use Rattle.std.proofs.Common.{◌≡◌, ℕ, suc, ◌+◌, ◌-◌, ◌≤◌, eqb, length, take, drop, List, [], ◌∷◌, Option, Some, None, Result, Ok, Err, refl, sym, ap, subst, ◌∙◌, arith, ⊎_elim, length-take}
-use Rattle.std.specs.Prelude.{Contains, codes, find, option_and_then}
-use Rattle.std.proofs.lemmas.Bool.{cases_eq}
+use Rattle.std.proofs.Common.{◌≡◌, ℕ, ◌+◌, ◌-◌, ◌≤◌, eqb, length, take, drop, List, [], ◌∷◌, Option, Some, None, Result, Ok, Err, refl, sym, ap, ◌∙◌, arith, length-take}
+use Rattle.std.specs.Prelude.{codes, find, option_and_then}
 use Rattle.std.proofs.lemmas.List.{drop-drop, drop-take}
-use Rattle.common_laws.proofs.Members.{contains_here, contains_cases}
 use Rattle.ix_base.specs.declared.code.TheConstants.{BAD_ABBREVIATION}
 use Rattle.ix_base.specs.declared.fault.Fault.{Fault}
 use Rattle.ix_base.specs.declared.fault.Stop.{Stop}
@@ -17,8 +15,7 @@ use Rattle.index_model.specs.Meaning.{fault, some_or}
 use Rattle.index_model.specs.Program.{Walked, body, items_of, joint, root_of, walked}
 use Rattle.index_model.specs.Sections.{Section, section_bytes}
 use Rattle.index_model.specs.Walk.{Item, items, walk_of}
-use Rattle.index_model.proofs.OrderLaws.{walk_rises, walks_in_order}
-use Rattle.index_model.proofs.ParentLaws.{Rise, rise_below}
+use Rattle.index_model.proofs.FirstEntry.{first_is_root}
 use Rattle.index_model.proofs.Scans.{read}
 use Rattle.entry_scan.specs.Inside.{tree_of}
 use Rattle.file_image.specs.Images.{unit_bytes}
@@ -28,29 +25,12 @@ use Rattle.line_files.specs.Places.{first_item, place_by, place_of}
 -- ---- the root
 
 module _ (ss : List Section) (u : ℕ × UnitHeader) (w : Walked) (is : walked ss u ≡ Ok w) where
-  first_is_root : (r : Item) (rest : List Item) → items_of w ≡ r ∷ rest → root_of w ≡ Some r
-  first_is_root r rest all =
-      let member : Contains (items_of w) r = subst (λ (ds : List Item). Contains ds r) (sym all) (contains_here r rest) in
-      let o = walks_in_order ss u w is in
-      ⊎_elim
-      (λ (top : r.depth ≡ 0). (o.root r member top).0)
-      (λ (other : r.depth ≡ 0 → ⊥).
-      let h = o.parents r member (omega (arith, other)) in
-      let n = walk_rises ss u w is in
-      let rise : Rise n.0 (r ∷ rest) = subst (Rise n.0) all n.1 in
-      let c : Contains (r ∷ rest) h.parent = subst (λ (ds : List Item). Contains ds h.parent) all h.member in
-      absurd (⊎_elim
-      (λ (same : r ≡ h.parent). omega (arith, h.earlier, ap (λ (d : Item). d.at) same))
-      (λ (later : Contains rest h.parent). omega (arith, h.earlier, rise_below (suc r.at) rest h.parent rise.1 later))
-      (contains_cases r rest h.parent c)))
-      (cases_eq r.depth 0)
-
   root_is_first : root_of w ≡ first_item (items_of w)
   root_is_first = by (items_of w) refl
     where
       by : (ds : List Item) → items_of w ≡ ds → root_of w ≡ first_item ds
       by [] none = ap (λ (ds : List Item). find (λ d. eqb d.depth 0) ds) none
-      by (r ∷ rest) all = first_is_root r rest all
+      by (r ∷ rest) all = first_is_root ss u w is r rest all
 
 -- ---- the place
 
