@@ -1,17 +1,12 @@
 -- What is read of the root of a unit is what the definitions ask of it.
-use Rattle.std.proofs.Common.{◌≡◌, ℕ, suc, cond, eqb, List, [], ◌∷◌, Option, Some, None, Ok, refl, sym, ap, subst, ◌∙◌, arith, ⊎_elim}
-use Rattle.std.specs.Prelude.{Contains, find, option_and_then, unwrap_or}
-use Rattle.std.proofs.lemmas.Bool.{cases_eq}
-use Rattle.common_laws.proofs.Members.{contains_here, contains_cases}
-use Rattle.index_model.specs.declared.unit.Unit.{Unit as UnitHeader}
+use Rattle.std.proofs.Common.{◌≡◌, ℕ, cond, eqb, List, [], ◌∷◌, Option, Some, None, refl, sym, ap, ◌∙◌}
+use Rattle.std.specs.Prelude.{find, option_and_then, unwrap_or}
 use Rattle.index_model.specs.Attributes.{language_value}
 use Rattle.index_model.specs.Languages.{own_language}
-use Rattle.index_model.specs.Program.{Walked, Program, walked, items_of, root_of}
+use Rattle.index_model.specs.Program.{Walked, Program, items_of, root_of}
 use Rattle.index_model.specs.Sections.{Section}
 use Rattle.index_model.specs.Strings.{base_of}
 use Rattle.index_model.specs.Walk.{Item}
-use Rattle.index_model.proofs.OrderLaws.{walks_in_order, walk_rises}
-use Rattle.index_model.proofs.ParentLaws.{Rise, rise_below}
 use Rattle.gdb_entries.specs.declared.language.LanguageClass.{LanguageClass}
 use Rattle.gdb_entries.specs.declared.language.LanguageClass.TheVariants.{Go, Other}
 use Rattle.gdb_entries.specs.Classes.{class_of}
@@ -19,26 +14,6 @@ use Rattle.gdb_entries.specs.Owners.{is_go_compiler, producer_in, own_class}
 use Rattle.gdb_units.specs.Given.{root_facts}
 use Rattle.gdb_items.specs.declared.root.RootRead.{RootRead}
 use Rattle.gdb_items.specs.Roots.{class_by, facts_by, IsRootOf}
-
--- ---- the root
-
--- the first entry is the root
-pub first_is_root : (ss : List Section) (u : ℕ × UnitHeader) (w : Walked) → walked ss u ≡ Ok w → (r : Item) (rest : List Item) → items_of w ≡ r ∷ rest → root_of w ≡ Some r
-first_is_root ss u w is r rest all =
-    let member : Contains (items_of w) r = subst (λ (ds : List Item). Contains ds r) (sym all) (contains_here r rest) in
-    let o = walks_in_order ss u w is in
-    ⊎_elim
-    (λ (top : r.depth ≡ 0). (o.root r member top).0)
-    (λ (other : r.depth ≡ 0 → ⊥).
-    let h = o.parents r member (omega (arith, other)) in
-    let n = walk_rises ss u w is in
-    let rise : Rise n.0 (r ∷ rest) = subst (Rise n.0) all n.1 in
-    let c : Contains (r ∷ rest) h.parent = subst (λ (ds : List Item). Contains ds h.parent) all h.member in
-    absurd (⊎_elim
-    (λ (same : r ≡ h.parent). omega (arith, h.earlier, ap (λ (d : Item). d.at) same))
-    (λ (later : Contains rest h.parent). omega (arith, h.earlier, rise_below (suc r.at) rest h.parent rise.1 later))
-    (contains_cases r rest h.parent c)))
-    (cases_eq r.depth 0)
 
 -- without entries there is none
 no_root : (w : Walked) → items_of w ≡ [] → root_of w ≡ None

@@ -6,7 +6,8 @@ use Rattle.index_model.specs.Walk.{Walk, items}
 use Rattle.index_model.specs.Program.{items_of}
 use Rattle.index_model.proofs.Scans.{scanned_walked}
 use Rattle.shard_build.specs.Again.{walk_by}
-use Rattle.gdb_items.proofs.RootLaws.{first_is_root, root_read, none_read}
+use Rattle.index_model.proofs.FirstEntry.{first_is_root}
+use Rattle.gdb_items.proofs.RootLaws.{root_read, none_read}
 use Rattle.gdb_items.proofs.root.RootRead.of_first.Goals as goal
 use Rattle.gdb_items.proofs.root.RootRead.of_first.Goals.{in_default-via-in-Ok+in_default, in_default-via-in_default}
 
