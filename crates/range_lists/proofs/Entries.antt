@@ -1,58 +1,26 @@
 -- What the entries of a list take of its section.
-use Rattle.std.proofs.Common.{◌≡◌, ℕ, ◌+◌, ◌*◌, ◌-◌, ◌^◌, ◌<◌, ◌≤◌, Bool, true, false, cond, eqb, ltb, List, [], ◌∷◌, length, Option, Some, None, Result, Ok, ap, subst, arith}
-use Rattle.std.proofs.lemmas.Option.{cond_some, same_Some}
+use Rattle.std.proofs.Common.{◌≡◌, ℕ, ◌+◌, ◌<◌, Bool, true, false, cond, eqb, List, [], ◌∷◌, Option, Some, None, Result, Ok, ap, subst, arith}
 use Rattle.ix_base.specs.declared.code.TheConstants.{BAD_RANGE}
-use Rattle.ix_base.specs.Reading.{Input, number, uleb, past, unsigned_leb, leb64, ◌>>=◌ as ◌>>=?◌}
+use Rattle.ix_base.specs.Reading.{Input, number, uleb}
 use Rattle.index_model.specs.Meaning.{◌>>=◌, some_or}
 use Rattle.index_model.specs.Sections.{Section}
 use Rattle.index_model.specs.Program.{Walked}
 use Rattle.index_model.specs.RangeLists.{ListEntry, End, Base, Bounds, Offsets, EntryReader, Operand, indexed_address, fixed, plain, index, one, two, long, kinds, kind_reader, kind_at, pair_at}
-use Rattle.index_model.proofs.Meanings.{bind_ok, bind_some, same_ok, some_ok}
+use Rattle.index_model.proofs.Meanings.{bind_ok, same_ok, some_ok}
 use Rattle.index_model.proofs.UnitReads.{Passes, number_passes, passes_on, past_none}
+use Rattle.index_model.proofs.ValueReads.{Goes, goes_on, uleb_passes}
 use Rattle.range_lists.specs.declared.list_entry.ListFormat.{ListFormat}
 use Rattle.range_lists.specs.declared.list_entry.ListFormat.TheVariants.{Pairs, Kinds}
 use Rattle.range_lists.specs.Lists.{reader_for}
 
--- ---- LEB numbers
-
-abbrev IsCount : List ℕ → ℕ → Type 0
-IsCount bs n = (1 ≤ n) × (n ≤ length bs)
-
-module _ (b : ℕ) (bs : List ℕ) where
-  abbrev longer : Option (ℕ × ℕ)
-  longer = unsigned_leb bs >>=? λ high. Some (b - 128 + 128 * high.0, high.1 + 1)
-
-  one_or_more : (c : Bool) (x : ℕ × ℕ) → ((y : ℕ × ℕ) → unsigned_leb bs ≡ Some y → IsCount bs y.1) → cond c (Some (b, 1)) longer ≡ Some x → IsCount (b ∷ bs) x.1
-  one_or_more true x more e = let n = ap (λ (p : ℕ × ℕ). p.1) (same_Some (b, 1) x e) in (omega (arith, n), omega (arith, n))
-  one_or_more false x more e =
-      let h = bind_some (unsigned_leb bs) (λ high. Some (b - 128 + 128 * high.0, high.1 + 1)) x e in
-      let n = ap (λ (p : ℕ × ℕ). p.1) (same_Some (b - 128 + 128 * h.0.0, h.0.1 + 1) x h.2) in
-      let r = more h.0 h.1 in
-      (omega (arith, n, r.0), omega (arith, n, r.1))
-
-leb_count : (bs : List ℕ) (x : ℕ × ℕ) → unsigned_leb bs ≡ Some x → IsCount bs x.1
-unfolding unsigned_leb
-leb_count [] x is = absurd cc
-leb_count (b ∷ bs) x is = one_or_more b bs (ltb b 128) x (leb_count bs) is
-
 -- ---- operands
-
--- bytes were passed, or none
-abbrev Goes : Input → Input → Type 0
-Goes i j = (n : ℕ) × Passes n i j
 
 -- bytes were passed
 abbrev pub Takes : Input → Input → Type 0
 Takes i j = (n : ℕ) × (0 < n) × Passes n i j
 
 uleb_goes : (i : Input) (x : ℕ × Input) → uleb i ≡ Some x → Goes i x.1
-uleb_goes i x is =
-    let n = bind_some (leb64 i.rest) (λ n. Some (n.0, past n.1 i)) x is in
-    let m = bind_some (unsigned_leb i.rest) (λ n. cond (ltb n.0 (2 ^ 64)) (Some n) None) n.0 n.1 in
-    let p = cond_some (ltb m.0.0 (2 ^ 64)) m.0 n.0 m.2 in
-    let c = leb_count i.rest m.0 m.1 in
-    let k : m.0.1 ≡ n.0.1 = ap (λ (q : ℕ × ℕ). q.1) p.1 in
-    (n.0.1, record { there = omega (arith, c.1, k); on = ap (λ (q : ℕ × Input). q.1) (same_Some (n.0.0, past n.0.1 i) x n.2) })
+uleb_goes i x is = let h = uleb_passes i x is in (h.0, h.2)
 
 some_is : {A : Type 0} (o : Option A) (e : ℕ) (x : A) → some_or o e ≡ Ok x → o ≡ Some x
 some_is {A = A} (Some y) e x is = ap {B = Option A} (λ (z : A). Some z) (same_ok y x is)
@@ -84,14 +52,11 @@ one_moves make read h i x is =
     let a = bind_ok (read i) (λ a. Ok (make a.0, a.1)) x is in
     subst (Goes i) (ap (λ (y : ListEntry × Input). y.1) (same_ok (make a.0.0, a.0.1) x a.2)) (h i a.0 a.1)
 
-then_moves : (i j k : Input) → Goes i j → Goes j k → Goes i k
-then_moves i j k a b = (a.0 + b.0, passes_on a.0 b.0 i j k a.1 b.1)
-
 two_moves : (make : ℕ → ℕ → ListEntry) (low high : Operand) → Moves low → Moves high → Moves (two make low high)
 two_moves make low high g h i x is =
     let a = bind_ok (low i) (λ a. high a.1 >>= λ b. Ok (make a.0 b.0, b.1)) x is in
     let b = bind_ok (high a.0.1) (λ b. Ok (make a.0.0 b.0, b.1)) x a.2 in
-    subst (Goes i) (ap (λ (y : ListEntry × Input). y.1) (same_ok (make a.0.0 b.0.0, b.0.1) x b.2)) (then_moves i a.0.1 b.0.1 (g i a.0 a.1) (h a.0.1 b.0 b.1))
+    subst (Goes i) (ap (λ (y : ListEntry × Input). y.1) (same_ok (make a.0.0 b.0.0, b.0.1) x b.2)) (goes_on i a.0.1 b.0.1 (g i a.0 a.1) (h a.0.1 b.0 b.1))
 
 abbrev AllMove : List (ℕ × EntryReader) → Type 0
 AllMove [] = Unit {0}
