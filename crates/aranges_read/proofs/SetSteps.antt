@@ -1,11 +1,11 @@
 -- The sets of a table, read one after the other.
-use Rattle.std.proofs.Common.{◌≡◌, ℕ, zero, suc, ◌+◌, ◌<◌, ◌≤◌, Bool, true, false, cond, leb, ltb, eqb, List, [], ◌∷◌, ◌++◌, length, take, Option, Some, None, Result, Ok, Err, refl, sym, ap, subst, ◌∙◌, arith, append_assoc, append-nil, length-drop}
+use Rattle.std.proofs.Common.{◌≡◌, ℕ, zero, suc, ◌+◌, ◌<◌, ◌≤◌, Bool, true, false, cond, leb, eqb, List, [], ◌∷◌, ◌++◌, length, take, Some, Result, Ok, Err, refl, sym, ap, subst, ◌∙◌, arith, append_assoc, append-nil, length-drop}
 use Rattle.std.proofs.lemmas.Bool.{leb-true}
 use Rattle.std.proofs.lemmas.Option.{cond_some, same_Some}
 use Rattle.ix_base.specs.declared.fault.Fault.{Fault}
 use Rattle.ix_base.specs.declared.fault.Stop.{Stop}
 use Rattle.ix_base.specs.declared.fault.Stop.TheVariants as stops
-use Rattle.ix_base.specs.Reading.{Input, Length, number, past, part, initial_length, ◌>>=◌ as ◌>>=?◌}
+use Rattle.ix_base.specs.Reading.{Input, Length, past, part, initial_length}
 use Rattle.index_model.specs.declared.range.UnitRange.{UnitRange}
 use Rattle.index_model.specs.declared.unit.Unit.{Unit as UnitHeader}
 use Rattle.index_model.specs.Gives.{StopsAs}
@@ -13,7 +13,7 @@ use Rattle.index_model.specs.Meaning.{◌>>=◌, fault}
 use Rattle.index_model.specs.Tiling.{up_to, tiles}
 use Rattle.index_model.proofs.Meanings.{bind_ok, some_ok, bind_some, same_ok}
 use Rattle.index_model.proofs.TilingLaws.{Advances, tiles_item, tiles_fault, tiles_end}
-use Rattle.index_model.proofs.UnitReads.{Passes, number_passes}
+use Rattle.index_model.proofs.UnitReads.{Passes, initial_passes}
 use Rattle.reach_model.specs.declared.code.TheConstants.{ARANGES_LENGTH, ARANGES_NO_END}
 use Rattle.reach_model.specs.AddressSets.{AddressSet, SetParts, set_header, set_parts, unit_of_set, pairs_in, kept_ranges, next_set}
 use Rattle.aranges_read.specs.Sets.{of_unit, ranges_in, with_set, with_sets}
@@ -26,24 +26,8 @@ fewer n i j h some = omega (arith, some, h.there, length-drop n i.rest, ap (λ (
 no_more : (n : ℕ) (i j : Input) → Passes n i j → length j.rest ≤ length i.rest
 no_more n i j h = omega (arith, h.there, length-drop n i.rest, ap (λ (x : Input). length x.rest) h.on)
 
-wide : Input → Option (Length × Input)
-wide i = number 8 i >>=? λ long. Some (record { length = long.0; wide = true }, long.1)
-
 length_fewer : (i : Input) (x : Length × Input) → initial_length i ≡ Some x → length x.1.rest < length i.rest
-unfolding initial_length wide
-length_fewer i x is =
-    let s = bind_some (number 4 i) (λ short. cond (ltb short.0 0xFFFFFFF0) (Some (record { length = short.0; wide = false }, short.1)) (cond (eqb short.0 0xFFFFFFFF) (wide short.1) None)) x is in
-    let four = fewer 4 i s.0.1 (number_passes 4 i s.0 s.1) (omega arith) in
-    by s.0 four (ltb s.0.0 0xFFFFFFF0) (eqb s.0.0 0xFFFFFFFF) s.2
-  where
-    by : (short : ℕ × Input) → length short.1.rest < length i.rest → (b c : Bool) → cond b (Some (record { length = short.0; wide = false }, short.1)) (cond c (wide short.1) None) ≡ Some x → length x.1.rest < length i.rest
-    by short four true c h = subst (λ (y : Length × Input). length y.1.rest < length i.rest) (same_Some (record { length = short.0; wide = false }, short.1) x h) four
-    by short four false true h =
-        let l = bind_some (number 8 short.1) (λ long. Some (record { length = long.0; wide = true }, long.1)) x h in
-        let eight = no_more 8 short.1 l.0.1 (number_passes 8 short.1 l.0 l.1) in
-        let lt : length l.0.1.rest < length i.rest = omega (arith, four, eight) in
-        subst (λ (y : Length × Input). length y.1.rest < length i.rest) (same_Some (record { length = l.0.0; wide = true }, l.0.1) x l.2) lt
-    by short four false false h = absurd cc
+length_fewer i x is = let p = initial_passes i x is in fewer p.0 i x.1 p.2 p.1
 
 part_no_more : (n : ℕ) (i : Input) (x : Input × Input) → part n i ≡ Some x → length x.1.rest ≤ length i.rest
 part_no_more n i x is =
