@@ -1,5 +1,5 @@
 -- What was sorted and numbered is the constant pool of the index.
-use Rattle.std.proofs.Common.{◌≡◌, ℕ, ◌+◌, ◌*◌, ◌^◌, ◌<◌, ◌≤◌, not, cond, List, [], ◌∷◌, length, get_or, map, Option, Some, None, refl, sym, ap, ◌∙◌, arith}
+use Rattle.std.proofs.Common.{◌≡◌, ℕ, ◌+◌, ◌*◌, ◌^◌, ◌<◌, not, cond, List, [], ◌∷◌, length, get_or, map, refl, sym, ap, ◌∙◌, arith}
 use mathlib.Core.Bool.{◌&&◌}
 use Rattle.std.specs.Prelude.{filter, nat_lt, All, bytes_eq, slice_range}
 use Rattle.std.proofs.lemmas.List.{map-id}

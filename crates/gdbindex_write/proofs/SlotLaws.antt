@@ -5,12 +5,13 @@ use Rattle.std.specs.List.{list_any}
 use Rattle.std.proofs.lemmas.Bool.Decides.{nat_tests}
 use Rattle.std.proofs.lemmas.List.{take_more, take_all, length-take-le, length-set, length-replicate, get_or-replicate, get_or-set_same, get_or-set_other}
 use Rattle.std.proofs.lemmas.List.FromFn.{length-map-range_with_len, get_or-map-range_with_len, fill_by_all}
-use Rattle.std.proofs.lemmas.Nat.{mod_below, mul-mod_first}
+use Rattle.std.proofs.lemmas.Nat.{mod_below}
 use Rattle.std.proofs.Math.Nat.{mod-add-mod}
 use Rattle.std.proofs.lemmas.Bool.{or_parts, le-leb, lt-leb}
 use Rattle.index_model.specs.Layout.{below}
 use Rattle.index_model.specs.Hashes.{path, gdb_hash, odd, slot_on_path}
 use Rattle.index_model.specs.GdbSlots.{slot_count, slots_of, slots_behind, free_slot, AreOwn, ArePlaced}
+use Rattle.index_model.proofs.PathLaws.{same_path}
 use Rattle.index_model.proofs.SlotLaws.{each_name_has_its_slot}
 use Rattle.gdbindex_write.specs.Slots.{is_free, numbers_at}
 use Rattle.gdbindex_write.proofs.PositionLaws.{is_some_position, position_push, position_keep, find_same, find_below}
@@ -106,10 +107,6 @@ path_next slots hash i = along (odd (hash * 17 % slots))
     along step =
         let next : (hash + i * step) + step ≡ hash + (i + 1) * step = omega arith in
         mod-add-mod (hash + i * step) slots step ∙ ap (λ (n : ℕ). n % slots) next
-
--- the path of a hash is that of the slot that it begins with
-same_path : (slots hash i : ℕ) → slot_on_path slots (hash % slots) i ≡ slot_on_path slots hash i
-same_path slots hash i = ap (λ (n : ℕ). (hash % slots + i * odd n) % slots) (mul-mod_first hash 17 slots) ∙ mod-add-mod hash slots (i * odd (hash * 17 % slots))
 
 -- ---- the loop over names
 
