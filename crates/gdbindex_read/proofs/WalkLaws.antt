@@ -8,12 +8,12 @@ use Rattle.std.specs.Str.{bytes_eq}
 use Rattle.std.proofs.lemmas.Bool.{cases_lt, eqb-true}
 use Rattle.std.proofs.lemmas.Bool.Decides.{nat_tests}
 use Rattle.std.proofs.lemmas.List.{get_or_append_left, get_or_past, get_or_push, length_push}
-use Rattle.std.proofs.lemmas.Nat.{mod_below, mul-mod_first}
+use Rattle.std.proofs.lemmas.Nat.{mod_below}
 use Rattle.std.proofs.lemmas.Slice.Eq.{bytes_eq-Decides}
-use Rattle.std.proofs.Math.Nat.{mod-add-mod}
 use Rattle.index_model.specs.Hashes.{gdb_hash, odd, slot_on_path}
 use Rattle.index_model.specs.GdbIndexRead.{Slot, is_other, is_table_size, slot_or_none}
 use Rattle.index_model.specs.GdbPath.{path_end}
+use Rattle.index_model.proofs.PathLaws.{same_path}
 use Rattle.gdbindex_read.specs.declared.homes.PathStart.{PathStart}
 use Rattle.gdbindex_read.specs.Homes.{AreFound, AreHomes, IsHome, IsPrintAt}
 use Rattle.gdbindex_read.specs.Slots.{is_found_from, is_reached}
@@ -30,10 +30,6 @@ pub record IsMet (homes : List (Option PathStart)) (begin : ℕ) (prints : BTree
 -- with more prints
 pub met_still : (homes : List (Option PathStart)) (begin : ℕ) (prints more : BTreeSet ℕ) (k : ℕ) → ((n : ℕ) → contains nat_cmp prints n ≡ true → contains nat_cmp more n ≡ true) → IsMet homes begin prints k → IsMet homes begin more k
 met_still homes begin prints more k keep m = record { home = m.home; there = m.there; kept = λ own. keep m.home.print (m.kept own) }
-
--- the path of a hash is that of the slot that it begins with
-same_path : (slots hash i : ℕ) → slot_on_path slots (hash % slots) i ≡ slot_on_path slots hash i
-same_path slots hash i = ap (λ (n : ℕ). (hash % slots + i * odd n) % slots) (mul-mod_first hash 17 slots) ∙ mod-add-mod hash slots (i * odd (hash * 17 % slots))
 
 -- items that don't pass are left out at the front
 skip_to : (p : ℕ → Bool) (g : ℕ → ℕ) (n k : ℕ) → k ≤ n → ((j : ℕ) → j < k → p (g j) ≡ false) → found_from p g 0 n ≡ found_from p g k n

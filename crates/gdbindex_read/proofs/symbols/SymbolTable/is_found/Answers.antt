@@ -1,4 +1,4 @@
-use Rattle.std.proofs.Common.{◌<◌, ℕ, List, length, ap, subst, sym, ◌∙◌, arith}
+use Rattle.std.proofs.Common.{◌<◌, length, ap, sym, ◌∙◌, arith}
 use Rattle.gdbindex_read.specs.Slots.{slots_seen, is_found_from}
 use Rattle.gdbindex_read.proofs.SlotsRead.{here_full, here_empty, length-slots}
 use Rattle.index_model.specs.GdbIndexRead.{is_table_size}
