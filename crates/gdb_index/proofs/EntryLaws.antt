@@ -1,16 +1,16 @@
 -- What gdb lists has units of the file, and main is among it where it stands in the index.
-use Rattle.std.proofs.Common.{◌≡◌, ℕ, ◌+◌, ◌<◌, Bool, true, false, cond, not, ◌&&◌, List, [], ◌∷◌, length, get_or, filter, find, map, Option, Some, None, refl, sym, ap, subst, ◌∙◌, arith, ⊎_elim}
+use Rattle.std.proofs.Common.{◌≡◌, ℕ, ◌<◌, Bool, true, false, cond, not, ◌&&◌, List, [], ◌∷◌, length, get_or, filter, find, map, Option, Some, None, refl, sym, ap, subst, ◌∙◌, arith}
 use mathlib.Core.Bool.{◌||◌}
 use Rattle.std.specs.Prelude.{All, Contains, bytes_eq}
 use Rattle.std.specs.List.{list_any}
 use Rattle.std.proofs.lemmas.List.Elements.{Contains-get_or}
 use Rattle.std.proofs.lemmas.Option.{same_Some}
-use Rattle.common_laws.proofs.Members.{contains_cases, of_find, of_flat_map, of_map}
+use Rattle.common_laws.proofs.Members.{of_find, of_flat_map, of_map}
 use Rattle.index_model.specs.declared.answer.Main.{Main}
 use Rattle.index_model.specs.declared.entry.Entry.{Entry}
 use Rattle.index_model.specs.Answers.{is_named}
 use Rattle.index_model.specs.Program.{Walked, Program, Located, located}
-use Rattle.index_model.proofs.ShardRoots.{Numbered}
+use Rattle.index_model.proofs.ShardRoots.{Numbered, numbered_high}
 use Rattle.gdb_entries.specs.declared.language.LanguageClass.{LanguageClass}
 use Rattle.gdb_entries.specs.Entries.{as_listed, entries_of, entries_of_item, entries_with, entry_as, is_item_static, listed, names_of}
 use Rattle.gdb_entries.specs.Kinds.{kinds_in, kinds_of}
@@ -20,14 +20,6 @@ use Rattle.gdbindex_write.specs.Writable.{IsMainOf, is_plainly_named}
 use Rattle.gdb_index.specs.Indexes.{main_listed}
 
 -- ---- units
-
--- the number of a unit is below their count
-high : (n : ℕ) (ws : List Walked) (w : Walked) → Numbered n ws → Contains ws w → w.number < n + length ws
-high n [] w h c = absurd (omega (arith, c.1))
-high n (v ∷ vs) w h c = ⊎_elim
-    (λ (same : v ≡ w). omega (arith, h.0, ap (λ (x : Walked). x.number) same))
-    (λ (later : Contains vs w). omega (arith, high (n + 1) vs w h.1 later))
-    (contains_cases v vs w c)
 
 module _ (p : Program) where
   abbrev imports_it : Walked → Walked → Bool
@@ -63,7 +55,7 @@ module _ (p : Program) where
       let m = of_map as_listed (entries_of p) e (Contains-get_or (listed p) i d lt) in
       let w = of_flat_map (λ (w : Walked). entries_with p (owner_of p w) w) p.walks m.0 m.1 in
       let u = unit_entry w.0 w.1 m.0 (owner_of p w.0) refl w.2 in
-      omega (arith, ap (λ (x : Entry). x.unit) m.2, u.2, high 0 p.walks u.0 numbered u.1, size)
+      omega (arith, ap (λ (x : Entry). x.unit) m.2, u.2, numbered_high 0 p.walks u.0 numbered u.1, size)
 
 -- ---- main
 
