@@ -24,7 +24,7 @@ use Rattle.index_model.specs.Ranges.{ranges_of, unit_ranges, ranges_in, unit_at}
 use Rattle.index_model.proofs.MaximalLaws.{pieces_are_maximal}
 use Rattle.index_model.proofs.Meanings.{bind_ok, same_ok}
 use Rattle.index_model.proofs.Scans.{AreScans}
-use Rattle.index_model.proofs.ShardRoots.{Numbered, program_numbered}
+use Rattle.index_model.proofs.ShardRoots.{program_numbered, numbered_high}
 use Rattle.index_model.proofs.UnitAtLaws.{unit_at_least}
 use Rattle.address_map.proofs.Halves.{are_the_pieces}
 use Rattle.range_lists.proofs.Runs.{scan_unit}
@@ -84,13 +84,6 @@ module _ (f : List ℕ) (p : Program) (file : program_of f ≡ Ok p) (ks : List 
   entries_have_units = all_of (HasUnit us) (entries_of p ks) (λ e c. has_unit us e (in_unit e c))
 
 -- ---- pieces
-
-pub numbered_high : (n : ℕ) (ws : List Walked) (w : Walked) → Numbered n ws → Contains ws w → w.number < n + length ws
-numbered_high n [] w h c = absurd (omega (arith, c.1))
-numbered_high n (v ∷ vs) w h c = ⊎_elim
-    (λ (same : v ≡ w). omega (arith, h.0, ap (λ (x : Walked). x.number) same))
-    (λ (later : Contains vs w). omega (arith, numbered_high (n + 1) vs w h.1 later))
-    (contains_cases v vs w c)
 
 module _ (p : Program) (ks : List Link) where
   -- a range of a unit has the unit's number
