@@ -21,14 +21,13 @@ use Rattle.query_engine.specs.Listed.{is_listed, names_of, AreListedBy}
 use Rattle.query_engine.specs.Marks.{text_with}
 use Rattle.query_engine.proofs.OrderLaws.{flat_push}
 use Rattle.query_engine.proofs.PlacedEntries.{entries_at_places}
-use Rattle.query_engine.proofs.TextOrder.{same_from_eq, eq_from_same}
+use Rattle.query_engine.proofs.TextOrder.{lt_from_before, same_from_eq, eq_from_same}
 use Rattle.debugnames_write.specs.declared.item.IndexEntry.{IndexEntry}
 use Rattle.debugnames_write.specs.declared.listed.ListedItems.{ListedItems}
 use Rattle.debugnames_write.specs.Groups.{entries_named, entries_of}
 use Rattle.debugnames_write.specs.Items.{Counted, AreItemsOf, AreSortedItems, counted, names_counted, some_counted}
 use Rattle.debugnames_write.specs.Seen.{item_seen, items_seen, nameless}
 use Rattle.debugnames_write.proofs.IndexedLaws.{indexed_named}
-use Rattle.debugnames_write.proofs.Orders.{lt_from_before}
 use Rattle.debugnames_write.proofs.PartLaws.{names_append}
 use Rattle.debugnames_write.proofs.UnitLaws.{indexed_none}
 use Rattle.debugnames_write.proofs.Whole.{all_unmap}

@@ -15,14 +15,14 @@ use Rattle.index_model.specs.Hashes.{name_hash}
 use Rattle.index_model.specs.Layout.{ended, start_of}
 use Rattle.index_model.specs.NameIndex.{name_lt, in_index_order, string_offset}
 use Rattle.index_model.specs.Ordered.{ascending, bytes_lt, place_of}
-use Rattle.query_engine.proofs.TextOrder.{eq_from_same}
+use Rattle.query_engine.proofs.TextOrder.{bytes_lt_is, eq_from_same}
 use Rattle.debugnames_write.specs.declared.name.Name.{Name}
 use Rattle.index_model.specs.Order.{Rises}
 use Rattle.debugnames_write.specs.Seen.{name_key, texts}
 use Rattle.debugnames_write.proofs.Lists.{around, position_at}
 use Rattle.index_model.proofs.Orders.{rises_from_pairs, ascending_is}
 use Rattle.index_model.proofs.IndexOrders.{index_key, name_order, by_index_key}
-use Rattle.debugnames_write.proofs.Orders.{bytes_lt_is, rising_distinct}
+use Rattle.debugnames_write.proofs.Orders.{rising_distinct}
 
 -- ---- where things begin
 

@@ -1,38 +1,15 @@
-use Rattle.std.proofs.Common.{ℕ, List}
-use Rattle.index_model.specs.Answers.{places}
 use Rattle.index_model.specs.NameIndex.{all_indexed}
-use Rattle.query_engine.specs.Listed.{is_listed}
-use Rattle.debugnames_write.specs.declared.source.Source.{Source}
 use Rattle.debugnames_write.proofs.ItemLaws.{items_join}
-use Rattle.debugnames_write.proofs.PartLaws.{low_sized, low_are, high_sized, high_are}
+use Rattle.debugnames_write.proofs.PartLaws.{high_part, low_part}
 use Rattle.debugnames_write.proofs.halves.+halves.Goals as goal
-
-abbrev listed : Source → List ℕ → List ℕ
-listed s t = places (is_listed t) s.entries.now
 
 pub items_by_halves-items_of_halves-requires-clause-low_part : goal.items_by_halves-items_of_halves-requires-clause-low_part
 items_by_halves-items_of_halves-requires-clause-low_part g t c κs within =
-    let s = c.args.source.now in
-    let low = c.halves.result.0 in
-    let high = c.halves.result.1 in
-    let own = c.requires in
-    record {
-      inside = own.inside;
-      counts = low_sized (listed s) c.args.part.names.now c.args.part.places.now own.counts own.are low.names.now high.names.now low.places.now high.places.now c.halves.ensures.names c.halves.ensures.places low.fits;
-      are = low_are (listed s) c.args.part.names.now c.args.part.places.now own.counts own.are low.names.now high.names.now low.places.now high.places.now c.halves.ensures.names c.halves.ensures.places low.fits;
-    }
+    low_part c.args.source.now c.args.part c.halves.result.0 c.halves.result.1 c.requires c.halves.ensures.names c.halves.ensures.places
 
 pub items_by_halves-items_of_halves-requires-clause-high_part : goal.items_by_halves-items_of_halves-requires-clause-high_part
 items_by_halves-items_of_halves-requires-clause-high_part g t c κs within =
-    let s = c.args.source.now in
-    let low = c.halves.result.0 in
-    let high = c.halves.result.1 in
-    let own = c.requires in
-    record {
-      inside = own.inside;
-      counts = high_sized (listed s) c.args.part.names.now c.args.part.places.now own.counts own.are low.names.now high.names.now low.places.now high.places.now c.halves.ensures.names c.halves.ensures.places low.fits;
-      are = high_are (listed s) c.args.part.names.now c.args.part.places.now own.counts own.are low.names.now high.names.now low.places.now high.places.now c.halves.ensures.names c.halves.ensures.places low.fits;
-    }
+    high_part c.args.source.now c.args.part c.halves.result.0 c.halves.result.1 c.requires c.halves.ensures.names c.halves.ensures.places
 
 pub items_of_halves-returns : goal.items_of_halves-returns
 items_of_halves-returns g t c =

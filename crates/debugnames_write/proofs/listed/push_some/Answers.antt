@@ -1,1 +1,0 @@
-use Rattle.debugnames_write.proofs.listed.push_some.Goals as goal
