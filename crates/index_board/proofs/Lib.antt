@@ -1,6 +1,6 @@
 mod Looks
 mod KeptLaws
-mod Openings
+pub mod Openings
 mod Waits
 pub mod MarkLaws
 pub mod KeepLaws
