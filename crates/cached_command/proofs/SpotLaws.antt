@@ -26,7 +26,7 @@ use Rattle.cached_command.specs.declared.place.KeptFile.{KeptFile}
 use Rattle.cached_command.specs.Savings.{text_of_saved, IsSaved}
 use Rattle.cached_command.specs.declared.save.Saved.{Saved}
 use Rattle.cached_command.specs.declared.save.Saved.TheVariants as saves
-use Rattle.cached_command.proofs.EarlyLaws.{image_fault}
+use Rattle.index_board.proofs.Openings.{image_fault}
 use Rattle.cached_command.proofs.FilesLaws.{saved_since}
 
 -- ---- a place
