@@ -2,7 +2,6 @@
 use Rattle.std.specs.Prelude.{⊤}
 use Rattle.std.proofs.Common.{inl, inr, ℕ, List, Option, Some, subst}
 use Rattle.ix_base.specs.declared.limits.TheConstants.{MAX_FILE_BYTES}
-use Rattle.index_forms.specs.Forms.{kind_of}
 use Rattle.index_forms.specs.declared.form.IndexForm.{IndexForm}
 use Rattle.gdb_index.specs.Indexes.{index_in}
 use Rattle.query_text.specs.Questions.{Question}
@@ -41,7 +40,8 @@ use Rattle.index_cmd.specs.Requests.{Request, OfFile, OfIndex, OfAdd, OfGdb, OfN
 use Rattle.index_cmd.specs.Results.{Says}
 use Rattle.index_cmd.specs.Stores.{Leaves}
 use Rattle.index_cmd.proofs.Leavings.{leaves_same}
-use Rattle.index_cmd.proofs.Storings.{keeps_from, keeps_part_from, of_added, part_from, stored_from}
+use Rattle.cached_command.proofs.FilesLaws.{left_since, stored_since}
+use Rattle.index_cmd.proofs.Storings.{keeps_from, keeps_part_from, of_added}
 
 -- ---- the bytes of a file are asked
 
@@ -450,11 +450,11 @@ module _ {F : Type 0} (seen : OfShelf F) (before middle last : F) (file bytes : 
     add_causes Stopped c = absurd c
 
     add_leaves : (after : Option Files) (status : Status) → CausesOfAdd bytes form later_stores writes status → LeavesAdd bytes form shelf after out status → Leaves with_index told after status
-    add_leaves after Answered c h = (bytes, was.holds, was.small, of_added bytes form (Stored shelf after out) (Stored told after out) (λ program. stored_from out program told shelf after was.same) h)
+    add_leaves after Answered c h = (bytes, was.holds, was.small, of_added bytes form (Stored shelf after out) (Stored told after out) (λ program. stored_since out program told shelf after was.same) h)
     add_leaves after Refused c h = same_files-trans told shelf after was.same h
     add_leaves after Usage c h = absurd c
     add_leaves after ReadFault c h = absurd c
-    add_leaves after StoreFault c h = (bytes, was.holds, was.small, of_added bytes form (StoredOrPrefix shelf after out) (StoredOrPrefix told after out) (λ program. part_from out program told shelf after was.same) h)
+    add_leaves after StoreFault c h = (bytes, was.holds, was.small, of_added bytes form (StoredOrPrefix shelf after out) (StoredOrPrefix told after out) (λ program. left_since out program told shelf after was.same) h)
     add_leaves after WriteFault c h = inl (same_files-trans told shelf after was.same h)
     add_leaves after NoMemory c h = same_files-trans told shelf after was.same h
     add_leaves after IndexRefused c h = same_files-trans told shelf after was.same h

@@ -13,7 +13,7 @@ use Rattle.command_base.specs.declared.status.Status.{Status}
 use Rattle.command_base.specs.declared.status.Status.TheVariants.{Answered, Refused, Usage, ReadFault, StoreFault, WriteFault, NoMemory, IndexRefused, TableRefused, IndexTooLarge, FileTooBig, AlreadyIndexed, TooManySections, InputFault, InputTooLong, Stopped}
 use Rattle.cached_command.specs.Cached.{LooksFirst, MayKeep, SaysTied}
 use Rattle.cached_command.specs.Caches.{IsCached, hit, stored, unsaved, IsMissed, without_id, unread, stale, IsStale, refused, too_large, IsNotKept, nowhere, failed}
-use Rattle.index_cmd.proofs.Storings.{part_from, stored_from}
+use Rattle.cached_command.proofs.FilesLaws.{left_since, stored_since}
 
 module _ (told shelf : Option Files) (same : SameFiles told shelf) where
   stale_from : (name id : List ℕ) (f : Fault) → IsStale shelf name id f → IsStale told name id f
@@ -35,11 +35,11 @@ module _ (told shelf : Option Files) (same : SameFiles told shelf) where
   module _ (after : Option Files) (file store : List ℕ) where
     pub may_from : MayKeep shelf after file store → MayKeep told after file store
     may_from (inl h) = inl (same_files-trans told shelf after same h)
-    may_from (inr h) = inr (h.0, h.1, h.2, h.3, part_from (cache_name store h.0) (kept_bytes h.0 h.1) told shelf after same h.4)
+    may_from (inr h) = inr (h.0, h.1, h.2, h.3, left_since (cache_name store h.0) (kept_bytes h.0 h.1) told shelf after same h.4)
 
     not_kept_from : (bytes : List ℕ) (S T : Type 0) → (S → T) → IsNotKept shelf after file store bytes S → IsNotKept told after file store bytes T
     not_kept_from bytes S T s (nowhere none h) = nowhere none (same_files-trans told shelf after same h)
-    not_kept_from bytes S T s (failed id own c part) = failed id own (s c) (part_from (cache_name store id) (kept_bytes id bytes) told shelf after same part)
+    not_kept_from bytes S T s (failed id own c part) = failed id own (s c) (left_since (cache_name store id) (kept_bytes id bytes) told shelf after same part)
 
     pub cached_from : (q : Question) (K S L T : Type 0) → (K → L) → (S → T) → (text : List ℕ) → IsCached shelf after file store q K S text → IsCached told after file store q L T text
     cached_from q K S L T k s text (hit h) = hit (record {
@@ -65,7 +65,7 @@ module _ (told shelf : Option Files) (same : SameFiles told shelf) where
       text_is = h.text_is;
       id = h.id;
       own = h.own;
-      stored = stored_from (cache_name store h.id) (kept_bytes h.id h.bytes) told shelf after same h.stored;
+      stored = stored_since (cache_name store h.id) (kept_bytes h.id h.bytes) told shelf after same h.stored;
     })
     cached_from q K S L T k s text (unsaved h) = unsaved (record {
       why = h.why;

@@ -1,45 +1,25 @@
 -- An index, or a program with its index, is stored behind a shelf that holds the same.
-use Rattle.std.proofs.Common.{◌≡◌, ◌⊎◌, inl, inr, ℕ, List, take, Option, Some, None, ◌∙◌}
+use Rattle.std.proofs.Common.{◌⊎◌, inl, inr, ℕ, List, Option}
 use Rattle.index_forms.specs.Forms.{kind_of}
 use Rattle.index_forms.specs.declared.form.IndexForm.{IndexForm}
 use Rattle.index_model.specs.Cache.{Cache, GdbBytes, NameBytes, DoesNotFit}
 use Rattle.outside.specs.Files.{Files, SameFiles, Stored, StoredOrPrefix}
+use Rattle.cached_command.proofs.FilesLaws.{left_since, stored_since}
 use Rattle.store_commands.specs.Stores.{Keeps, KeepsPart, strings_name}
 use Rattle.store_commands.specs.Adds.{ForProgram, OfAdded}
 
-module _ (name bytes : List ℕ) where
-  pub stored_from : (a b c : Option Files) → SameFiles a b → Stored b c name bytes → Stored a c name bytes
-  stored_from None None None same h = tt
-  stored_from None None (Some h) same s = absurd s
-  stored_from None (Some g) c same s = absurd same
-  stored_from (Some f) None c same s = absurd same
-  stored_from (Some f) (Some g) None same s = absurd s
-  stored_from (Some f) (Some g) (Some h) same s = (s.0, λ other off. s.1 other off ∙ same other)
-
-  held_from : (f g holds : Option (List ℕ)) → g ≡ f → (holds ≡ g) ⊎ ((k : ℕ) × (holds ≡ Some (take k bytes))) → (holds ≡ f) ⊎ ((k : ℕ) × (holds ≡ Some (take k bytes)))
-  held_from f g holds e (inl same) = inl (same ∙ e)
-  held_from f g holds e (inr part) = inr part
-
-  pub part_from : (a b c : Option Files) → SameFiles a b → StoredOrPrefix b c name bytes → StoredOrPrefix a c name bytes
-  part_from None None None same h = tt
-  part_from None None (Some h) same s = absurd s
-  part_from None (Some g) c same s = absurd same
-  part_from (Some f) None c same s = absurd same
-  part_from (Some f) (Some g) None same s = absurd s
-  part_from (Some f) (Some g) (Some h) same s = (held_from (f name) (g name) (h name) (same name) s.0, λ other off. s.1 other off ∙ same other)
-
 module _ (name : List ℕ) (a b c : Option Files) (same : SameFiles a b) where
   pub keeps_from : (x : Cache) → Keeps b c name x → Keeps a c name x
-  keeps_from (GdbBytes bytes) h = stored_from name bytes a b c same h
-  keeps_from (NameBytes names strings) h = (h.0, stored_from name names a b h.0 same h.1, h.2)
+  keeps_from (GdbBytes bytes) h = stored_since name bytes a b c same h
+  keeps_from (NameBytes names strings) h = (h.0, stored_since name names a b h.0 same h.1, h.2)
   keeps_from DoesNotFit h = h
 
   part_of_both : (names strings : List ℕ) → StoredOrPrefix b c name names ⊎ ((mid : Option Files) × Stored b mid name names × StoredOrPrefix mid c (strings_name name) strings) → StoredOrPrefix a c name names ⊎ ((mid : Option Files) × Stored a mid name names × StoredOrPrefix mid c (strings_name name) strings)
-  part_of_both names strings (inl h) = inl (part_from name names a b c same h)
-  part_of_both names strings (inr h) = inr (h.0, stored_from name names a b h.0 same h.1, h.2)
+  part_of_both names strings (inl h) = inl (left_since name names a b c same h)
+  part_of_both names strings (inr h) = inr (h.0, stored_since name names a b h.0 same h.1, h.2)
 
   pub keeps_part_from : (x : Cache) → KeepsPart b c name x → KeepsPart a c name x
-  keeps_part_from (GdbBytes bytes) h = part_from name bytes a b c same h
+  keeps_part_from (GdbBytes bytes) h = left_since name bytes a b c same h
   keeps_part_from (NameBytes names strings) h = part_of_both names strings h
   keeps_part_from DoesNotFit h = h
 
