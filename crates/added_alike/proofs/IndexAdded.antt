@@ -1,6 +1,5 @@
 -- A program to which its index is added means what the program means.
-use Rattle.std.proofs.Common.{◌≡◌, ◌<◌, ◌^◌, ℕ, false, List, length, bytes_eq, codes, Option, Some, None, refl, sym, subst, rules}
-use Rattle.std.specs.Prelude.{is_some}
+use Rattle.std.proofs.Common.{◌≡◌, ◌<◌, ◌^◌, ℕ, false, List, length, bytes_eq, codes, Option, None, refl, sym, subst, rules}
 use Rattle.std.specs.List.{AllByRecursion as AllOf}
 use Rattle.common_laws.proofs.Options.{none_from}
 use Rattle.index_model.specs.declared.job.CacheKind.{CacheKind}

@@ -2,7 +2,6 @@
 use Rattle.std.proofs.Common.{◌≡◌, ℕ, List, Option, Some, None, Result, Ok, Err, refl, ap, subst}
 use Rattle.std.specs.Prelude.{IfSome}
 use Rattle.ix_base.specs.declared.fault.Fault.{Fault}
-use Rattle.file_image.specs.Images.{Image, image_of}
 use Rattle.index_model.specs.declared.job.Job.TheVariants.{Main}
 use Rattle.index_model.specs.Answers.{Refused as Refuses}
 use Rattle.index_model.specs.Faults.{Built, built_of, first_fault, IsAccepted}

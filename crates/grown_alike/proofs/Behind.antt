@@ -1,15 +1,11 @@
 -- Readers go on as before where more bytes follow.
-use Rattle.std.proofs.Common.{◌≡◌, ℕ, zero, suc, ◌+◌, ◌-◌, ◌≤◌, Bool, true, cond, leb, ltb, eqb, List, [], ◌∷◌, ◌++◌, length, take, drop, Some, refl, ap, ◌∙◌, arith, length-append}
-use Rattle.std.specs.List.{position, position_or_len}
-use Rattle.std.proofs.lemmas.Bool.{leb-true, le-leb, lt-ltb}
-use Rattle.std.proofs.lemmas.List.{drop-append-le, take-append-le, get_or_append_left}
-use Rattle.std.proofs.lemmas.List.Quantifiers.{position-Some}
-use Rattle.std.proofs.lemmas.List.Sums.{position_or_len_is}
+use Rattle.std.proofs.Common.{◌≡◌, ℕ, zero, suc, ◌+◌, ◌-◌, ◌≤◌, Bool, true, cond, leb, List, [], ◌∷◌, ◌++◌, length, drop, Some, refl, ap, ◌∙◌, arith, length-append}
+use Rattle.std.proofs.lemmas.Bool.{leb-true, le-leb}
+use Rattle.std.proofs.lemmas.List.{drop-append-le, get_or_append_left}
 use Rattle.std.proofs.lemmas.Option.{cond_some}
 use Rattle.index_model.proofs.GrownTexts.{before_stays}
 use Rattle.byteorder.specs.Endian.{little_number, little_from}
 use Rattle.ix_base.specs.Reading.{Input, past, number, before_zero, offset, input}
-use Rattle.index_model.proofs.Meanings.{bind_some}
 use Rattle.grown_alike.proofs.Kept.{SomeStays}
 
 -- the same place, where more bytes follow

@@ -1,10 +1,9 @@
 -- What references lead to, and what scopes stand around it, are entries of the walks.
-use Rattle.std.proofs.Common.{◌≡◌, ℕ, zero, suc, ◌+◌, Bool, ◌&&◌, ltb, eqb, List, [], ◌∷◌, filter, flat_map, Option, Some, None, Result, Ok, Err, refl, sym, subst, inl, inr, ⊎_elim}
+use Rattle.std.proofs.Common.{◌≡◌, ℕ, zero, suc, ◌+◌, Bool, ◌&&◌, ltb, eqb, List, [], ◌∷◌, filter, flat_map, Option, Some, None, Result, Ok, Err, refl, sym, subst, ⊎_elim}
 use Rattle.std.specs.Prelude.{Contains, option_map, option_and_then}
-use Rattle.std.specs.List.{last_or}
 use mathlib.Core.Logic.{◌⊎◌}
 use Rattle.std.proofs.lemmas.Option.{same_Some}
-use Rattle.common_laws.proofs.Members.{contains_here, contains_later, of_find, of_filter, of_flat_map, to_flat_map, to_map, last_member}
+use Rattle.common_laws.proofs.Members.{of_find, of_filter, of_flat_map, to_flat_map, to_map, last_member}
 use Rattle.ix_base.specs.declared.code.TheConstants.{BAD_REFERENCE, REFERENCE_CHAIN}
 use Rattle.ix_base.specs.declared.limits.TheConstants.{MAX_CHAIN_HOPS}
 use Rattle.index_model.specs.Meaning.{◌>>=◌, some_or, if_some}

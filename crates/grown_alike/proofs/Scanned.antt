@@ -1,5 +1,5 @@
 -- The walks stay, and so do the names of their entries: both texts of each entry were tested.
-use Rattle.std.proofs.Common.{◌≡◌, ℕ, List, flat_map, Option, Result, Ok, Err, refl, sym, ap, subst, ◌∙◌}
+use Rattle.std.proofs.Common.{◌≡◌, ℕ, List, flat_map, Option, Result, Ok, sym, ap, subst, ◌∙◌}
 use Rattle.std.specs.Prelude.{Contains}
 use Rattle.std.specs.List.{enumerate_from}
 use Rattle.common_laws.proofs.Members.{of_flat_map}

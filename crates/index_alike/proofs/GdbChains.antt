@@ -1,8 +1,8 @@
 -- The names that references give have no zero.
-use Rattle.std.proofs.Common.{◌≡◌, ℕ, zero, suc, ◌+◌, Bool, true, false, ◌&&◌, cond, List, [], ◌∷◌, length, drop, find, Option, Some, None, Result, Ok, Err, refl, ◌∙◌, subst, ⊎_elim, inl, inr}
+use Rattle.std.proofs.Common.{◌≡◌, ℕ, zero, suc, ◌+◌, Bool, true, false, ◌&&◌, cond, List, [], ◌∷◌, length, drop, find, Option, Some, None, Result, Ok, Err, refl, ◌∙◌, subst, ⊎_elim}
 use mathlib.Core.Logic.{◌⊎◌}
 use Rattle.std.specs.Prelude.{Contains, filter, filter_map, flat_map, codes, option_map, option_and_then, nat_le, nat_lt, ⊤, ◌==◌}
-use Rattle.std.specs.List.{cons_option, last_or}
+use Rattle.std.specs.List.{cons_option}
 use Rattle.std.proofs.lemmas.Option.{option_and_then_some, same_Some}
 use Rattle.common_laws.proofs.Members.{contains_here, contains_later, of_map, of_filter, of_flat_map, last_member}
 use Rattle.ix_base.specs.declared.code.TheConstants.{BAD_STRING, NAME_TOO_LONG, BAD_REFERENCE, REFERENCE_CHAIN}

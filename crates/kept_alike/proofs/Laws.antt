@@ -1,7 +1,7 @@
 -- The laws, over accepted files.
-use Rattle.std.proofs.Common.{◌≡◌, ℕ, ◌^◌, ◌<◌, Bool, true, false, not, cond, leb, List, length, take, map, Result, Ok, Err, refl, ◌∙◌, subst, arith}
+use Rattle.std.proofs.Common.{◌≡◌, ℕ, ◌<◌, not, List, length, take, map, Result, Ok, Err, refl, ◌∙◌, subst}
 use Rattle.std.specs.Prelude.{Contains, filter, IsErr, IsOk}
-use Rattle.std.proofs.lemmas.Bool.{leb-true, not-true}
+use Rattle.std.proofs.lemmas.Bool.{not-true}
 use Rattle.common_laws.proofs.Members.{of_filter, of_map}
 use Rattle.ix_base.specs.declared.fault.Fault.{Fault}
 use Rattle.index_model.specs.declared.entry.Entry.{Entry}
@@ -12,7 +12,7 @@ use Rattle.index_model.specs.Links.{links_in}
 use Rattle.index_model.specs.Answers.{entries_in}
 use Rattle.index_model.specs.MainProgram.{main_of}
 use Rattle.index_model.specs.Pieces.{pieces}
-use Rattle.index_model.specs.Cache.{DoesNotFit, GdbBytes, cache_in, cache_of, gdb_cache}
+use Rattle.index_model.specs.Cache.{GdbBytes, cache_in, cache_of}
 use Rattle.index_model.specs.Faults.{Built, all_ranges, built_of, links_of, program_of}
 use Rattle.index_model.specs.GdbIndex.{gdb_index_bytes, index_names, pool_of}
 use Rattle.index_model.specs.GdbIndexRead.{GdbIndex, gdb_index}

@@ -5,7 +5,6 @@ use Rattle.ix_base.specs.declared.fault.Fault.{Fault}
 use Rattle.index_model.specs.declared.job.CacheKind.{CacheKind}
 use Rattle.index_model.specs.declared.job.Job.{Job}
 use Rattle.index_model.specs.declared.unit.Unit.{Unit as UnitHeader}
-use Rattle.index_model.specs.Faults.{first_fault}
 use Rattle.index_model.specs.LawsCore.{early_fault, plan_of, StateIsRight, IsState, HasRuns, BeginsAt, with_jobs, with_fault}
 use Rattle.index_model.specs.Machine.{Row, IsCut, Output, State, plan_for, place_of_job, machine_start, refused_start}
 use Rattle.index_model.specs.MachineEvents.{Draw, Finish, after_draw, after_finish, after_events}

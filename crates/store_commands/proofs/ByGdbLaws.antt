@@ -6,7 +6,6 @@ use Rattle.ix_base.specs.declared.limits.TheConstants.{MAX_UNITS}
 use Rattle.file_image.specs.Images.{Image, image_of}
 use Rattle.file_image.proofs.Images.{image_file}
 use Rattle.index_model.specs.declared.answer.Main.{Main as MainOf}
-use Rattle.index_model.specs.declared.entry.Entry.{Entry}
 use Rattle.index_model.specs.declared.job.Job.TheVariants.{Main}
 use Rattle.index_model.specs.declared.range.UnitRange.{UnitRange}
 use Rattle.index_model.specs.declared.unit.Unit.{Unit as UnitHeader}

@@ -1,5 +1,4 @@
 use Rattle.std.proofs.Common.{◌≡◌, sym, subst}
-use Rattle.elf_add.specs.Adders.{Adder}
 use Rattle.index_model.specs.declared.job.CacheKind.{CacheKind}
 use Rattle.stage_core.specs.Outputs.{cache_seen}
 use Rattle.store_commands.specs.Adds.{HasRoom}

@@ -1,6 +1,3 @@
-use Rattle.std.proofs.Common.{◌≡◌, ℕ, get_or, ap, sym, subst, ◌∙◌, arith}
-use Rattle.std.proofs.lemmas.List.{get_or_read}
-use Rattle.string_ends.specs.Tails.{IsHashed}
 use Rattle.string_ends.proofs.TailLaws.{hashed_more}
 use Rattle.string_ends.proofs.hashed.hashes_of.Goals as goal
 use Rattle.string_ends.proofs.hashed.hashes_of.Goals.{then-number-offsets+then-offsets-number, else-number-offsets}

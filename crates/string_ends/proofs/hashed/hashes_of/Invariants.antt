@@ -1,4 +1,3 @@
-use Rattle.std.proofs.Common.{◌≡◌, length}
 use Rattle.string_ends.specs.Tails.{AreHashed, IsTail}
 use Rattle.string_ends.proofs.hashed.hashes_of.Given as goal
 

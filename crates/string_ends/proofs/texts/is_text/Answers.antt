@@ -1,4 +1,4 @@
-use Rattle.std.proofs.Common.{List, ℕ, true, false, arith, ap, ◌∙◌, sym}
+use Rattle.std.proofs.Common.{List, ℕ, arith, ap, ◌∙◌, sym}
 use Rattle.std.specs.Prelude.{bytes_eq}
 use Rattle.string_ends.proofs.TextLaws.{front_is, front_isnt, no_front}
 use Rattle.string_ends.proofs.texts.is_text.Goals as goal

@@ -1,4 +1,4 @@
-use Rattle.std.proofs.Common.{◌≡◌, ℕ, ◌-◌, ◌+◌, ◌<◌, ◌%◌, ◌^◌, ◌*◌, Bool, List, ◌∷◌, Some, length, get_or, ap, sym, ◌∙◌, arith}
+use Rattle.std.proofs.Common.{◌≡◌, ℕ, ◌-◌, ◌+◌, ◌<◌, ◌%◌, ◌^◌, ◌*◌, Bool, ◌∷◌, length, get_or, ap, ◌∙◌, arith}
 use mathlib.Core.Bool.{◌||◌}
 use Rattle.std.specs.Prelude.{nat_le}
 use Rattle.string_ends.specs.Formulas.{factor, term, weight}
