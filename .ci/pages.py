@@ -4,8 +4,9 @@
 What the pages say of the repository is so: each statement of docs/PROVED.md names something in backquotes that is declared in the sources
 (a call, a type, a variant, a clause or a definition), and nothing that isn't; each link and each path in the pages leads to a file that is
 there; docs/FAULTS.md is that of the table, whose codes are those of the sources, and every command has its help and its words in the man
-page and in the completions; the table of the grammar has the commands and bounds of the grammar; README.md has at most 100 lines,
-and a line of help at most 80 letters. The last line is 'pages: N passed, M failed'."""
+page and in the completions; the table of the grammar has the commands and bounds of the grammar; docs/WORDS.md has each name of a
+type that two crates or more declare, with its files, and says how many they are; README.md has at most 100 lines, and a line of help at
+most 80 letters. The last line is 'pages: N passed, M failed'."""
 import glob
 import os
 import re
@@ -22,10 +23,17 @@ DECLARED = (
     rf"^\s*(?:abbrev |unfoldable )?pub ({NAME}) :",
     rf"^\s*(?:abbrev |unfoldable )?(?:pub )?(?:data|record) ({NAME})",
 )
+# How a type is declared, private or not.
+TYPE = r"^(?:pub(?:\([^)]*\))? )?(?:struct|enum|type|trait) ([A-Z]\w*)"
 # What std declares.
 OF_STD = {"usize", "None", "Ok", "Err", "Some"}
 # Sources that hold the codes of faults.
 CODES = ("ix_base/src/code.rt", "index_model/src/index_code.rt", "reach_model/src/code.rt")
+# The words of numbers below 100.
+ONES = (
+    "zero one two three four five six seven eight nine ten eleven twelve thirteen fourteen fifteen sixteen seventeen eighteen nineteen"
+).split()
+TENS = "twenty thirty forty fifty sixty seventy eighty ninety".split()
 # What a page names that no checkout has: files of a build, of users and of examples.
 MADE = ("crates/index_tool/out", "crates/index_tool/data/A")
 
@@ -139,6 +147,45 @@ def wrong_grammar():
         yield None if f'number!("{name}" {low} {high} ' in table else f"form.rt: {name} isn't {low} to {high}"
 
 
+def twice_declared():
+    """The names of types that two crates or more declare, each with its files. Crates of tests are left out."""
+    files = {}
+    for path in glob.glob("crates/*/src/**/*.rt", root_dir=TOP, recursive=True):
+        if not path.split("/")[1].endswith("_tests"):
+            for name in re.findall(TYPE, read(path), re.M):
+                files.setdefault(name, set()).add(path)
+    return {name: paths for name, paths in files.items() if len({path.split("/")[1] for path in paths}) > 1}
+
+
+def listed_types(section):
+    """The names that a section lists with files of sources, each with these: a file belongs to the name before it."""
+    listed, name = {}, ""
+    for quoted in re.findall(r"`([^`]+)`", section):
+        if quoted.endswith(".rt"):
+            listed.setdefault(name, set()).add(quoted)
+        else:
+            name = quoted
+    return listed
+
+
+def in_words(number):
+    """A number below 100 in words."""
+    tens, ones = divmod(number, 10)
+    if tens < 2:
+        return ONES[number]
+    return TENS[tens - 2] + (f"-{ONES[ones]}" if ones else "")
+
+
+def wrong_words():
+    section = read("docs", "WORDS.md").partition("\n## Two things by one name\n")[2].partition("\n## ")[0]
+    declared_twice, listed = twice_declared(), listed_types(section)
+    count = in_words(len(declared_twice))
+    yield None if f"names of types {count} are declared" in section else f"WORDS.md: {count} names of types are declared in two crates"
+    for name in sorted(declared_twice.keys() | listed.keys()):
+        differ = declared_twice.get(name, set()) ^ listed.get(name, set())
+        yield f"WORDS.md: {name}: the section and the sources differ in {', '.join(sorted(differ))}" if differ else None
+
+
 def wrong_lengths():
     lines = len(read("README.md").splitlines())
     yield None if lines <= 100 else f"README.md: {lines} lines"
@@ -150,7 +197,7 @@ def wrong_lengths():
 
 def main():
     passed, failed = 0, 0
-    for check in (wrong_statements, wrong_links, wrong_anchors, wrong_faults, wrong_commands, wrong_grammar, wrong_lengths):
+    for check in (wrong_statements, wrong_links, wrong_anchors, wrong_faults, wrong_commands, wrong_grammar, wrong_words, wrong_lengths):
         for wrong in check():
             if wrong is None:
                 passed += 1
