@@ -92,7 +92,7 @@ fn compare_table<K: Sink>(alloc: Global, image: &Image<'_>, own: &AddressMap, ou
 {
     match read(alloc, image) {
         Ok(table) => write_comparison(alloc, compare(&table, own), out),
-        Err(Stop::Fault(fault)) => refuse_table(alloc, fault, out),
+        Err(Stop::Cause(fault)) => refuse_table(alloc, fault, out),
         Err(Stop::Memory) => Status::NoMemory,
     }
 }

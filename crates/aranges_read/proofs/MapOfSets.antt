@@ -3,7 +3,7 @@ use Rattle.std.proofs.Common.{◌≡◌, ℕ, List, [], Result, Ok, Err, sym, ap
 use Rattle.std.specs.Prelude.{IsOkAnd}
 use Rattle.std.specs.List.Sorted.{IsNonDecreasingBy, IsPermutation}
 use Rattle.ix_base.specs.declared.fault.Fault.{Fault}
-use Rattle.ix_base.specs.declared.fault.Stop.{Stop}
+use Rattle.index_model.specs.Gives.{Stop}
 use Rattle.ix_base.specs.Reading.{input}
 use Rattle.std.specs.Prelude.{codes}
 use Rattle.index_model.specs.declared.range.UnitRange.{UnitRange}

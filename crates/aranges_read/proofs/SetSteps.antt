@@ -3,8 +3,8 @@ use Rattle.std.proofs.Common.{◌≡◌, ℕ, zero, suc, ◌+◌, ◌<◌, ◌�
 use Rattle.std.proofs.lemmas.Bool.{leb-true}
 use Rattle.std.proofs.lemmas.Option.{cond_some, same_Some}
 use Rattle.ix_base.specs.declared.fault.Fault.{Fault}
-use Rattle.ix_base.specs.declared.fault.Stop.{Stop}
-use Rattle.ix_base.specs.declared.fault.Stop.TheVariants as stops
+use Rattle.index_model.specs.Gives.{Stop}
+use Rattle.ix_base.specs.declared.or_memory.OrMemory.TheVariants as stops
 use Rattle.ix_base.specs.Reading.{Input, Length, past, part, initial_length}
 use Rattle.index_model.specs.declared.range.UnitRange.{UnitRange}
 use Rattle.index_model.specs.declared.unit.Unit.{Unit as UnitHeader}
@@ -101,7 +101,7 @@ module _ (units : List UnitHeader) where
     -- the next set has a fault
     pub at_fault : (stop : Stop) → StopsAs stop (with_set front (next_set units 0 i)) → StopsAs stop (with_sets front (sets_in i))
     at_fault stops.Memory h = tt
-    at_fault (stops.Fault f) h = ap (with_sets front) (tiles_fault (next_set units) set_advances 0 i f some (of_set (next_set units 0 i) h))
+    at_fault (stops.Cause f) h = ap (with_sets front) (tiles_fault (next_set units) set_advances 0 i f some (of_set (next_set units 0 i) h))
       where
         of_set : (r : Result (AddressSet × Input) Fault) → with_set front r ≡ Err f → r ≡ Err f
         of_set (Ok x) e = absurd cc
@@ -114,5 +114,5 @@ module _ (units : List UnitHeader) where
 -- a table whose sets have a fault has it
 pub of_sets_stop : (stop : Stop) (sets : Result (List AddressSet) Fault) → StopsAs stop (with_sets [] sets) → StopsAs stop sets
 of_sets_stop stops.Memory sets h = tt
-of_sets_stop (stops.Fault f) (Ok ss) h = absurd cc
-of_sets_stop (stops.Fault f) (Err g) h = cc
+of_sets_stop (stops.Cause f) (Ok ss) h = absurd cc
+of_sets_stop (stops.Cause f) (Err g) h = cc

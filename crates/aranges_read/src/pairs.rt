@@ -73,7 +73,7 @@ pub(crate) fn add_pairs(
         }
         add_range(ranges, unit, pair.range())?;
     }
-    Err(Stop::Fault(Fault {
+    Err(Stop::Cause(Fault {
         code: ARANGES_NO_END,
         at: place,
     }))

@@ -36,7 +36,7 @@ pub fn look_gdb<K: Sink>(
     match GdbIndex::open_limited(alloc, bytes) {
         Ok(index) => answer_by_gdb(&index, question, out),
         Err(Stop::Memory) => Status::NoMemory,
-        Err(Stop::Fault(fault)) => ended(write_index_fault(out, fault), Status::IndexRefused),
+        Err(Stop::Cause(fault)) => ended(write_index_fault(out, fault), Status::IndexRefused),
     }
 }
 

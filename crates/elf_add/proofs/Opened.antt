@@ -3,8 +3,8 @@ use Rattle.std.proofs.Common.{◌≡◌, ◌+◌, ◌*◌, ◌≤◌, ℕ, Bool,
 use Rattle.std.specs.Prelude.{◌&&◌, None}
 use Rattle.std.proofs.lemmas.Bool.{leb-true}
 use Rattle.ix_base.specs.declared.fault.Fault.{Fault}
-use Rattle.ix_base.specs.declared.fault.Stop.{Stop}
-use Rattle.ix_base.specs.declared.fault.Stop.TheVariants as stops
+use Rattle.index_model.specs.Gives.{Stop}
+use Rattle.ix_base.specs.declared.or_memory.OrMemory.TheVariants as stops
 use Rattle.index_model.specs.Meaning.{◌>>◌, holds_or}
 use Rattle.index_model.specs.Gives.{StopsAs}
 use Rattle.index_model.specs.Sections.{Section, ident, names_fit, names_index, section_count, sections_of, table_at, table_fits}
@@ -28,7 +28,7 @@ last_ok false e is = absurd cc
 pub at_sections : (file : List ℕ) (s : Stop) → StopsAs s (sections_of file) → StopsAs s (adder_of file)
 unfolding adder_of
 at_sections file stops.Memory h = tt
-at_sections file (stops.Fault e) is = rw is refl
+at_sections file (stops.Cause e) is = rw is refl
 
 module _ (file : List ℕ) (sections : List Section) (opened : sections_of file ≡ Ok sections) where
   pub adder_is : adder_of file ≡ Ok (record { file = file; sections = sections; addition = record { sections = []; strings = None } })

@@ -3,7 +3,6 @@
 ghost use Rattle.std.specs.Prelude.{◌≡◌, ◌≤◌, length, map, drop, All, OnOk, IfOk};
 ghost use Rattle.ix_base.specs.Moves.{Reads};
 ghost use Rattle.index_model.specs.Abbreviations.{is_end, spec_at, specs_at, abbrev_with, table};
-ghost use Rattle.entry_scan.specs.declared.abbreviation.BadAbbrev.TheVariants as bad;
 ghost use Rattle.entry_scan.specs.GivesTable.{GivesOrFails, AddsOrFails};
 ghost use Rattle.entry_scan.specs.SeenAbbreviations.{spec_seen};
 ghost use Rattle.entry_scan.specs.AbbreviationTables.{head_seen, heads_seen, IsWithin, IsSplit, Extends};
@@ -12,8 +11,8 @@ use crate::jumps::Jumps;
 use crate::marks::AttributeBits;
 use crate::sizes::{Front, front_of};
 use dwarf_codes::form::DW_FORM_implicit_const;
-use ix_base::Cursor;
-use std::alloc::{AllocError, AllocFailed, Global};
+use ix_base::{Cursor, OrMemory};
+use std::alloc::Global;
 
 /// An attribute and its form.
 #[derive(Clone, Copy, Debug, PartialEq, Eq)]
@@ -33,30 +32,9 @@ impl Spec {
     }
 }
 
-/// Why there is no table.
+/// There is no table: the offset lies past the section, the bytes end before code 0, or a LEB128 number is too large.
 #[derive(Clone, Copy, Debug, PartialEq, Eq)]
-pub enum BadAbbrev {
-    /// The offset lies past the section, the bytes end before code 0, or a LEB128 number is too large.
-    Damaged,
-    /// Memory was refused.
-    Memory,
-}
-
-impl From<AllocError> for BadAbbrev {
-    ghost from_gives = { λ _ e. e ≡ bad.Memory };
-
-    fn from(_error: AllocError) -> BadAbbrev {
-        BadAbbrev::Memory
-    }
-}
-
-impl<T: Drop> From<AllocFailed<T>> for BadAbbrev {
-    ghost from_gives = { λ _ e. e ≡ bad.Memory };
-
-    fn from(_error: AllocFailed<T>) -> BadAbbrev {
-        BadAbbrev::Memory
-    }
-}
+pub struct Damaged;
 
 // What stands of an abbreviation before its attributes, and which of all attributes are its own.
 #[derive(Clone, Copy)]
@@ -108,19 +86,19 @@ fn read_spec(cursor: &mut Cursor<'_>) -> Option<Spec>
 }
 
 // Adds the attributes up to (0, 0).
-fn read_specs(specs: &mut Vec<Spec>, cursor: &mut Cursor<'_>) -> Result<(), BadAbbrev>
+fn read_specs(specs: &mut Vec<Spec>, cursor: &mut Cursor<'_>) -> Result<(), OrMemory<Damaged>>
     ensures kept { Extends specs.old.items specs.new.items }
     ensures value { GivesOrFails (λ _. (map spec_seen (drop (length specs.old.items) specs.new.items), cursor.new)) result (specs_at (length cursor.old.rest) cursor.old) }
 {
     // There are fewer attributes than bytes.
     'attributes: for _ in 0..cursor.rest().len() {
-        let spec = read_spec(cursor).ok_or(BadAbbrev::Damaged)?;
+        let spec = read_spec(cursor).ok_or(OrMemory::Cause(Damaged))?;
         if spec.is_end() {
             return Ok(());
         }
         specs.push(spec)?;
     }
-    Err(BadAbbrev::Damaged)
+    Err(OrMemory::Cause(Damaged))
 }
 
 // The head of the abbreviation of a code, whose attributes are added to those of the others.
@@ -129,14 +107,14 @@ fn read_head(
     code: u64,
     specs: &mut Vec<Spec>,
     cursor: &mut Cursor<'_>,
-) -> Result<AbbrevHead, BadAbbrev>
+) -> Result<AbbrevHead, OrMemory<Damaged>>
     ensures kept { Extends specs.old.items specs.new.items }
     ensures within { IfOk result (λ h. IsWithin specs.new.items h) }
     ensures code { IfOk result (λ h. h.code ≡ code) }
     ensures value { GivesOrFails (λ h. (head_seen specs.new.items h, cursor.new)) result (abbrev_with code cursor.old) }
 {
-    let tag = cursor.uleb().ok_or(BadAbbrev::Damaged)?;
-    let children = cursor.u8().ok_or(BadAbbrev::Damaged)? != 0;
+    let tag = cursor.uleb().ok_or(OrMemory::Cause(Damaged))?;
+    let children = cursor.u8().ok_or(OrMemory::Cause(Damaged))? != 0;
     let start = specs.len();
     read_specs(specs, cursor)?;
     let end = specs.len();
@@ -157,7 +135,7 @@ fn read_abbrev(
     code: u64,
     parts: &mut AbbrevsSoFar,
     cursor: &mut Cursor<'_>,
-) -> Result<(), BadAbbrev>
+) -> Result<(), OrMemory<Damaged>>
     requires within { All (IsWithin parts.old.specs.items) parts.old.heads.items }
     requires split { IsSplit parts.old.heads.items parts.old.others.items }
     ensures within { OnOk result (All (IsWithin parts.new.specs.items) parts.new.heads.items) }
@@ -174,7 +152,11 @@ fn read_abbrev(
 }
 
 // The abbreviations up to code 0.
-pub(crate) fn read_parts(alloc: Global, bytes: &[u8], at: usize) -> Result<AbbrevsSoFar, BadAbbrev>
+pub(crate) fn read_parts(
+    alloc: Global,
+    bytes: &[u8],
+    at: usize,
+) -> Result<AbbrevsSoFar, OrMemory<Damaged>>
     requires { at ≤ length bytes.now }
     ensures within { IfOk result (λ p. All (IsWithin p.specs.items) p.heads.items) }
     ensures split { IfOk result (λ p. IsSplit p.heads.items p.others.items) }
@@ -188,11 +170,11 @@ pub(crate) fn read_parts(alloc: Global, bytes: &[u8], at: usize) -> Result<Abbre
     };
     // There are fewer abbreviations than bytes.
     'abbreviations: for _ in 0..bytes.len() {
-        let code = cursor.uleb().ok_or(BadAbbrev::Damaged)?;
+        let code = cursor.uleb().ok_or(OrMemory::Cause(Damaged))?;
         if code == 0 {
             return Ok(parts);
         }
         read_abbrev(code, &mut parts, &mut cursor)?;
     }
-    Err(BadAbbrev::Damaged)
+    Err(OrMemory::Cause(Damaged))
 }

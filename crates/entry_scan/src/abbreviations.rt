@@ -9,10 +9,11 @@ ghost use Rattle.entry_scan.specs.Fronts.{IsFront};
 ghost use Rattle.entry_scan.specs.Marks.{AreMarks};
 ghost use Rattle.entry_scan.specs.Jumps.{AreJumps};
 
-use crate::abbreviation::{AbbrevHead, AbbrevsSoFar, BadAbbrev, CodeIndex, Spec, read_parts};
+use crate::abbreviation::{AbbrevHead, AbbrevsSoFar, CodeIndex, Damaged, Spec, read_parts};
 use crate::jumps::Jumps;
 use crate::marks::AttributeBits;
 use crate::sizes::Front;
+use ix_base::OrMemory;
 use std::alloc::Global;
 use std::marker::Model;
 
@@ -57,11 +58,11 @@ impl Model for Abbrevs {
 
 impl Abbrevs {
     /// Reads the table at an offset of `.debug_abbrev`. LEB128 numbers in it may be padded.
-    pub fn read(alloc: Global, bytes: &[u8], offset: u64) -> Result<Abbrevs, BadAbbrev>
+    pub fn read(alloc: Global, bytes: &[u8], offset: u64) -> Result<Abbrevs, OrMemory<Damaged>>
         ensures { GivesOrFails (λ t. t) result (table bytes.now offset) }
     {
         if offset > bytes.len() as u64 {
-            return Err(BadAbbrev::Damaged);
+            return Err(OrMemory::Cause(Damaged));
         }
         let mut parts = read_parts(alloc, bytes, offset as usize)?;
         parts.others.sort_unstable();

@@ -21,7 +21,7 @@ mod values;
 mod walk;
 mod written;
 
-pub use abbreviation::{BadAbbrev, Spec};
+pub use abbreviation::{Damaged, Spec};
 pub use abbreviations::{Abbrev, Abbrevs};
 pub use attributes::Attributes;
 pub use forms::read_value;

@@ -2,8 +2,8 @@
 use Rattle.std.proofs.Common.{◌≡◌, List, [], ℕ, length, Result, Ok, refl, sym, ap, ◌∙◌}
 use Rattle.std.specs.Prelude.{codes}
 use Rattle.ix_base.specs.declared.fault.Fault.{Fault}
-use Rattle.ix_base.specs.declared.fault.Stop.{Stop}
-use Rattle.ix_base.specs.declared.fault.Stop.TheVariants as stops
+use Rattle.index_model.specs.Gives.{Stop}
+use Rattle.ix_base.specs.declared.or_memory.OrMemory.TheVariants as stops
 use Rattle.ix_base.specs.Reading.{input}
 use Rattle.index_model.specs.declared.unit.Part.TheVariants.{Info, Types}
 use Rattle.index_model.specs.declared.unit.Unit.{Unit as UnitHeader}
@@ -30,12 +30,12 @@ module _ (ss : List Section) (info types : List ℕ) (is_info : info ≡ section
 
   pub at_first : (s : Stop) → StopsAs s first → StopsAs s (units_of ss)
   at_first stops.Memory h = tt
-  at_first (stops.Fault f) h = sym both ∙ ap (λ (r : Result (List UnitHeader) Fault). r >>= second) h
+  at_first (stops.Cause f) h = sym both ∙ ap (λ (r : Result (List UnitHeader) Fault). r >>= second) h
 
   module _ (infos : List UnitHeader) (all : first ≡ Ok infos) where
     pub at_second : (s : Stop) → StopsAs s (second infos) → StopsAs s (units_of ss)
     at_second stops.Memory h = tt
-    at_second (stops.Fault f) h = sym both ∙ ap (λ (r : Result (List UnitHeader) Fault). r >>= second) all ∙ h
+    at_second (stops.Cause f) h = sym both ∙ ap (λ (r : Result (List UnitHeader) Fault). r >>= second) all ∙ h
 
     pub at_end : (us : List UnitHeader) → second infos ≡ Ok us → units_of ss ≡ Ok us
     at_end us h = sym both ∙ ap (λ (r : Result (List UnitHeader) Fault). r >>= second) all ∙ h

@@ -1,8 +1,8 @@
 -- The file with its sections and units, step by step.
 use Rattle.std.proofs.Common.{◌≡◌, List, ℕ, Result, Ok, subst, refl}
 use Rattle.ix_base.specs.declared.fault.Fault.{Fault}
-use Rattle.ix_base.specs.declared.fault.Stop.{Stop}
-use Rattle.ix_base.specs.declared.fault.Stop.TheVariants as stops
+use Rattle.index_model.specs.Gives.{Stop}
+use Rattle.ix_base.specs.declared.or_memory.OrMemory.TheVariants as stops
 use Rattle.index_model.specs.declared.unit.Unit.{Unit as UnitHeader}
 use Rattle.index_model.specs.Meaning.{◌>>=◌}
 use Rattle.index_model.specs.Gives.{StopsAs}
@@ -15,13 +15,13 @@ module _ (file : List ℕ) where
   pub at_sections : (s : Stop) → StopsAs s (sections_of file) → StopsAs s (image_of file)
   unfolding image_of
   at_sections stops.Memory h = tt
-  at_sections (stops.Fault f) h = rw h refl
+  at_sections (stops.Cause f) h = rw h refl
 
   module _ (ss : List Section) (all : sections_of file ≡ Ok ss) where
     pub at_units : (s : Stop) → StopsAs s (units_of ss) → StopsAs s (image_of file)
     unfolding image_of
     at_units stops.Memory h = tt
-    at_units (stops.Fault f) h = rw (all, h) refl
+    at_units (stops.Cause f) h = rw (all, h) refl
 
     pub opened : (us : List UnitHeader) → units_of ss ≡ Ok us → image_of file ≡ Ok (record { file = file; sections = ss; units = us })
     unfolding image_of

@@ -3,8 +3,8 @@ use Rattle.std.proofs.Common.{◌≡◌, ◌-◌, ◌<◌, ℕ, true, false, Lis
 use Rattle.std.specs.Prelude.{codes}
 use Rattle.std.proofs.lemmas.Bool.{lt-ltb, le-ltb}
 use Rattle.ix_base.specs.declared.fault.Fault.{Fault}
-use Rattle.ix_base.specs.declared.fault.Stop.{Stop}
-use Rattle.ix_base.specs.declared.fault.Stop.TheVariants as stops
+use Rattle.index_model.specs.Gives.{Stop}
+use Rattle.ix_base.specs.declared.or_memory.OrMemory.TheVariants as stops
 use Rattle.ix_base.specs.declared.code.TheConstants.{NO_DEBUG_INFO}
 use Rattle.index_model.specs.Meaning.{fault}
 use Rattle.index_model.specs.Gives.{StopsAs}
@@ -28,7 +28,7 @@ module _ (f : List ℕ) where
       pub at_sections : (s : Stop) → StopsAs s read → StopsAs s (sections_of f)
       unfolding sections_of
       at_sections stops.Memory h = tt
-      at_sections (stops.Fault e) is = rw (elf, table, is) refl
+      at_sections (stops.Cause e) is = rw (elf, table, is) refl
 
       module _ (ss : List Section) (all : read ≡ Ok ss) where
         pub at_compressed : (e : Fault) → none_compressed 1 ss ≡ Err e → sections_of f ≡ Err e

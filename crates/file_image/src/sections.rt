@@ -49,13 +49,13 @@ impl<'f> Sections<'f> {
     {
         check_ident(file)?;
         let Some(table) = SectionHeaders::open(file) else {
-            return Err(Stop::Fault(table_fault(0)));
+            return Err(Stop::Cause(table_fault(0)));
         };
         let found = sections_of_table(alloc, file, &table)?;
         check_compressed(&found)?;
         let resolved = Resolved::of(&found);
         if resolved.info.is_empty() {
-            return Err(Stop::Fault(Fault {
+            return Err(Stop::Cause(Fault {
                 code: code::NO_DEBUG_INFO,
                 at: 0,
             }));

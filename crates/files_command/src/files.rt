@@ -97,7 +97,7 @@ fn search<R: Threads + Wait + Sync, K: Sink, G: Gate + Sync>(
 {
     match list(crew.rt, crew.alloc, image, name.as_bytes(), crew.workers) {
         Ok(hits) => write_hits(crew.alloc, &hits, out),
-        Err(Stop::Fault(fault)) => refuse_tables(crew.alloc, fault, out),
+        Err(Stop::Cause(fault)) => refuse_tables(crew.alloc, fault, out),
         Err(Stop::Memory) => Status::NoMemory,
     }
 }

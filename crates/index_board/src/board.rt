@@ -76,7 +76,7 @@ impl<'f> Board<'f> {
     {
         match Image::open(alloc, file) {
             Ok(image) => Board::with_image(alloc, file, image, cache, shards),
-            Err(Stop::Fault(fault)) => {
+            Err(Stop::Cause(fault)) => {
                 Board::over(alloc, Core::refused(alloc, file, fault, cache), None)
             }
             Err(Stop::Memory) => Err(NoMemory),

@@ -1,7 +1,7 @@
 -- A module of the definitions is checked where something names it. Here stand those that no contract of this crate names.
 use Rattle.std.proofs.Common.{ℕ, List, Option, Result}
 use Rattle.ix_base.specs.declared.fault.Fault.{Fault}
-use Rattle.ix_base.specs.declared.fault.Stop.{Stop}
+use Rattle.index_model.specs.Gives.{Stop}
 use Rattle.index_model.specs.declared.answer.CacheSize.{CacheSize}
 use Rattle.index_model.specs.declared.answer.Reply.{Reply as Replied}
 use Rattle.index_model.specs.declared.shard.Shard.{Shard}

@@ -2,8 +2,8 @@
 use Rattle.std.proofs.Common.{◌≡◌, ℕ, ◌<◌, List, length, Result, Ok, Err, ap, ◌∙◌, arith}
 use Rattle.std.specs.Prelude.{IsOkAnd}
 use Rattle.ix_base.specs.declared.fault.Fault.{Fault}
-use Rattle.ix_base.specs.declared.fault.Stop.{Stop}
-use Rattle.ix_base.specs.declared.fault.Stop.TheVariants as stops
+use Rattle.index_model.specs.Gives.{Stop}
+use Rattle.ix_base.specs.declared.or_memory.OrMemory.TheVariants as stops
 use Rattle.file_image.specs.Images.{Image}
 use Rattle.index_model.specs.declared.job.Job.TheVariants.{Link}
 use Rattle.index_model.specs.declared.shard.Shard.{Shard}
@@ -32,7 +32,7 @@ module _ (s : Subject) (p : Program) (file : program_of s.file ≡ Ok p) (k : �
       let ks = ok_and m (IsLinked p linked) gives in
       let run : link_of_run s k ≡ Ok ks.0 = is ∙ ks.1 in
       (ap wrong_in run, and_ok (program_of s.file) p (λ p. IsOkAnd (link_of_run s k) (IsLinked p linked)) file (and_ok (link_of_run s k) ks.0 (IsLinked p linked) run ks.2))
-  brings (Err (stops.Fault f)) m is gives = ap wrong_in (is ∙ gives)
+  brings (Err (stops.Cause f)) m is gives = ap wrong_in (is ∙ gives)
   brings (Err stops.Memory) m is gives = tt
 
 -- the shards of a subject are those of its image's file

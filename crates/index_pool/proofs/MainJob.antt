@@ -1,8 +1,8 @@
 -- The output of the Main job.
 use Rattle.std.proofs.Common.{◌≡◌, List, Result, Ok, Err, refl, ap, ◌∙◌}
 use Rattle.ix_base.specs.declared.fault.Fault.{Fault}
-use Rattle.ix_base.specs.declared.fault.Stop.{Stop}
-use Rattle.ix_base.specs.declared.fault.Stop.TheVariants as stops
+use Rattle.index_model.specs.Gives.{Stop}
+use Rattle.ix_base.specs.declared.or_memory.OrMemory.TheVariants as stops
 use Rattle.file_image.specs.Images.{Image}
 use Rattle.index_model.specs.declared.job.Job.TheVariants.{Main}
 use Rattle.index_model.specs.declared.range.UnitRange.{UnitRange}
@@ -35,7 +35,7 @@ module _ (s : Subject) (image : Image) (file_is : image.file ≡ s.file) (p : Pr
       let rs = ok_and m (IsSummaryOf image (summary_seen x)) gives in
       let own = rs.2 p (ap program_of file_is ∙ file) ks links in
       (accepted_with s.file p file ks links rs.0 (is ∙ rs.1), and_ok (built_of s.file) (built p ks rs.0) (λ b. ((summary_seen x).main ≡ main_of b.program b.links) × IsPieces b.ranges (summary_seen x).map) (built_with s.file p file ks links rs.0 (is ∙ rs.1)) own)
-  brings (Err (stops.Fault f)) m is gives = fault_with s.file p file ks links f (is ∙ gives)
+  brings (Err (stops.Cause f)) m is gives = fault_with s.file p file ks links f (is ∙ gives)
   brings (Err stops.Memory) m is gives = tt
 
 -- the shards and the links that Main and Name are given

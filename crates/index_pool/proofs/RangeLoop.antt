@@ -5,8 +5,8 @@ use Rattle.std.proofs.lemmas.Grind.{flat_map-append}
 use Rattle.std.proofs.lemmas.List.{take-append-drop}
 use Rattle.common_laws.proofs.Members.{contains_here, contains_later}
 use Rattle.ix_base.specs.declared.fault.Fault.{Fault}
-use Rattle.ix_base.specs.declared.fault.Stop.{Stop}
-use Rattle.ix_base.specs.declared.fault.Stop.TheVariants as stops
+use Rattle.index_model.specs.Gives.{Stop}
+use Rattle.ix_base.specs.declared.or_memory.OrMemory.TheVariants as stops
 use Rattle.file_image.specs.Images.{Image, image_of}
 use Rattle.file_image.proofs.Images.{parts_of}
 use Rattle.index_model.specs.declared.unit.Unit.{Unit as UnitHeader}
@@ -82,7 +82,7 @@ module _ (p : Program) (ks : List Link) where
   pub stops_all : (n : ℕ) (s : Stop) → StopsAs s (ranges_in p ks (take n p.walks)) → StopsAs s (all_ranges p ks)
   unfolding all_ranges
   stops_all n stops.Memory h = tt
-  stops_all n (stops.Fault f) h = ap (ranges_in p ks) (sym (take-append-drop n p.walks)) ∙ still_wrong (take n p.walks) (drop n p.walks) f h
+  stops_all n (stops.Cause f) h = ap (ranges_in p ks) (sym (take-append-drop n p.walks)) ∙ still_wrong (take n p.walks) (drop n p.walks) f h
 
   pub none_first : ranges_in p ks (take 0 p.walks) ≡ Ok []
   unfolding ranges_in
@@ -116,7 +116,7 @@ module _ (image : Image) (shards : List Shard) (linked : List Linked) (r : AreLi
 
   pub unit_stops : (s : Stop) → Says (StopsAs s) → ForLinks image (λ p ks. StopsAs s (ranges_in p ks (take (n + 1) p.walks)))
   unit_stops stops.Memory says p file ks links = tt
-  unit_stops (stops.Fault f) says p file ks links =
+  unit_stops (stops.Cause f) says p file ks links =
       let b = before p file ks links in
       let old = ok_and (ranges_in p ks (take n p.walks)) (HaveSameUnits found.ranges.items) b.1 in
       let x = next_says (λ m. m ≡ Err f) (says b.0) p file ks links in

@@ -4,8 +4,8 @@ use Rattle.std.specs.Prelude.{IsOkAnd}
 use Rattle.std.specs.List.{enumerate_from}
 use Rattle.std.proofs.lemmas.List.FromFn.{length-enumerate_from}
 use Rattle.ix_base.specs.declared.fault.Fault.{Fault}
-use Rattle.ix_base.specs.declared.fault.Stop.{Stop}
-use Rattle.ix_base.specs.declared.fault.Stop.TheVariants as stops
+use Rattle.index_model.specs.Gives.{Stop}
+use Rattle.ix_base.specs.declared.or_memory.OrMemory.TheVariants as stops
 use Rattle.file_image.specs.Images.{Image, image_of}
 use Rattle.file_image.proofs.Images.{parts_of}
 use Rattle.index_model.specs.declared.job.Job.TheVariants.{Scan}
@@ -49,7 +49,7 @@ module _ (s : Subject) (h : HasRuns s) (k : ℕ) where
       let ws = ok_and m (StandsFor h.sections shard) gives in
       let run : scan_of_run s k ≡ Ok ws.0 = is ∙ ws.1 in
       (ap wrong_in run, and_ok (sections_of s.file) h.sections (λ ss. IsOkAnd (scan_of_run s k) (StandsFor ss shard)) h.sections_are (and_ok (scan_of_run s k) ws.0 (StandsFor h.sections shard) run ws.2))
-  brings (Err (stops.Fault f)) m is gives = ap wrong_in (is ∙ gives)
+  brings (Err (stops.Cause f)) m is gives = ap wrong_in (is ∙ gives)
   brings (Err stops.Memory) m is gives = tt
 
   run_is : scan_of_run s k ≡ each (scanned h.sections) (run_of s k)

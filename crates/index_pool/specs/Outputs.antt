@@ -6,8 +6,8 @@ use Rattle.debugnames_write.specs.declared.writer.WriteStop.TheVariants as names
 use Rattle.gdbindex_write.specs.declared.stop.WriteStop.{WriteStop as GdbStop}
 use Rattle.gdbindex_write.specs.declared.stop.WriteStop.TheVariants as gdb_stops
 use Rattle.ix_base.specs.declared.fault.NoMemory.{NoMemory}
-use Rattle.ix_base.specs.declared.fault.Stop.{Stop}
-use Rattle.ix_base.specs.declared.fault.Stop.TheVariants as stops
+use Rattle.index_model.specs.Gives.{Stop}
+use Rattle.ix_base.specs.declared.or_memory.OrMemory.TheVariants as stops
 use Rattle.index_model.specs.Cache.{GdbBytes, NameBytes as NamesAre, DoesNotFit}
 use Rattle.index_model.specs.Machine.{Output, Memory, Faulty, Gave}
 use Rattle.index_model.specs.Outputs.{Made, CacheOf}
@@ -15,7 +15,7 @@ use Rattle.index_model.specs.Outputs.{Made, CacheOf}
 -- what was made, the first fault, or want of memory
 abbrev pub output_of : {X : Type 0} → (X → Made) → Result X Stop → Output Made
 output_of make (Ok x) = Gave (make x)
-output_of make (Err (stops.Fault f)) = Faulty f
+output_of make (Err (stops.Cause f)) = Faulty f
 output_of make (Err stops.Memory) = Memory
 
 -- what was made, or want of memory

@@ -17,7 +17,7 @@ pub(crate) fn of_scan<'f>(scanned: Result<Shard<'f>, Stop>) -> Output<'f>
 {
     match scanned {
         Ok(shard) => Output::Shard(shard),
-        Err(Stop::Fault(fault)) => Output::Fault(fault),
+        Err(Stop::Cause(fault)) => Output::Fault(fault),
         Err(Stop::Memory) => Output::Memory,
     }
 }
@@ -28,7 +28,7 @@ pub(crate) fn of_link<'f>(linked: Result<Linked<'f>, Stop>) -> Output<'f>
 {
     match linked {
         Ok(linked) => Output::Linked(linked),
-        Err(Stop::Fault(fault)) => Output::Fault(fault),
+        Err(Stop::Cause(fault)) => Output::Fault(fault),
         Err(Stop::Memory) => Output::Memory,
     }
 }
@@ -39,7 +39,7 @@ pub(crate) fn of_main<'f>(summary: Result<Summary<'f>, Stop>) -> Output<'f>
 {
     match summary {
         Ok(summary) => Output::Summary(summary),
-        Err(Stop::Fault(fault)) => Output::Fault(fault),
+        Err(Stop::Cause(fault)) => Output::Fault(fault),
         Err(Stop::Memory) => Output::Memory,
     }
 }

@@ -9,10 +9,12 @@ mod cursor;
 mod fault;
 mod leb;
 mod limits;
+mod or_memory;
 
 pub use cursor::{Cursor, Initial};
-pub use fault::{Fault, NoMemory, Stop};
+pub use fault::{Fault, NoMemory};
 pub use limits::{
     MAX_CHAIN_HOPS, MAX_DEPTH, MAX_FILE_BYTES, MAX_PATH_STEPS, MAX_QUALIFIED_NAME, MAX_STRING,
     MAX_UNITS,
 };
+pub use or_memory::{OrMemory, Stop};

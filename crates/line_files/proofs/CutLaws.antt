@@ -2,8 +2,8 @@
 use Rattle.std.proofs.Common.{◌≡◌, ◌+◌, ℕ, zero, suc, List, [], ◌∷◌, ◌++◌, length, Vec, Result, Ok, Err, Global, refl, ap, subst, ◌∙◌, arith, append-nil}
 use Rattle.std.specs.List.{AllZip, range_with_len}
 use Rattle.ix_base.specs.declared.fault.Fault.{Fault}
-use Rattle.ix_base.specs.declared.fault.Stop.{Stop}
-use Rattle.ix_base.specs.declared.fault.Stop.TheVariants as stops
+use Rattle.index_model.specs.Gives.{Stop}
+use Rattle.ix_base.specs.declared.or_memory.OrMemory.TheVariants as stops
 use Rattle.index_model.specs.Gives.{StopsAs}
 use Rattle.file_image.specs.Front.{with_front}
 use Rattle.file_image.specs.Images.{Image}
@@ -59,7 +59,7 @@ module _ (front : List meant.FileHit) (ys : List Part) where
     where
       by : (t : Stop) → StopsAs t m → StopsAs t (with_front front (all_joined (m ∷ ms)))
       by stops.Memory e = tt
-      by (stops.Fault f) e = rw e refl
+      by (stops.Cause f) e = rw e refl
 
 -- no run is left
 pub no_part : (front : List meant.FileHit) (xs : List Part) (left : List (Result (List meant.FileHit) Fault)) → length xs ≡ 0 → AllZip GivesHits xs left → with_front front (all_joined left) ≡ Ok front

@@ -10,8 +10,8 @@ use Rattle.index_model.specs.Units.{units_of}
 use Rattle.index_model.proofs.Meanings.{bind_ok, same_ok}
 use Rattle.index_model.proofs.Scans.{AreScans, program_parts, scanned_walked}
 use Rattle.index_model.proofs.UnitsApart.{walk_parts}
-use Rattle.ix_base.specs.declared.fault.Stop.{Stop}
-use Rattle.ix_base.specs.declared.fault.Stop.TheVariants as stops
+use Rattle.index_model.specs.Gives.{Stop}
+use Rattle.ix_base.specs.declared.or_memory.OrMemory.TheVariants as stops
 use Rattle.index_model.specs.Gives.{StopsAs}
 use Rattle.reach_model.specs.LineTables.{files_at, files_of, files_there, line_place}
 use Rattle.line_files.specs.Places.{files_by, place_of}
@@ -79,7 +79,7 @@ unit_files im image b is k w u at of =
 -- a fault before the place is that of the unit
 pub place_fault : (ss : List Section) (u : ℕ × UnitHeader) (s : Stop) → StopsAs s (place_of ss u) → StopsAs s (files_by ss u)
 place_fault ss u stops.Memory h = tt
-place_fault ss u (stops.Fault f) h = rw h refl
+place_fault ss u (stops.Cause f) h = rw h refl
 
 -- the files of a unit whose root names a table
 pub place_found : (ss : List Section) (u : ℕ × UnitHeader) (place : ℕ) → place_of ss u ≡ Ok (Some place) → files_by ss u ≡ at_place u.1.start (files_at ss place)

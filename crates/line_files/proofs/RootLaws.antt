@@ -4,8 +4,8 @@ use Rattle.std.specs.Prelude.{codes, find, option_and_then}
 use Rattle.std.proofs.lemmas.List.{drop-drop, drop-take}
 use Rattle.ix_base.specs.declared.code.TheConstants.{BAD_ABBREVIATION}
 use Rattle.ix_base.specs.declared.fault.Fault.{Fault}
-use Rattle.ix_base.specs.declared.fault.Stop.{Stop}
-use Rattle.ix_base.specs.declared.fault.Stop.TheVariants as stops
+use Rattle.index_model.specs.Gives.{Stop}
+use Rattle.ix_base.specs.declared.or_memory.OrMemory.TheVariants as stops
 use Rattle.ix_base.specs.Reading.{Input}
 use Rattle.index_model.specs.declared.unit.Unit.{Unit as UnitHeader}
 use Rattle.index_model.specs.Abbreviations.{Abbrev, table}
@@ -62,7 +62,7 @@ module _ (ss : List Section) (u : ℕ × UnitHeader) where
   pub place_stops : (bytes : List ℕ) (s : Stop) → bytes ≡ section_bytes ss (codes ".debug_abbrev") → StopsAs s (some_or (table bytes u.1.«abbrev») (fault BAD_ABBREVIATION u.1.start)) → StopsAs s (place_of ss u)
   unfolding walked
   place_stops bytes stops.Memory is h = tt
-  place_stops bytes (stops.Fault f) is h =
+  place_stops bytes (stops.Cause f) is h =
       let here : some_or (table (section_bytes ss (codes ".debug_abbrev")) u.1.«abbrev») (fault BAD_ABBREVIATION u.1.start) ≡ Err f = ap (λ (xs : List ℕ). some_or (table xs u.1.«abbrev») (fault BAD_ABBREVIATION u.1.start)) (sym is) ∙ h in
       rw here refl
 

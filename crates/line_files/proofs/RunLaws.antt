@@ -4,8 +4,8 @@ use Rattle.std.specs.Prelude.{slice_get}
 use Rattle.std.proofs.Math.Seq.{drop-cons}
 use Rattle.std.proofs.lemmas.Option.{get_or_from_slice_get, slice_get_cases, slice_get_within}
 use Rattle.ix_base.specs.declared.fault.Fault.{Fault}
-use Rattle.ix_base.specs.declared.fault.Stop.{Stop}
-use Rattle.ix_base.specs.declared.fault.Stop.TheVariants as stops
+use Rattle.index_model.specs.Gives.{Stop}
+use Rattle.ix_base.specs.declared.or_memory.OrMemory.TheVariants as stops
 use Rattle.index_model.specs.declared.unit.Unit.{Unit as UnitHeader}
 use Rattle.index_model.specs.Gives.{StopsAs}
 use Rattle.index_model.specs.Meaning.{◌>>=◌, each}
@@ -57,7 +57,7 @@ module _ (im : Image) (name : List ℕ) (front : List FileHit) (from to : ℕ) (
   -- where the unit stops the run does
   pub unit_stops : (s : Stop) → StopsAs s (with_front front (unit_hits_by im.sections name (from, u))) → StopsAs s (with_front front (hits_between im name from to))
   unit_stops stops.Memory h = tt
-  unit_stops (stops.Fault f) h = first_unit ∙ ap (λ (r : Result (List FileHit) Fault). joined r (hits_between im name (from + 1) to)) h
+  unit_stops (stops.Cause f) h = first_unit ∙ ap (λ (r : Result (List FileHit) Fault). joined r (hits_between im name (from + 1) to)) h
 
 -- there is a unit with each number
 pub some_unit : (us : List UnitHeader) (n : ℕ) → n < length us → (u : UnitHeader) × (slice_get us n ≡ Some u)

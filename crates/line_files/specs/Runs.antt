@@ -7,7 +7,7 @@ use Rattle.ix_base.specs.declared.fault.Fault.{Fault}
 use Rattle.index_model.specs.declared.unit.Unit.{Unit as UnitHeader}
 use Rattle.index_model.specs.Meaning.{◌>>=◌, each}
 use Rattle.index_model.specs.Sections.{Section, section_bytes}
-use Rattle.ix_base.specs.declared.fault.Stop.{Stop}
+use Rattle.index_model.specs.Gives.{Stop}
 use Rattle.index_model.specs.Gives.{Gives}
 use Rattle.file_image.specs.Front.{with_front}
 use Rattle.file_image.specs.Images.{Image}

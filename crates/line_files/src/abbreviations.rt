@@ -8,10 +8,10 @@ ghost use Rattle.index_model.specs.Gives.{Gives};
 ghost use Rattle.index_model.specs.Meaning.{fault, some_or};
 ghost use Rattle.line_files.specs.Places.{IsAtOffset};
 
-use entry_scan::{Abbrevs, BadAbbrev};
+use entry_scan::Abbrevs;
 use index_model::Unit;
 use ix_base::code::BAD_ABBREVIATION;
-use ix_base::{Fault, Stop};
+use ix_base::{Fault, OrMemory, Stop};
 use std::alloc::Global;
 
 /// A table of abbreviations, and where it stands in `.debug_abbrev`.
@@ -53,8 +53,8 @@ impl AbbrevTable {
                 offset: unit.abbrev,
                 abbrevs,
             }),
-            Err(BadAbbrev::Memory) => Err(Stop::Memory),
-            Err(BadAbbrev::Damaged) => Err(Stop::Fault(Fault {
+            Err(OrMemory::Memory) => Err(Stop::Memory),
+            Err(OrMemory::Cause(_)) => Err(Stop::Cause(Fault {
                 code: BAD_ABBREVIATION,
                 at: unit.start,
             })),

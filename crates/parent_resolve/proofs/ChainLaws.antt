@@ -8,8 +8,8 @@ use Rattle.std.proofs.lemmas.List.Folds.{list_any-append}
 use Rattle.ix_base.specs.declared.fault.Fault.{Fault}
 use Rattle.ix_base.specs.declared.code.TheConstants.{BAD_REFERENCE, REFERENCE_CHAIN}
 use Rattle.ix_base.specs.declared.limits.TheConstants.{MAX_CHAIN_HOPS}
-use Rattle.ix_base.specs.declared.fault.Stop.{Stop}
-use Rattle.ix_base.specs.declared.fault.Stop.TheVariants as stops
+use Rattle.index_model.specs.Gives.{Stop}
+use Rattle.ix_base.specs.declared.or_memory.OrMemory.TheVariants as stops
 use Rattle.index_model.specs.declared.shard.Node.{Node}
 use Rattle.index_model.specs.declared.shard.Next.{Next}
 use Rattle.index_model.specs.Attributes.{Reference, next_reference, has_external, signature_of}
@@ -256,9 +256,9 @@ stopped_for at (Err code) f h = (code, refl, cc)
 -- a fault of a part is that of the whole
 pub stops_like : {Y Z : Type 0} (at : ℕ) (m : Result Y ℕ) (k : Result Z ℕ) → ((code : ℕ) → m ≡ Err code → k ≡ Err code) → (s : Stop) → StopsAs s (at_place at m) → StopsAs s (at_place at k)
 stops_like at m k same stops.Memory h = tt
-stops_like {Z = Z} at m k same (stops.Fault f) h = let e = stopped_for at m f h in ap (at_place at) (same e.0 e.1) ∙ ap {B = Result Z Fault} (λ (x : Fault). Err x) (sym e.2)
+stops_like {Z = Z} at m k same (stops.Cause f) h = let e = stopped_for at m f h in ap (at_place at) (same e.0 e.1) ∙ ap {B = Result Z Fault} (λ (x : Fault). Err x) (sym e.2)
 
-pub stops_at : {Z : Type 0} (at code : ℕ) (k : Result Z ℕ) (s : Stop) → s ≡ stops.Fault (record { code = code; at = at }) → k ≡ Err code → StopsAs s (at_place at k)
+pub stops_at : {Z : Type 0} (at code : ℕ) (k : Result Z ℕ) (s : Stop) → s ≡ stops.Cause (record { code = code; at = at }) → k ≡ Err code → StopsAs s (at_place at k)
 stops_at at code k s is same = subst (λ (x : Stop). StopsAs x (at_place at k)) (sym is) (ap (at_place at) same)
 
 -- what came next

@@ -6,8 +6,8 @@ use Rattle.std.proofs.lemmas.List.Elements.{Contains-append_left, Contains-appen
 use Rattle.std.proofs.lemmas.Bool.{and_right, and_parts, eqb-true, true≢false}
 use Rattle.common_laws.proofs.Members.{to_map, of_filter, to_flat_map}
 use Rattle.ix_base.specs.declared.fault.Fault.{Fault}
-use Rattle.ix_base.specs.declared.fault.Stop.{Stop}
-use Rattle.ix_base.specs.declared.fault.Stop.TheVariants as stops
+use Rattle.index_model.specs.Gives.{Stop}
+use Rattle.ix_base.specs.declared.or_memory.OrMemory.TheVariants as stops
 use Rattle.index_model.specs.declared.shard.LinkedEntry.{LinkedEntry}
 use Rattle.index_model.specs.Gives.{GivesFor}
 use Rattle.index_model.specs.Meaning.{◌>>=◌, at_place, each}
@@ -48,7 +48,7 @@ module _ (p : Program) (d : Located) where
   gives_alone : (result : Result (Option LinkedEntry) Stop) → GivesFor (IsEntryOf p) result placed → GivesFor (IsLinkedNode p) result (alone placed)
   gives_alone (Ok o) h = gives_one o placed h
   gives_alone (Err stops.Memory) h = tt
-  gives_alone (Err (stops.Fault f)) h = ap alone h
+  gives_alone (Err (stops.Cause f)) h = ap alone h
 
   -- what is said of one whose references are
   pub follows : is_followed p d ≡ true → (result : Result (Option LinkedEntry) Stop) → GivesFor (IsEntryOf p) result placed → GivesFor (IsLinkedNode p) result (links_at p (d ∷ []))

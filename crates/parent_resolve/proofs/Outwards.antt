@@ -6,8 +6,8 @@ use Rattle.std.proofs.lemmas.Option.{same_Some}
 use Rattle.ix_base.specs.declared.code.TheConstants.{REFERENCE_CHAIN}
 use Rattle.ix_base.specs.declared.limits.TheConstants.{MAX_PATH_STEPS}
 use Rattle.ix_base.specs.declared.fault.Fault.{Fault}
-use Rattle.ix_base.specs.declared.fault.Stop.{Stop}
-use Rattle.ix_base.specs.declared.fault.Stop.TheVariants as stops
+use Rattle.index_model.specs.Gives.{Stop}
+use Rattle.ix_base.specs.declared.or_memory.OrMemory.TheVariants as stops
 use Rattle.index_model.specs.Meaning.{◌>>=◌, at_place, fault}
 use Rattle.index_model.specs.Gives.{GivesFor, StopsAs}
 use Rattle.index_model.specs.Faults.{program_of}
@@ -33,8 +33,8 @@ gives_ok P at r x is h = subst (λ (s : Result _ ℕ). IsOkAnd (at_place at s) P
 -- a call stops as another did, where the meaning has each code of the other's
 pub stops_as : {A B : Type 0} (stop : Stop) (at : ℕ) (r : Result A ℕ) (s : Result B ℕ) → StopsAs stop (at_place at r) → ((code : ℕ) → r ≡ Err code → s ≡ Err code) → StopsAs stop (at_place at s)
 stops_as stops.Memory at r s h more = tt
-stops_as (stops.Fault f) at (Ok x) s h more = absurd cc
-stops_as {B = B} (stops.Fault f) at (Err code) s h more =
+stops_as (stops.Cause f) at (Ok x) s h more = absurd cc
+stops_as {B = B} (stops.Cause f) at (Err code) s h more =
     let same : fault code at ≡ f = cc in
     ap (λ (t : Result B ℕ). at_place at t) (more code refl) ∙ ap {B = Result B Fault} (λ (g : Fault). Err g) same
 
@@ -189,7 +189,7 @@ module _ (p : Program) (d : Located) (s : Scope) (around : ℕ) (r : Reached p d
       r.is ∙ ap (behind r.passed) (rest ∙ too_long p r.left known long)
 
   -- so both together answer, where the steps are tested
-  pub joined_gives : (at : ℕ) (result : Result Scope Stop) (next : Scope) → next.steps ≡ s.steps + outer.steps → next.length ≡ min greatest (s.length + outer.length) → (s.steps + outer.steps ≤ MAX_PATH_STEPS → result ≡ Ok next) → (MAX_PATH_STEPS < s.steps + outer.steps → result ≡ Err (stops.Fault (fault REFERENCE_CHAIN at))) → GivesFor IsScope result (at_place at (scope_path p d))
+  pub joined_gives : (at : ℕ) (result : Result Scope Stop) (next : Scope) → next.steps ≡ s.steps + outer.steps → next.length ≡ min greatest (s.length + outer.length) → (s.steps + outer.steps ≤ MAX_PATH_STEPS → result ≡ Ok next) → (MAX_PATH_STEPS < s.steps + outer.steps → result ≡ Err (stops.Cause (fault REFERENCE_CHAIN at))) → GivesFor IsScope result (at_place at (scope_path p d))
   joined_gives at result next steps length_ few many = elim (leb_tells (s.steps + outer.steps) MAX_PATH_STEPS) as (λ _. GivesFor IsScope result (at_place at (scope_path p d))) [
     | inl small ↦
         let f = rest_fits next small.1 steps length_ in

@@ -3,8 +3,8 @@ use Rattle.std.proofs.Common.{◌≡◌, ℕ, ◌+◌, ◌<◌, ◌≤◌, min, 
 use Rattle.std.specs.Prelude.{IsOkAnd}
 use Rattle.std.proofs.lemmas.Bool.Decides.{leb_tells}
 use Rattle.ix_base.specs.declared.fault.Fault.{Fault}
-use Rattle.ix_base.specs.declared.fault.Stop.{Stop}
-use Rattle.ix_base.specs.declared.fault.Stop.TheVariants as stops
+use Rattle.index_model.specs.Gives.{Stop}
+use Rattle.ix_base.specs.declared.or_memory.OrMemory.TheVariants as stops
 use Rattle.ix_base.specs.declared.limits.TheConstants.{MAX_PATH_STEPS}
 use Rattle.index_model.specs.Meaning.{at_place}
 use Rattle.index_model.specs.Names.{Member, scope_path}
@@ -62,8 +62,8 @@ module _ (e : EntriesOf) where
       (record { next = Some x.offset; before = parts.0; behind = here; few = omega (arith, h.few, steps, length-append xs (x ∷ [])) }, here)
 
 -- where two lengths were joined they fit
-pub few_joined : (a b : ℕ) (r : Result Scope Stop) (s : Scope) (f : Fault) → r ≡ Ok s → (MAX_PATH_STEPS < a + b → r ≡ Err (stops.Fault f)) → a + b ≤ MAX_PATH_STEPS
+pub few_joined : (a b : ℕ) (r : Result Scope Stop) (s : Scope) (f : Fault) → r ≡ Ok s → (MAX_PATH_STEPS < a + b → r ≡ Err (stops.Cause f)) → a + b ≤ MAX_PATH_STEPS
 few_joined a b r s f ok long = elim (leb_tells (a + b) MAX_PATH_STEPS) as (λ _. a + b ≤ MAX_PATH_STEPS) [
   | inl small ↦ small.1
-  | inr big ↦ (let never : Ok s ≡ Err (stops.Fault f) = sym ok ∙ long big.1 in absurd cc)
+  | inr big ↦ (let never : Ok s ≡ Err (stops.Cause f) = sym ok ∙ long big.1 in absurd cc)
 ]

@@ -8,8 +8,8 @@ use Rattle.std.proofs.lemmas.Option.{same_Some}
 use Rattle.common_laws.proofs.Members.{contains_here, contains_later}
 use Rattle.common_laws.proofs.Lists.{all_zip_append}
 use Rattle.ix_base.specs.declared.fault.Fault.{Fault}
-use Rattle.ix_base.specs.declared.fault.Stop.{Stop}
-use Rattle.ix_base.specs.declared.fault.Stop.TheVariants as stops
+use Rattle.index_model.specs.Gives.{Stop}
+use Rattle.ix_base.specs.declared.or_memory.OrMemory.TheVariants as stops
 use Rattle.index_model.specs.declared.shard.LinkedEntry.{LinkedEntry}
 use Rattle.index_model.specs.declared.shard.Shard.{Shard}
 use Rattle.index_model.specs.Gives.{StopsAs}
@@ -175,7 +175,7 @@ module _ (p : Program) where
     -- the first fault is the run's
     pub stops_here : (rest : List Located) → take n (kept_in run) ++ d ∷ rest ≡ kept_in run → (stop : Stop) → StopsAs stop (links_at p (d ∷ [])) → StopsAs stop (links_at p (kept_in run))
     stops_here rest whole stops.Memory h = tt
-    stops_here rest whole (stops.Fault f) h =
+    stops_here rest whole (stops.Cause f) h =
         ap (links_at p) (sym whole) ∙ links_append (take n (kept_in run)) (d ∷ rest) ∙
         ap (λ (r : Result (List Link) Fault). r >>= λ front. with_front one front (links_at p (d ∷ rest))) before.1 ∙
         ap (with_front one before.0) (links_append (d ∷ []) rest ∙ ap (λ (r : Result (List Link) Fault). r >>= λ front. with_front one front (links_at p rest)) h)

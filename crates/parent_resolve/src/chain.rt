@@ -68,7 +68,7 @@ pub(crate) fn chain_of<'f>(
     let mut hops = 0;
     while let Some(target) = next_of(entries, alloc, &chain.end, at)? {
         if hops == MAX_CHAIN_HOPS {
-            return Err(Stop::from(Fault {
+            return Err(Stop::Cause(Fault {
                 code: REFERENCE_CHAIN,
                 at,
             }));
@@ -94,7 +94,7 @@ fn next_of<'f>(
     };
     match entries.named(alloc, node.unit, reference)? {
         Some(target) => Ok(Some(target)),
-        None => Err(Stop::from(Fault {
+        None => Err(Stop::Cause(Fault {
             code: BAD_REFERENCE,
             at,
         })),

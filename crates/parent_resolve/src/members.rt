@@ -2,7 +2,7 @@
 
 ghost use Rattle.std.specs.Prelude.{◌≡◌};
 ghost use Rattle.ix_base.specs.declared.code.TheConstants.{REFERENCE_CHAIN};
-ghost use Rattle.ix_base.specs.declared.fault.Stop.TheVariants as stops;
+ghost use Rattle.ix_base.specs.declared.or_memory.OrMemory.TheVariants as stops;
 ghost use Rattle.index_model.specs.Gives.{GivesFor};
 ghost use Rattle.index_model.specs.Meaning.{at_place, fault};
 ghost use Rattle.parent_resolve.specs.Followed.{ForEntry};
@@ -62,9 +62,9 @@ fn step_over<'f>(
 
 /// The fault of a path with too many steps.
 pub(crate) fn too_long(at: u64) -> Stop
-    ensures { result ≡ stops.Fault (fault REFERENCE_CHAIN at) }
+    ensures { result ≡ stops.Cause (fault REFERENCE_CHAIN at) }
 {
-    Stop::Fault(Fault {
+    Stop::Cause(Fault {
         code: REFERENCE_CHAIN,
         at,
     })

@@ -6,7 +6,7 @@
 ghost use Rattle.std.specs.Prelude.{◌≡◌, ◌+◌, ◌<◌, ◌≤◌, map, min, Contains, IfOk, IfSome, IsOkAnd, Ok, Err};
 ghost use Rattle.std.specs.Arc.{arc_value};
 ghost use Rattle.ix_base.specs.declared.code.TheConstants.{REFERENCE_CHAIN};
-ghost use Rattle.ix_base.specs.declared.fault.Stop.TheVariants as stops;
+ghost use Rattle.ix_base.specs.declared.or_memory.OrMemory.TheVariants as stops;
 ghost use Rattle.ix_base.specs.declared.limits.TheConstants.{MAX_PATH_STEPS};
 ghost use Rattle.index_model.specs.Gives.{GivesFor};
 ghost use Rattle.index_model.specs.Meaning.{at_place, fault};
@@ -239,7 +239,7 @@ fn drop_behind(recent: &mut Vec<ScopeAround>, parent: u64)
 fn joined(scope: Scope, outer: Scope, at: u64) -> Result<Scope, Stop>
     requires { scope.steps ≤ MAX_PATH_STEPS }
     ensures fits { scope.steps + outer.steps ≤ MAX_PATH_STEPS → result ≡ Ok (record { steps = scope.steps + outer.steps; length = min greatest (scope.length + outer.length) }) }
-    ensures long { MAX_PATH_STEPS < scope.steps + outer.steps → result ≡ Err (stops.Fault (fault REFERENCE_CHAIN at)) }
+    ensures long { MAX_PATH_STEPS < scope.steps + outer.steps → result ≡ Err (stops.Cause (fault REFERENCE_CHAIN at)) }
 {
     if outer.steps <= MAX_PATH_STEPS - scope.steps {
         Ok(scope.within(outer))

@@ -124,7 +124,7 @@ fn name_by_signature<'f>(
     };
     match entries.named(alloc, unit.unit, reference)? {
         Some(node) => Ok(node.name),
-        None => Err(Stop::from(Fault {
+        None => Err(Stop::Cause(Fault {
             code: BAD_REFERENCE,
             at,
         })),

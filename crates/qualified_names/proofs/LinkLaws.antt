@@ -5,7 +5,7 @@ use Rattle.std.proofs.lemmas.Bool.{true≢false, and_parts, leb-true}
 use Rattle.ix_base.specs.declared.code.TheConstants.{NAME_TOO_LONG}
 use Rattle.ix_base.specs.declared.limits.TheConstants.{MAX_QUALIFIED_NAME}
 use Rattle.ix_base.specs.declared.fault.Fault.{Fault}
-use Rattle.ix_base.specs.declared.fault.Stop.TheVariants as stops
+use Rattle.ix_base.specs.declared.or_memory.OrMemory.TheVariants as stops
 use Rattle.index_model.specs.declared.shard.LinkedEntry.{LinkedEntry}
 use Rattle.index_model.specs.Attributes.{is_declaration}
 use Rattle.index_model.specs.Chains.{chain_of, chain_end, spelled_name}
@@ -56,7 +56,7 @@ module _ (p : Program) (d : Located) where
       subst (LinkParts p d) (same_ok (made a.0 b.0 c.0) k h.1) (record { entry = refl; class = refl; chain = a.1; spelled = b.1; path = c.1; within = h.0 })
 
 -- what isn't wrong doesn't stop as a fault
-pub no_fault : {A : Type 0} (f : Fault) (at : ℕ) (r : Result A ℕ) (x : A) → r ≡ Ok x → StopsAs (stops.Fault f) (at_place at r) → ⊥
+pub no_fault : {A : Type 0} (f : Fault) (at : ℕ) (r : Result A ℕ) (x : A) → r ≡ Ok x → StopsAs (stops.Cause f) (at_place at r) → ⊥
 no_fault {A = A} f at r x is h = let never : Ok x ≡ Err f = ap (λ (s : Result A ℕ). at_place at s) (sym is) ∙ h in absurd cc
 
 -- ---- the name

@@ -57,6 +57,6 @@ fn components_of<'f>(
     match references.components(alloc, entry.around, entry.offset) {
         Ok(components) => Ok(components),
         Err(Stop::Memory) => Err(NoMemory),
-        Err(Stop::Fault(_)) => unreachable!(),
+        Err(Stop::Cause(_)) => unreachable!(),
     }
 }

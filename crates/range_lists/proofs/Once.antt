@@ -13,8 +13,8 @@ use Rattle.range_lists.specs.declared.found.RangeList.{RangeList}
 use Rattle.range_lists.specs.Found.{list_ranges, IsRead, AreRead, IsAdded, IsReadOn}
 use Rattle.range_lists.specs.Lists.{behind}
 use Rattle.range_lists.specs.Same.{of_unit, HaveSameUnits, AddNothing}
-use Rattle.range_lists.specs.declared.refusal.Refusal.{Refusal}
-use Rattle.range_lists.specs.declared.refusal.Refusal.TheVariants.{Code, Memory}
+use Rattle.ix_base.specs.declared.or_memory.OrMemory.{OrMemory}
+use Rattle.ix_base.specs.declared.or_memory.OrMemory.TheVariants.{Cause, Memory}
 use Rattle.range_lists.specs.Gives.{GivesOrRefused, RefusedOr}
 use Rattle.range_lists.proofs.SameUnits.{ranges_added, ok_still, still_read}
 use Rattle.range_lists.proofs.Rests.{own_read}
@@ -53,10 +53,10 @@ err_behind : (unit : ℕ) (front : List UnitRange) (m : Result (List Range) ℕ)
 err_behind unit front (Ok rs) code is = absurd cc
 err_behind unit front (Err e) code is = let same : e ≡ code = cc in ap (λ (k : ℕ). Err k) same
 
-pub bounds_added : (ss : List Section) (unit : ℕ) (old new : FoundRanges) → AreRead ss old → new.lists ≡ old.lists → (r : Result (Unit {0}) Refusal) (m : Result (List Range) ℕ) → GivesOrRefused (λ _. new.ranges.items) r (behind unit old.ranges.items m) → RefusedOr (λ _. IsAdded ss unit old new) r m
+pub bounds_added : (ss : List Section) (unit : ℕ) (old new : FoundRanges) → AreRead ss old → new.lists ≡ old.lists → (r : Result (Unit {0}) (OrMemory ℕ)) (m : Result (List Range) ℕ) → GivesOrRefused (λ _. new.ranges.items) r (behind unit old.ranges.items m) → RefusedOr (λ _. IsAdded ss unit old new) r m
 bounds_added ss unit old new read lists (Ok x) m gives =
     let b = bind_ok m (λ rs. Ok (old.ranges.items ++ of_unit unit rs)) new.ranges.items gives in
     let all : old.ranges.items ++ of_unit unit b.0 ≡ new.ranges.items = same_ok (old.ranges.items ++ of_unit unit b.0) new.ranges.items b.2 in
     subst (λ (r : Result (List Range) ℕ). IsOkAnd r (IsAdded ss unit old new)) (sym b.1) (ranges_added ss unit old new b.0 read lists (sym all))
-bounds_added ss unit old new read lists (Err (Code code)) m gives = err_behind unit old.ranges.items m code gives
+bounds_added ss unit old new read lists (Err (Cause code)) m gives = err_behind unit old.ranges.items m code gives
 bounds_added ss unit old new read lists (Err Memory) m gives = tt

@@ -11,7 +11,6 @@ mod home;
 mod list_entry;
 mod lists;
 mod node;
-mod refusal;
 mod run;
 mod unit;
 mod unit_nodes;

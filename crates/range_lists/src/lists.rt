@@ -15,10 +15,9 @@ ghost use Rattle.range_lists.specs.Same.{of_unit};
 use crate::found::{FoundRanges, RangeList};
 use crate::home::{RangeUnit, cursor_at};
 use crate::list_entry::{ListFormat, RangeListEntry};
-use crate::refusal::Refusal;
 use index_model::{Range, Raw, UnitRange};
 use ix_base::code::{BAD_RANGE, NO_BASE};
-use ix_base::{Cursor, NoMemory};
+use ix_base::{Cursor, NoMemory, OrMemory};
 
 /// A list remembers its ends that begin behind each sixteenth entry, and stops where it comes to an end that is remembered. So of
 /// lists that are ends of one another and count from one base, no more than 16 read any one entry, in whatever order they come. A
@@ -91,12 +90,12 @@ impl<'f> RangeUnit<'f> {
         &self,
         found: &mut FoundRanges,
         list: RangeList,
-    ) -> Result<Vec<RangeList>, Refusal>
+    ) -> Result<Vec<RangeList>, OrMemory<u8>>
         ensures { AreRead self.now.sections.now found.old → list.addr_base ≡ self.now.addr_base → RefusedOr (λ ends. IsReadOn self.now.sections.now self.now.number found.old found.new ends.items) result (list_ranges self.now.sections.now (unit_with self.now) list) }
     {
         let bytes = self.lists_in(list.format);
         if list.place > bytes.len() as u64 {
-            return Err(Refusal::Code(BAD_RANGE));
+            return Err(OrMemory::Cause(BAD_RANGE));
         }
         let mut cursor = Cursor::new(bytes, list.place as usize);
         let mut base = list.base;
@@ -121,7 +120,7 @@ impl<'f> RangeUnit<'f> {
                 ends.push(end)?;
             }
         }
-        Err(Refusal::Code(BAD_RANGE))
+        Err(OrMemory::Cause(BAD_RANGE))
     }
 
     // Where the list of an index begins in `.debug_rnglists`. A place that is too high counts as the greatest.
@@ -162,7 +161,7 @@ impl<'f> RangeUnit<'f> {
         format: ListFormat,
         first_base: u64,
         place: u64,
-    ) -> Result<(), Refusal>
+    ) -> Result<(), OrMemory<u8>>
         ensures { AreRead self.now.sections.now found.old → RefusedOr (λ _. IsAdded self.now.sections.now self.now.number found.old found.new) result (kept (list_at (reader_for format self.now.sections.now (unit_with self.now)) first_base (lists_in format self.now.sections.now) place)) }
     {
         let list = RangeList {
@@ -189,7 +188,7 @@ impl<'f> RangeUnit<'f> {
         found: &mut FoundRanges,
         first_base: u64,
         list: Raw,
-    ) -> Result<(), Refusal>
+    ) -> Result<(), OrMemory<u8>>
         ensures { AreRead self.now.sections.now found.old → RefusedOr (λ _. IsAdded self.now.sections.now self.now.number found.old found.new) result (kept (list_of self.now.sections.now (unit_with self.now) first_base (as_value list))) }
     {
         match list {
@@ -205,14 +204,14 @@ impl<'f> RangeUnit<'f> {
                 }
             }
             Raw::Address(_) | Raw::AddressIndex(_) | Raw::Constant(_) => {
-                Err(Refusal::Code(BAD_RANGE))
+                Err(OrMemory::Cause(BAD_RANGE))
             }
         }
     }
 
     /// Adds the ranges of a list, which counts from the low_pc of the root at first. Those that don't count are left out.
     #[tactic(auto, unfolding(index_model::specs::Ranges::ranges_by))]
-    pub(crate) fn add_list(&self, found: &mut FoundRanges, list: Raw) -> Result<(), Refusal>
+    pub(crate) fn add_list(&self, found: &mut FoundRanges, list: Raw) -> Result<(), OrMemory<u8>>
         ensures { AreRead self.now.sections.now found.old → RefusedOr (λ _. IsAdded self.now.sections.now self.now.number found.old found.new) result (kept (ranges_by self.now.sections.now (unit_with self.now) (Some (as_value list)) None None)) }
     {
         let first_base = self.first_base()?;

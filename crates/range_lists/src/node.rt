@@ -12,10 +12,9 @@ ghost use Rattle.range_lists.specs.Nodes.{has_node_ranges, node_ranges};
 use crate::found::FoundRanges;
 use crate::home::RangeUnit;
 use crate::lists::{add_range, range_from};
-use crate::refusal::Refusal;
 use index_model::{Node, Range, Raw, UnitRange};
 use ix_base::code::BAD_RANGE;
-use ix_base::{Fault, Stop};
+use ix_base::{Fault, OrMemory, Stop};
 
 /// Whether the entry has ranges, or low_pc and high_pc.
 pub(crate) fn has_ranges(node: &Node<'_>) -> bool
@@ -43,7 +42,12 @@ impl RangeUnit<'_> {
 
     // Adds the range from a low end to a high end. The low end is read first.
     #[tactic(auto, unfolding(index_model::specs::Ranges::ranges_by))]
-    fn add_bounds(&self, ranges: &mut Vec<UnitRange>, low: Raw, high: Raw) -> Result<(), Refusal>
+    fn add_bounds(
+        &self,
+        ranges: &mut Vec<UnitRange>,
+        low: Raw,
+        high: Raw,
+    ) -> Result<(), OrMemory<u8>>
         ensures { GivesOrRefused (λ _. ranges.new.items) result (behind self.now.number ranges.old.items (kept (ranges_by self.now.sections.now (unit_with self.now) None (Some (as_value low)) (Some (as_high high))))) }
     {
         let low = self.address(low)?;
@@ -59,7 +63,7 @@ impl RangeUnit<'_> {
         list: Option<Raw>,
         low: Option<Raw>,
         high: Option<Raw>,
-    ) -> Result<(), Refusal>
+    ) -> Result<(), OrMemory<u8>>
         ensures { AreRead self.now.sections.now found.old → RefusedOr (λ _. IsAdded self.now.sections.now self.now.number found.old found.new) result (kept (ranges_by self.now.sections.now (unit_with self.now) (option_map as_value list) (option_map as_value low) (option_map as_high high))) }
     {
         match (list, low, high) {
@@ -76,11 +80,11 @@ impl RangeUnit<'_> {
     {
         match self.add_ranges(found, node.ranges, node.low, node.high) {
             Ok(()) => Ok(()),
-            Err(Refusal::Code(code)) => Err(Stop::Fault(Fault {
+            Err(OrMemory::Cause(code)) => Err(Stop::Cause(Fault {
                 code,
                 at: node.offset,
             })),
-            Err(Refusal::Memory) => Err(Stop::Memory),
+            Err(OrMemory::Memory) => Err(Stop::Memory),
         }
     }
 }

@@ -1,6 +1,7 @@
 //! Abbreviations: a table that was written by hand (DWARF 5, section 7.5.3).
 
-use entry_scan::{Abbrevs, BadAbbrev};
+use entry_scan::{Abbrevs, Damaged};
+use ix_base::OrMemory;
 
 // The codes 1 and 2 in order, 238, and 2 once more. Code 238 has a padded attribute and a constant of its own.
 const TABLE: [u8; 32] = [
@@ -44,7 +45,7 @@ fn first_other(table: &Abbrevs) -> Option<u64> {
 }
 
 #[test]
-fn finds_the_first_of_a_code(rt: HostRuntime) -> Result<(), BadAbbrev> {
+fn finds_the_first_of_a_code(rt: HostRuntime) -> Result<(), OrMemory<Damaged>> {
     let table = Abbrevs::read(rt.alloc(), &TABLE, 0)?;
     let none = table.find(3).is_none();
     assert_eq!(rt; (first_other(&table), none), (None, true));

@@ -88,7 +88,7 @@ fn fault_of<R: Threads + Sync>(
 {
     let image = Image::open(alloc, bytes)?;
     match list(rt, alloc, &image, b"h.h", workers) {
-        Err(Stop::Fault(fault)) => Ok(Some(fault)),
+        Err(Stop::Cause(fault)) => Ok(Some(fault)),
         Err(Stop::Memory) | Ok(_) => Ok(None),
     }
 }

@@ -1,7 +1,8 @@
 //! entry_scan: the values of one entry, each in another form (DWARF 5, sections 7.5.5 and 7.5.6).
 
-use entry_scan::{Abbrevs, BadAbbrev, Item, Walk};
+use entry_scan::{Abbrevs, Damaged, Item, Walk};
 use index_model::{Part, Unit, UnitSort, Value};
+use ix_base::OrMemory;
 
 // The forms implicit_const (with -3), data2, udata, sdata, flag, string, strp, line_strp, strx1, addr, addrx1, ref1, ref_addr,
 // ref_sig8, sec_offset, rnglistx, block1 and indirect (to data1), of the attributes 1 to 18.
@@ -69,7 +70,7 @@ fn scanned(abbrevs: &Abbrevs) -> Option<(Option<u64>, u64)> {
 }
 
 #[test]
-fn values_of_each_sort(rt: HostRuntime) -> Result<(), BadAbbrev> {
+fn values_of_each_sort(rt: HostRuntime) -> Result<(), OrMemory<Damaged>> {
     let abbrevs = Abbrevs::read(rt.alloc(), TABLE, 0)?;
     assert_eq!(rt; scanned(&abbrevs), Some((None, 64)));
     Ok(())

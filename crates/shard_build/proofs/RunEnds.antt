@@ -8,8 +8,8 @@ use Rattle.std.proofs.lemmas.Option.{get_or_from_slice_get, slice_get_cases}
 use Rattle.std.proofs.Math.Seq.{take-add}
 use Rattle.ix_base.specs.declared.code.TheConstants.{BAD_ABBREVIATION}
 use Rattle.ix_base.specs.declared.fault.Fault.{Fault}
-use Rattle.ix_base.specs.declared.fault.Stop.{Stop}
-use Rattle.ix_base.specs.declared.fault.Stop.TheVariants as stops
+use Rattle.index_model.specs.Gives.{Stop}
+use Rattle.ix_base.specs.declared.or_memory.OrMemory.TheVariants as stops
 use Rattle.index_model.specs.declared.unit.Unit.{Unit as UnitHeader}
 use Rattle.index_model.specs.Faults.{scanned}
 use Rattle.index_model.specs.Gives.{StopsAs}
@@ -116,7 +116,7 @@ module _ (ss : List Section) (us : List UnitHeader) (first count : ℕ) (fits : 
     -- where the unit stops the run does
     pub run_stops : (front : List Walked) (s : Stop) → each (scanned ss) (take (n - first) all) ≡ Ok front → StopsAs s (scanned ss (n, u)) → StopsAs s (each (scanned ss) (take count all))
     run_stops front stops.Memory h e = tt
-    run_stops front (stops.Fault f) h e = stopped front f h e
+    run_stops front (stops.Cause f) h e = stopped front f h e
 
   -- the first walk of the run is that of the first unit
   pub first_is : (front : List Walked) → each (scanned ss) (take count all) ≡ Ok front → first_number front first
@@ -154,6 +154,6 @@ module _ (ss : List Section) (us : List UnitHeader) (first count : ℕ) (fits : 
 pub table_stops : (ss : List Section) (u : Numbered) (bytes : List ℕ) (s : Stop) → bytes ≡ section_bytes ss (codes ".debug_abbrev") → StopsAs s (some_or (table bytes u.1.«abbrev») (fault BAD_ABBREVIATION u.1.start)) → StopsAs s (scanned ss u)
 unfolding walked scanned
 table_stops ss u bytes stops.Memory is h = tt
-table_stops ss u bytes (stops.Fault f) is h =
+table_stops ss u bytes (stops.Cause f) is h =
     let here : some_or (table (section_bytes ss (codes ".debug_abbrev")) u.1.«abbrev») (fault BAD_ABBREVIATION u.1.start) ≡ Err f = ap (λ (xs : List ℕ). some_or (table xs u.1.«abbrev») (fault BAD_ABBREVIATION u.1.start)) (sym is) ∙ h in
     rw here refl

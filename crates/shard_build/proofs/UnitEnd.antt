@@ -3,8 +3,8 @@ use Rattle.std.proofs.Common.{◌≡◌, ℕ, eqb, length, arith, List, [], ◌�
 use Rattle.std.specs.Prelude.{codes, filter, find}
 use Rattle.std.specs.List.{AllZip}
 use Rattle.ix_base.specs.declared.fault.Fault.{Fault}
-use Rattle.ix_base.specs.declared.fault.Stop.{Stop}
-use Rattle.ix_base.specs.declared.fault.Stop.TheVariants as stops
+use Rattle.index_model.specs.Gives.{Stop}
+use Rattle.ix_base.specs.declared.or_memory.OrMemory.TheVariants as stops
 use Rattle.index_model.specs.Gives.{StopsAs}
 use Rattle.index_model.specs.declared.shard.Import.{Import}
 use Rattle.index_model.specs.declared.shard.Span.{Span}
@@ -132,4 +132,4 @@ module _ (ss : List Section) (u : ℕ × UnitHeader) (a : List Abbrev) (found : 
     -- a stop behind the walk is one of the unit
     pub unit_stops : (s : Stop) → StopsAs s (behind_walk ss u b w.walk) → StopsAs s (scanned ss u)
     unit_stops stops.Memory h = tt
-    unit_stops (stops.Fault f) h = unit_fault f h
+    unit_stops (stops.Cause f) h = unit_fault f h

@@ -8,11 +8,11 @@ ghost use Rattle.index_model.specs.Gives.{Gives};
 ghost use Rattle.index_model.specs.Meaning.{fault, some_or};
 ghost use Rattle.shard_build.specs.Runs.{IsAtOffset, AreAtOffsets};
 
-use entry_scan::{Abbrevs, BadAbbrev};
+use entry_scan::Abbrevs;
 use index_model::Unit;
 use indexmap::IndexMap;
 use ix_base::code::BAD_ABBREVIATION;
-use ix_base::{Fault, NoMemory, Stop};
+use ix_base::{Fault, NoMemory, OrMemory, Stop};
 use reading_limit::ReadingLimit;
 use std::alloc::Global;
 
@@ -62,7 +62,7 @@ impl AbbrevTable {
         match AbbrevTable::of(alloc, bytes, unit, at_hand) {
             Ok(table) => Ok(table),
             Err(Stop::Memory) => Err(NoMemory),
-            Err(Stop::Fault(_)) => unreachable!(),
+            Err(Stop::Cause(_)) => unreachable!(),
         }
     }
 
@@ -77,8 +77,8 @@ impl AbbrevTable {
                 offset: unit.abbrev,
                 abbrevs,
             }),
-            Err(BadAbbrev::Memory) => Err(Stop::Memory),
-            Err(BadAbbrev::Damaged) => Err(Stop::Fault(Fault {
+            Err(OrMemory::Memory) => Err(Stop::Memory),
+            Err(OrMemory::Cause(_)) => Err(Stop::Cause(Fault {
                 code: BAD_ABBREVIATION,
                 at: unit.start,
             })),

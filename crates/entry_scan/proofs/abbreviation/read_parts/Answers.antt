@@ -6,7 +6,7 @@ use Rattle.common_laws.proofs.Numbers.{one_left}
 use Rattle.ix_base.specs.Moves.{ReadsOrStays}
 use Rattle.ix_base.specs.Reading.{uleb, input}
 use Rattle.index_model.specs.Abbreviations.{abbrev_with, abbrevs_at, table}
-use Rattle.entry_scan.specs.declared.abbreviation.BadAbbrev.TheVariants as bad
+use Rattle.ix_base.specs.declared.or_memory.OrMemory.TheVariants as stops
 use Rattle.entry_scan.proofs.AbbreviationDamage.{damaged, passed_on}
 use Rattle.entry_scan.proofs.AbbreviationFronts.{abbrevs_out, code_cut, abbrevs_end, abbrev_cut, abbrevs_more}
 use Rattle.entry_scan.proofs.abbreviation.read_parts.Goals as goal
@@ -20,9 +20,9 @@ returns-in_err-code-clause-value c =
     let cut = subst (λ r. ReadsOrStays (λ x. x) uleb c.abbreviations.cursor c.uleb.new.self r) none c.uleb.ensures.value in
     let more = rw (one_left (length c.args.bytes.now) c.abbreviations.counter c.abbreviations-test.true) at c.abbreviations.invariant.so_far in
     let p = err_from_is_err_and c.from_residual.result c.from_residual.ensures.1 in
-    let same : c.in_err-code.field-0.0 ≡ bad.Damaged = (let e = c.in_err-code.ensures.value ∙ ap (λ o. ok_or o bad.Damaged) none in cc) in
-    let is : c.from_residual.result ≡ Err bad.Damaged = p.1 ∙ ap Err (p.2 ∙ same) in
-    damaged _ _ _ is (whole c.args.bytes.now c.args.at c.requires ∙ sym more ∙ code_cut (length c.args.bytes.now - (c.abbreviations.counter + 1)) c.abbreviations.cursor _ cut.0)
+    let same : c.in_err-code.field-0.0 ≡ stops.Cause (record {}) = (let e = c.in_err-code.ensures.value ∙ ap (λ o. ok_or o (stops.Cause (record {}))) none in cc) in
+    let is : c.from_residual.result ≡ Err (stops.Cause (record {})) = p.1 ∙ ap Err (p.2 ∙ same) in
+    damaged _ _ _ (record {}) is (whole c.args.bytes.now c.args.at c.requires ∙ sym more ∙ code_cut (length c.args.bytes.now - (c.abbreviations.counter + 1)) c.abbreviations.cursor _ cut.0)
 
 pub returns-then-code-eq0-clause-value : goal.returns-then-code-eq0-clause-value
 returns-then-code-eq0-clause-value c =

@@ -5,7 +5,7 @@ use Rattle.std.specs.Option.{ok_or}
 use Rattle.common_laws.proofs.Numbers.{one_left}
 use Rattle.ix_base.specs.Moves.{Reads}
 use Rattle.index_model.specs.Abbreviations.{spec_at, is_end}
-use Rattle.entry_scan.specs.declared.abbreviation.BadAbbrev.TheVariants as bad
+use Rattle.ix_base.specs.declared.or_memory.OrMemory.TheVariants as stops
 use Rattle.entry_scan.specs.SeenAbbreviations.{spec_seen}
 use Rattle.entry_scan.proofs.AbbreviationDamage.{damaged}
 use Rattle.entry_scan.proofs.AbbreviationFronts.{specs_out, specs_cut, specs_end, specs_more, begins_within}
@@ -17,9 +17,9 @@ returns-in_err-spec-clause-value c =
     let cut = subst (λ r. Reads spec_seen spec_at c.attributes.cursor c.read_spec.new.cursor r) none c.read_spec.ensures in
     let more = rw (one_left (length c.rest-end.result.now) c.attributes.counter c.attributes-test.true) at c.attributes.invariant.so_far in
     let p = err_from_is_err_and c.from_residual.result c.from_residual.ensures.1 in
-    let same : c.in_err-spec.field-0.0 ≡ bad.Damaged = (let e = c.in_err-spec.ensures.value ∙ ap (λ o. ok_or o bad.Damaged) none in cc) in
-    let is : c.from_residual.result ≡ Err bad.Damaged = p.1 ∙ ap Err (p.2 ∙ same) in
-    damaged _ _ _ is (sym more ∙ specs_cut (length c.rest-end.result.now - (c.attributes.counter + 1)) c.attributes.cursor _ cut)
+    let same : c.in_err-spec.field-0.0 ≡ stops.Cause (record {}) = (let e = c.in_err-spec.ensures.value ∙ ap (λ o. ok_or o (stops.Cause (record {}))) none in cc) in
+    let is : c.from_residual.result ≡ Err (stops.Cause (record {})) = p.1 ∙ ap Err (p.2 ∙ same) in
+    damaged _ _ _ (record {}) is (sym more ∙ specs_cut (length c.rest-end.result.now - (c.attributes.counter + 1)) c.attributes.cursor _ cut)
 
 pub returns-then-is_end-clause-value : goal.returns-then-is_end-clause-value
 returns-then-is_end-clause-value c =

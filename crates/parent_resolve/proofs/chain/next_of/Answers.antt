@@ -1,5 +1,5 @@
 use Rattle.std.proofs.Common.{Option, Some, None, ap, sym, subst}
-use Rattle.ix_base.specs.declared.fault.Stop.{Stop}
+use Rattle.index_model.specs.Gives.{Stop}
 use Rattle.index_model.specs.declared.shard.Node.{Node}
 use Rattle.index_model.specs.Gives.{StopsAs}
 use Rattle.index_model.specs.Meaning.{at_place}

@@ -1,5 +1,5 @@
 use Rattle.std.proofs.Common.{sym, subst}
-use Rattle.ix_base.specs.declared.fault.Stop.{Stop}
+use Rattle.index_model.specs.Gives.{Stop}
 use Rattle.index_model.specs.Chains.{chain_end}
 use Rattle.index_model.specs.Gives.{StopsAs}
 use Rattle.index_model.specs.Meaning.{at_place}
@@ -14,5 +14,5 @@ unreachable-requires c =
     let end = chain_end r.link.entry r.link.chain in
     let around = is_around_end r.program x r.link r.is in
     let meaning = scope_path r.program end in
-    let stops = subst (λ (s : Stop). StopsAs s (at_place x.offset meaning)) c.in-Err-Fault.field-0-is (c.in-Err-Fault.ensures.value r.program r.file end around.there (sym around.is)) in
-    no_fault c.in-Err-Fault.field-0-0 x.offset meaning r.link.path (parts r.program x r.link r.is).path stops
+    let stops = subst (λ (s : Stop). StopsAs s (at_place x.offset meaning)) c.in-Err-Cause.field-0-is (c.in-Err-Cause.ensures.value r.program r.file end around.there (sym around.is)) in
+    no_fault c.in-Err-Cause.field-0-0 x.offset meaning r.link.path (parts r.program x r.link r.is).path stops

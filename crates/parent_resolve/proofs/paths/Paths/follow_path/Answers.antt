@@ -1,6 +1,6 @@
 use Rattle.std.proofs.Common.{◌≡◌, List, [], ◌∷◌, length, length-append, Some, None, Result, refl, sym, ap, subst, ◌∙◌, rules, arith}
 use Rattle.index_model.specs.Gives.{GivesFor}
-use Rattle.ix_base.specs.declared.fault.Stop.{Stop}
+use Rattle.index_model.specs.Gives.{Stop}
 use Rattle.parent_resolve.specs.declared.scope.Scope.{Scope}
 use Rattle.std.proofs.lemmas.Result.{err_from_is_err_and}
 use Rattle.ix_base.specs.declared.limits.TheConstants.{MAX_PATH_STEPS}
