@@ -1,11 +1,11 @@
 -- What a call that may stop gives.
 use Rattle.std.specs.Prelude.{Result, Ok, Err}
-use Rattle.debugnames_write.specs.declared.writer.WriteStop.{WriteStop}
-use Rattle.debugnames_write.specs.declared.writer.WriteStop.TheVariants.{TooLarge, Memory}
+use Rattle.index_model.specs.WriteStops.{WriteStop}
+use Rattle.ix_base.specs.declared.or_memory.OrMemory.TheVariants.{Cause, Memory}
 
 -- it is too large where Q, or memory was refused
 abbrev pub StopsAt : WriteStop → Type 0 → Type 0
-StopsAt TooLarge Q = Q
+StopsAt (Cause t) Q = Q
 StopsAt Memory Q = Unit {0}
 
 -- the value holds P, or the call stops

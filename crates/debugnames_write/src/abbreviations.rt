@@ -12,7 +12,7 @@ ghost use Rattle.debugnames_write.specs.Seen.{items_seen};
 use crate::item::{IndexEntry, Row};
 use crate::limits::{MAX_INDEX, grown};
 use crate::numbers::{push_uleb, uleb_size};
-use crate::writer::WriteStop;
+use index_model::WriteStop;
 use std::alloc::{AllocError, Global};
 use std::marker::Model;
 

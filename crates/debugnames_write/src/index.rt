@@ -16,8 +16,7 @@ use crate::numbers::{push_u16, push_u32, push_u32s};
 use crate::pool::pool_places;
 use crate::pool_halves::push_pool_by_halves;
 use crate::units::{UnitPlaces, push_unit_offsets};
-use crate::writer::WriteStop;
-use index_model::Unit;
+use index_model::{Unit, WriteStop};
 use std::alloc::{AllocError, Global};
 use std::thread::Threads;
 

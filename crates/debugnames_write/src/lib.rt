@@ -26,4 +26,4 @@ mod threads;
 mod units;
 mod writer;
 
-pub use writer::{NameBytes, WriteStop, write};
+pub use writer::{NameBytes, write};

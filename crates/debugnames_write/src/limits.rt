@@ -3,7 +3,8 @@
 ghost use Rattle.std.specs.Prelude.{◌≡◌, ◌+◌, ◌<◌, ◌≤◌};
 ghost use Rattle.debugnames_write.specs.Answers.{Answers};
 
-use crate::writer::WriteStop;
+use index_model::{TooLarge, WriteStop};
+use ix_base::OrMemory;
 
 /// The bytes of a `.debug_names`. A length of the 32-bit format is below 0xFFFFFFF0 (DWARF 5, section 7.4), and the 4 bytes of
 /// the length come on top.
@@ -21,9 +22,9 @@ pub(crate) fn grown(size: u64, more: u64, limit: u64) -> Result<u64, WriteStop>
             if sum <= limit {
                 Ok(sum)
             } else {
-                Err(WriteStop::TooLarge)
+                Err(OrMemory::Cause(TooLarge))
             }
         }
-        None => Err(WriteStop::TooLarge),
+        None => Err(OrMemory::Cause(TooLarge)),
     }
 }

@@ -15,7 +15,7 @@ use crate::groups::NameEntries;
 use crate::hash::hashes_of;
 use crate::item::IndexEntry;
 use crate::limits::{MAX_STRINGS, grown};
-use crate::writer::WriteStop;
+use index_model::WriteStop;
 use std::alloc::{AllocError, Global};
 use std::cmp::Ordering;
 use std::thread::Threads;

@@ -13,7 +13,7 @@ use crate::limits::{MAX_INDEX, grown};
 use crate::name::Name;
 use crate::numbers::{push_u32, push_uleb, uleb_size};
 use crate::threads::threads_for;
-use crate::writer::WriteStop;
+use index_model::WriteStop;
 use std::alloc::{AllocError, Global};
 use std::thread::{Threads, for_each_mut};
 

@@ -5,6 +5,7 @@ ghost use Rattle.std.specs.Thread.{IsSync};
 ghost use Rattle.index_model.specs.declared.entry.Entry.{Entry};
 ghost use Rattle.index_model.specs.NameIndex.{name_index_bytes, name_index_strings};
 ghost use Rattle.index_model.specs.Layout.{ended};
+ghost use Rattle.index_model.specs.WriteStops.{too_large};
 ghost use Rattle.debugnames_write.specs.Answers.{Answers};
 ghost use Rattle.debugnames_write.specs.Conditions.{AreIndexable, Fits};
 ghost use Rattle.debugnames_write.specs.Groups.{group_names};
@@ -12,7 +13,6 @@ ghost use Rattle.debugnames_write.specs.Laid.{laid_out};
 ghost use Rattle.debugnames_write.specs.Made.{AreMadeOf};
 ghost use Rattle.debugnames_write.specs.Names.{HaveBuckets, HaveRows};
 ghost use Rattle.debugnames_write.specs.Units.{ArePlacesOf};
-ghost use Rattle.debugnames_write.specs.declared.writer.WriteStop.TheVariants as stops;
 
 use crate::abbreviations::Abbreviations;
 use crate::groups::{NameEntries, groups_of};
@@ -22,10 +22,9 @@ use crate::name::{Name, sorted_names};
 use crate::strings::strings_of;
 use crate::threads::both;
 use crate::units::UnitPlaces;
-use index_model::{List, Unit};
-use ix_base::NoMemory;
+use index_model::{List, Unit, WriteStop};
 use query_engine::Table;
-use std::alloc::{AllocError, AllocFailed, Global};
+use std::alloc::{AllocError, Global};
 use std::thread::Threads;
 
 /// The bytes of a `.debug_names`, and the strings that are appended to `.debug_str`.
@@ -33,39 +32,6 @@ use std::thread::Threads;
 pub struct NameBytes {
     pub names: List<u8>,
     pub strings: List<u8>,
-}
-
-/// Why there is no index.
-#[derive(Clone, Copy)]
-pub enum WriteStop {
-    /// The index would have more than 4,294,967,283 bytes, or `.debug_str` with the added strings more than 4,294,967,295.
-    TooLarge,
-    /// Memory was refused.
-    Memory,
-}
-
-impl From<AllocError> for WriteStop {
-    ghost from_gives = { λ _ e. e ≡ stops.Memory };
-
-    fn from(_error: AllocError) -> WriteStop {
-        WriteStop::Memory
-    }
-}
-
-impl From<NoMemory> for WriteStop {
-    ghost from_gives = { λ _ e. e ≡ stops.Memory };
-
-    fn from(_error: NoMemory) -> WriteStop {
-        WriteStop::Memory
-    }
-}
-
-impl<T: Drop> From<AllocFailed<T>> for WriteStop {
-    ghost from_gives = { λ _ e. e ≡ stops.Memory };
-
-    fn from(_error: AllocFailed<T>) -> WriteStop {
-        WriteStop::Memory
-    }
 }
 
 /// The index of these units and of the entries of this table, in a program whose `.debug_str` has so many bytes before it gets
@@ -90,7 +56,7 @@ pub fn write<R: Threads + Sync>(
     ensures names { IfOk result (λ bytes. bytes.names ≡ name_index_bytes units.now old_strings table.now) }
     ensures strings { IfOk result (λ bytes. bytes.strings ≡ name_index_strings units.now table.now) }
     ensures fits { OnOk result (Fits units.now old_strings table.now) }
-    ensures too_large { IfErr result (λ stop. stop ≡ stops.TooLarge → ¬ Fits units.now old_strings table.now) }
+    ensures too_large { IfErr result (λ stop. stop ≡ too_large → ¬ Fits units.now old_strings table.now) }
 {
     let places = UnitPlaces::of(alloc, units)?;
     let ListedItems { names, items } = sorted_items(rt, alloc, units, &places, table)?;
@@ -127,7 +93,7 @@ fn name_bytes<R: Threads + Sync>(
     ensures names { (entries : List Entry) → AreMadeOf units.now abbreviations.now groups.now entries → IfOk result (λ bytes. bytes.names ≡ name_index_bytes units.now old_strings entries) }
     ensures strings { (entries : List Entry) → AreMadeOf units.now abbreviations.now groups.now entries → IfOk result (λ bytes. bytes.strings ≡ name_index_strings units.now entries) }
     ensures fits { (entries : List Entry) → AreMadeOf units.now abbreviations.now groups.now entries → OnOk result (Fits units.now old_strings entries) }
-    ensures too_large { (entries : List Entry) → AreMadeOf units.now abbreviations.now groups.now entries → IfErr result (λ stop. stop ≡ stops.TooLarge → ¬ Fits units.now old_strings entries) }
+    ensures too_large { (entries : List Entry) → AreMadeOf units.now abbreviations.now groups.now entries → IfErr result (λ stop. stop ≡ too_large → ¬ Fits units.now old_strings entries) }
 {
     let named = sorted_names(rt, alloc, halvings, groups, old_strings)?;
     let sorted: &[Name<'_>] = &named.names;

@@ -7,7 +7,7 @@ use Rattle.std.proofs.lemmas.List.{append-nil, length-append, length-map, map-ap
 use Rattle.index_model.specs.Sections.{Section, index_named, section_count}
 use Rattle.reach_model.specs.Added.{debug_str, new_sections, strings_alone, strings_index}
 use Rattle.elf_add.specs.declared.pieces.NewSection.{NewSection}
-use Rattle.elf_add.specs.declared.adder.AddStop.TheVariants.{Present, TooMany}
+use Rattle.elf_add.specs.declared.adder.NoRoom.TheVariants.{Present, TooMany}
 use Rattle.elf_add.specs.Adders.{Adder, has_section, is_full, with_section, with_strings}
 use Rattle.elf_add.specs.Held.{adder_with, is_alone}
 use Rattle.elf_add.specs.Pieces.{section_of}

@@ -2,13 +2,13 @@
 
 ghost use Rattle.std.specs.Prelude.{◌≡◌, ◌≤◌, ◌==◌, false, [], Err, bytes_eq, ◌++◌, length, map, option_map, unwrap_or, IfOk};
 ghost use Rattle.std.specs.List.{list_any, AllByRecursion as AllOf};
+ghost use Rattle.ix_base.specs.declared.or_memory.OrMemory.TheVariants as stops;
 ghost use Rattle.index_model.specs.Gives.{Gives};
 ghost use Rattle.index_model.specs.Sections.{section_bytes};
 ghost use Rattle.reach_model.specs.Added.{added, debug_str, names_start, new_sections, strings_alone, strings_index};
 ghost use Rattle.reach_model.specs.AddedSections.{HavePlaces};
 ghost use Rattle.elf_add.specs.Adders.{adder_of, has_section, is_full, with_section, with_strings, AddsAs};
 ghost use Rattle.elf_add.specs.Held.{is_alone};
-ghost use Rattle.elf_add.specs.declared.adder.AddStop.TheVariants as stops;
 ghost use Rattle.elf_add.specs.Parts.{IsStrings};
 ghost use Rattle.elf_add.specs.Pieces.{section_of};
 
@@ -16,18 +16,17 @@ use crate::names::name_bytes;
 use crate::parts::AddedProgram;
 use crate::pieces::{Grown, NewSection};
 use file_image::{SectionTable, Sections};
-use ix_base::{MAX_FILE_BYTES, NoMemory, Stop};
+use ix_base::{MAX_FILE_BYTES, NoMemory, OrMemory, Stop};
 use std::alloc::Global;
 use std::marker::Model;
 
-/// Why nothing was added.
+/// Why there is no room for what is to be added.
 #[derive(Clone, Copy)]
-pub enum AddStop {
+pub enum NoRoom {
     /// There is a section of this name, or strings were added before.
     Present,
     /// There would be more than 65,279 sections; from FF00 on their indexes are reserved.
     TooMany,
-    Memory,
 }
 
 /// Adds sections to a program file. Contracts see the file, its sections, and what is to be added. All bytes are borrowed.
@@ -77,38 +76,38 @@ impl<'f> Adder<'f> {
 
     /// One more section, of type 1 and alignment 4. Present exactly where the file or the adder has a section of this name, and else
     /// TooMany exactly where there would be more than 65,279 sections. After a stop the adder is unchanged.
-    pub fn section(&mut self, name: &'f [u8], bytes: &'f [u8]) -> Result<(), AddStop>
+    pub fn section(&mut self, name: &'f [u8], bytes: &'f [u8]) -> Result<(), OrMemory<NoRoom>>
         requires ended { AllOf (λ b. (b == 0) ≡ false) name.now }
         requires other { bytes_eq name.now debug_str ≡ false }
         ensures { AddsAs result self.old self.new (with_section self.old name.now bytes.now) }
     {
         if self.has(name) {
-            return Err(AddStop::Present);
+            return Err(OrMemory::Cause(NoRoom::Present));
         }
         if self.is_full() {
-            return Err(AddStop::TooMany);
+            return Err(OrMemory::Cause(NoRoom::TooMany));
         }
         match self.added.push(NewSection {
             name,
             content: bytes,
         }) {
             Ok(()) => Ok(()),
-            Err(_) => Err(AddStop::Memory),
+            Err(_) => Err(OrMemory::Memory),
         }
     }
 
     /// Bytes behind those of `.debug_str`, which is added as the last section where the file has none. Present exactly where this
     /// adder has such bytes, and else TooMany exactly where the section must be added and there would be more than 65,279. Takes no
     /// memory.
-    pub fn extend(&mut self, bytes: &'f [u8]) -> Result<(), AddStop>
+    pub fn extend(&mut self, bytes: &'f [u8]) -> Result<(), OrMemory<NoRoom>>
         ensures adds { AddsAs result self.old self.new (with_strings self.old bytes.now) }
         ensures memory { result ≡ Err stops.Memory → ⊥ }
     {
         if self.strings.is_some() {
-            return Err(AddStop::Present);
+            return Err(OrMemory::Cause(NoRoom::Present));
         }
         if self.sections.index_of(DEBUG_STR).is_none() && self.is_full() {
-            return Err(AddStop::TooMany);
+            return Err(OrMemory::Cause(NoRoom::TooMany));
         }
         self.strings = Some(bytes);
         Ok(())

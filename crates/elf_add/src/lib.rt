@@ -13,4 +13,4 @@ mod old_headers;
 mod parts;
 mod pieces;
 
-pub use adder::{AddStop, Adder};
+pub use adder::{Adder, NoRoom};

@@ -3,16 +3,16 @@
 ghost use Rattle.std.specs.Prelude.{◌≡◌, ◌<◌, ◌≤◌, length, All, IfOk, Err};
 ghost use Rattle.gdb_entries.specs.Files.{ForProgram, HasProgram};
 ghost use Rattle.gdbindex_write.specs.Writable.{AreUnits};
-ghost use Rattle.gdbindex_write.specs.declared.stop.WriteStop.TheVariants.{TooLarge};
+ghost use Rattle.index_model.specs.WriteStops.{too_large};
 ghost use Rattle.gdb_index.specs.Indexes.{listed_bytes};
 
 use crate::main_listed::main_listed;
 use crate::table::listed_table;
 use address_map::AddressMap;
 use file_image::Image;
-use gdbindex_write::{WriteStop, write};
+use gdbindex_write::write;
 use index_forms::GdbVersion;
-use index_model::Main;
+use index_model::{Main, WriteStop};
 use std::alloc::Global;
 use std::thread::Threads;
 
@@ -37,7 +37,7 @@ pub fn listed_index<'f, R: Threads + Sync>(
     requires pieces { All (λ p. p.unit < length image.now.units) map.now }
     ensures bytes { ForProgram image.now.file (λ p. IfOk result (λ v. v.items ≡ listed_bytes p image.now.units map.now main.now version)) }
     ensures fits { IfOk result (λ v. length v.items ≤ 4294967295) }
-    ensures too_large { ForProgram image.now.file (λ p. result ≡ Err TooLarge → 4294967295 < length (listed_bytes p image.now.units map.now main.now version)) }
+    ensures too_large { ForProgram image.now.file (λ p. result ≡ Err too_large → 4294967295 < length (listed_bytes p image.now.units map.now main.now version)) }
 {
     let units = image.units();
     let table = listed_table(rt, alloc, workers as usize, image)?;

@@ -19,8 +19,8 @@ use Rattle.index_model.specs.Ordered.{distinct, place_of}
 use Rattle.index_model.specs.GdbIndex.{Pool, pool_of, index_names, index_number, vector, cu_list, types_list, symbol_table, shortcut, vector_bytes, gdb_index_bytes}
 use Rattle.gdbindex_write.specs.declared.places.Slot.{Slot}
 use Rattle.gdbindex_write.specs.declared.sizes.Sizes.{Sizes}
-use Rattle.gdbindex_write.specs.declared.stop.WriteStop.{WriteStop}
-use Rattle.gdbindex_write.specs.declared.stop.WriteStop.TheVariants.{TooLarge, Memory}
+use Rattle.index_model.specs.WriteStops.{WriteStop, too_large}
+use Rattle.ix_base.specs.declared.or_memory.OrMemory.TheVariants.{Memory}
 use Rattle.gdbindex_write.specs.declared.symbols.Symbol.{Symbol}
 use Rattle.gdbindex_write.specs.declared.symbols.Symbols.{Symbols}
 use Rattle.gdbindex_write.specs.declared.vectors.Vectors.{Vectors}
@@ -114,6 +114,6 @@ count_le (x ∷ xs) = omega (arith, sum_by-cons (λ (n : List ℕ). length n + 1
 -- ---- stops
 
 -- where memory was refused the index isn't too large
-pub not_too_large : {A : Type 0} (r : Result A WriteStop) → IsErrAnd r (λ stop. stop ≡ Memory) → r ≡ Err TooLarge → ⊥
+pub not_too_large : {A : Type 0} (r : Result A WriteStop) → IsErrAnd r (λ stop. stop ≡ Memory) → r ≡ Err too_large → ⊥
 not_too_large (Ok x) memory large = memory
-not_too_large (Err stop) memory large = let both : Memory ≡ TooLarge = cc in absurd cc
+not_too_large (Err stop) memory large = let both : Memory ≡ too_large = cc in absurd cc

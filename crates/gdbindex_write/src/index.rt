@@ -4,19 +4,19 @@ ghost use Rattle.std.specs.Prelude.{◌≡◌, ◌≤◌, ◌<◌, ◌^◌, List
 ghost use Rattle.index_model.specs.declared.entry.Entry.{Entry};
 ghost use Rattle.index_model.specs.GdbIndex.{gdb_index_bytes};
 ghost use Rattle.index_model.specs.Seen.{main_seen};
+ghost use Rattle.index_model.specs.WriteStops.{too_large};
 ghost use Rattle.gdbindex_write.specs.Prepared.{IsPrepared};
 ghost use Rattle.gdbindex_write.specs.Symbols.{AreWithin};
 ghost use Rattle.gdbindex_write.specs.Writable.{IsWritable, unit_bytes};
-ghost use Rattle.gdbindex_write.specs.declared.stop.WriteStop.TheVariants.{TooLarge};
 
 use crate::areas::{put_symbols, put_units};
 use crate::numbers::index_numbers;
 use crate::sizes::Sizes;
-use crate::stop::WriteStop;
 use crate::symbols::Symbols;
 use crate::vectors::Vectors;
 use address_map::AddressMap;
-use index_model::{MainName, Unit, UnitRange};
+use index_model::{MainName, TooLarge, Unit, UnitRange, WriteStop};
+use ix_base::OrMemory;
 use query_engine::Table;
 use std::alloc::Global;
 
@@ -39,7 +39,7 @@ pub fn write(
     requires { IsWritable units.now map.now (option_map main_seen main) table.now version }
     ensures bytes { IfOk result (λ v. v.items ≡ gdb_index_bytes units.now map.now (option_map main_seen main.entry) table.now version) }
     ensures fits { IfOk result (λ v. length v.items ≤ 4294967295) }
-    ensures too_large { result ≡ Err TooLarge → 4294967295 < length (gdb_index_bytes units.now map.now (option_map main_seen main.entry) table.now version) }
+    ensures too_large { result ≡ Err too_large → 4294967295 < length (gdb_index_bytes units.now map.now (option_map main_seen main.entry) table.now version) }
 {
     let numbers = index_numbers(alloc, units)?;
     let symbols = Symbols::of(alloc, &numbers, table)?;
@@ -70,11 +70,11 @@ fn index_bytes(
     requires symbols { AreWithin (length symbols.now.elements.items) symbols.now.list.items }
     ensures bytes { (entries : List Entry) → IsPrepared units.now pieces.now (option_map main_seen main.entry) version numbers.now symbols.now entries → IfOk result (λ v. v.items ≡ gdb_index_bytes units.now pieces.now (option_map main_seen main.entry) entries version) }
     ensures fits { (entries : List Entry) → IsPrepared units.now pieces.now (option_map main_seen main.entry) version numbers.now symbols.now entries → IfOk result (λ v. length v.items ≤ 4294967295) }
-    ensures too_large { (entries : List Entry) → IsPrepared units.now pieces.now (option_map main_seen main.entry) version numbers.now symbols.now entries → result ≡ Err TooLarge → 4294967295 < length (gdb_index_bytes units.now pieces.now (option_map main_seen main.entry) entries version) }
+    ensures too_large { (entries : List Entry) → IsPrepared units.now pieces.now (option_map main_seen main.entry) version numbers.now symbols.now entries → result ≡ Err too_large → 4294967295 < length (gdb_index_bytes units.now pieces.now (option_map main_seen main.entry) entries version) }
 {
     let vectors = Vectors::of(alloc, symbols)?;
     let Some(sizes) = Sizes::of(units, pieces, &symbols.list, &vectors.distinct, version) else {
-        return Err(WriteStop::TooLarge);
+        return Err(OrMemory::Cause(TooLarge));
     };
     let mut out = Vec::with_capacity(alloc, sizes.total(version) as usize)?;
     put_units(&mut out, version, &sizes, units, numbers, pieces)?;

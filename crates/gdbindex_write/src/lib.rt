@@ -16,11 +16,9 @@ mod places;
 mod put;
 mod sizes;
 mod slots;
-mod stop;
 mod symbols;
 mod table;
 mod units;
 mod vectors;
 
 pub use index::write;
-pub use stop::WriteStop;

@@ -1,5 +1,6 @@
 pub mod Meaning
 pub mod Gives
+pub mod WriteStops
 pub mod Tiling
 pub mod Sections
 pub mod Units

@@ -37,6 +37,7 @@ mod text;
 mod unit;
 mod unpacking;
 mod value;
+mod write_stop;
 
 pub use answer::{Answer, CacheSize, Hits, Look, Main, MainName, Reply};
 pub use entry::{Entry, Kind, Run};
@@ -63,3 +64,4 @@ pub use steps::Steps;
 pub use text::Text;
 pub use unit::{Part, Unit, UnitSort};
 pub use value::Value;
+pub use write_stop::{TooLarge, WriteStop};

@@ -30,12 +30,10 @@ use Rattle.index_model.proofs.Meanings.{bind_ok, same_ok}
 use Rattle.index_model.proofs.Scans.{AreScans, scanned_walked, program_parts}
 use Rattle.index_model.proofs.UnitsApart.{walk_parts}
 use Rattle.address_map.proofs.Halves.{are_the_pieces}
-use Rattle.gdbindex_write.specs.declared.stop.WriteStop.{WriteStop as GdbStop}
-use Rattle.gdbindex_write.specs.declared.stop.WriteStop.TheVariants as gdb_stops
+use Rattle.index_model.specs.WriteStops.{WriteStop, too_large}
+use Rattle.ix_base.specs.declared.or_memory.OrMemory.TheVariants as stops
 use Rattle.gdbindex_write.specs.Writable.{IsWritable, HasUnit, IsMainOf}
 use Rattle.debugnames_write.specs.declared.writer.NameBytes.{NameBytes as Written}
-use Rattle.debugnames_write.specs.declared.writer.WriteStop.{WriteStop as NamesStop}
-use Rattle.debugnames_write.specs.declared.writer.WriteStop.TheVariants as names_stops
 use Rattle.debugnames_write.specs.Conditions.{AreIndexable, Fits, IsInside}
 use Rattle.stage_core.specs.Inputs.{PublishedOf}
 use Rattle.index_pool.specs.Drawn.{IsDrawn}
@@ -158,17 +156,17 @@ module _ (image : Image) (m : Summary) (entries : List Entry) (h : ArePublished 
   gdb_is version (inl is) = rw is refl
   gdb_is version (inr is) = rw is refl
 
-  pub gdb_brings : {Z : Type 0} (version : ℕ) → (version ≡ 8) ⊎ (version ≡ 9) → (r : Result (Vec ℕ Z) GdbStop) → IfOk r (λ v. v.items ≡ gdb_bytes version) → IfOk r (λ v. length v.items ≤ 4294967295) → (r ≡ Err gdb_stops.TooLarge → 4294967295 < length (gdb_bytes version)) →
+  pub gdb_brings : {Z : Type 0} (version : ℕ) → (version ≡ 8) ⊎ (version ≡ 9) → (r : Result (Vec ℕ Z) WriteStop) → IfOk r (λ v. v.items ≡ gdb_bytes version) → IfOk r (λ v. length v.items ≤ 4294967295) → (r ≡ Err too_large → 4294967295 < length (gdb_bytes version)) →
       IsIndexOf image (kind_of_version version) (gdb_output r)
   gdb_brings version known (Ok v) bytes fits large =
       let small : leb (length (gdb_bytes version)) 4294967295 ≡ true = le-leb (length (gdb_bytes version)) 4294967295 (omega (arith, fits, ap length bytes)) in
       gives (kind_of_version version) (string_bytes_in image.sections) refl (GdbBytes v.items)
       (ap (λ (xs : List ℕ). GdbBytes xs) bytes ∙ ap (λ (b : Bool). cond b (GdbBytes (gdb_bytes version)) DoesNotFit) (sym small) ∙ gdb_is version known)
-  gdb_brings version known (Err gdb_stops.TooLarge) bytes fits large =
+  gdb_brings version known (Err (stops.Cause t)) bytes fits large =
       let big : leb (length (gdb_bytes version)) 4294967295 ≡ false = lt-leb (length (gdb_bytes version)) 4294967295 (large refl) in
       gives (kind_of_version version) (string_bytes_in image.sections) refl DoesNotFit
       (ap (λ (b : Bool). cond b (GdbBytes (gdb_bytes version)) DoesNotFit) (sym big) ∙ gdb_is version known)
-  gdb_brings version known (Err gdb_stops.Memory) bytes fits large = tt
+  gdb_brings version known (Err stops.Memory) bytes fits large = tt
 
   module _ (old_strings : ℕ) (old : old_strings ≡ string_bytes_in image.sections) where
     abbrev name_bytes : List ℕ
@@ -193,15 +191,15 @@ module _ (image : Image) (m : Summary) (entries : List Entry) (h : ArePublished 
         by true e false i = refl
         by true e true i = absurd (off (record { names = leb-true (length name_bytes) 4294967283 e; strings = leb-true (old_strings + length strings) 4294967295 i }))
 
-    pub names_bring : (r : Result Written NamesStop) → IfOk r (λ x. x.names ≡ name_bytes) → IfOk r (λ x. x.strings ≡ strings) → OnOk r (Fits image.units old_strings entries) → IfErr r (λ stop. stop ≡ names_stops.TooLarge → ¬ Fits image.units old_strings entries) →
+    pub names_bring : (r : Result Written WriteStop) → IfOk r (λ x. x.names ≡ name_bytes) → IfOk r (λ x. x.strings ≡ strings) → OnOk r (Fits image.units old_strings entries) → IfErr r (λ stop. stop ≡ too_large → ¬ Fits image.units old_strings entries) →
         IsIndexOf image Names (names_output r)
     names_bring (Ok x) first second fits large =
         gives Names old_strings old (NameBytes x.names x.strings)
         (ap (λ (xs : List ℕ). NameBytes xs x.strings) first ∙ ap (λ (xs : List ℕ). NameBytes name_bytes xs) second ∙ ap (λ (b : Bool). cond b (NameBytes name_bytes strings) DoesNotFit) (sym (does_fit fits)) ∙ names_are)
-    names_bring (Err names_stops.TooLarge) first second fits large =
+    names_bring (Err (stops.Cause t)) first second fits large =
         gives Names old_strings old DoesNotFit
         (ap (λ (b : Bool). cond b (NameBytes name_bytes strings) DoesNotFit) (sym (does_not_fit (large refl))) ∙ names_are)
-    names_bring (Err names_stops.Memory) first second fits large = tt
+    names_bring (Err stops.Memory) first second fits large = tt
 
 -- ---- what is given for the Write job
 

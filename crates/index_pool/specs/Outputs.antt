@@ -1,12 +1,9 @@
 -- What calls that may be refused bring as outputs of jobs.
 use Rattle.std.specs.Prelude.{Vec, ℕ, Result, Ok, Err}
 use Rattle.debugnames_write.specs.declared.writer.NameBytes.{NameBytes}
-use Rattle.debugnames_write.specs.declared.writer.WriteStop.{WriteStop as NamesStop}
-use Rattle.debugnames_write.specs.declared.writer.WriteStop.TheVariants as names_stops
-use Rattle.gdbindex_write.specs.declared.stop.WriteStop.{WriteStop as GdbStop}
-use Rattle.gdbindex_write.specs.declared.stop.WriteStop.TheVariants as gdb_stops
 use Rattle.ix_base.specs.declared.fault.NoMemory.{NoMemory}
 use Rattle.index_model.specs.Gives.{Stop}
+use Rattle.index_model.specs.WriteStops.{WriteStop}
 use Rattle.ix_base.specs.declared.or_memory.OrMemory.TheVariants as stops
 use Rattle.index_model.specs.Cache.{GdbBytes, NameBytes as NamesAre, DoesNotFit}
 use Rattle.index_model.specs.Machine.{Output, Memory, Faulty, Gave}
@@ -24,13 +21,13 @@ output_or_memory make (Ok x) = Gave (make x)
 output_or_memory make (Err e) = Memory
 
 -- the bytes of a `.gdb_index`, that they don't fit, or want of memory
-abbrev pub gdb_output : {Z : Type 0} → Result (Vec ℕ Z) GdbStop → Output Made
+abbrev pub gdb_output : {Z : Type 0} → Result (Vec ℕ Z) WriteStop → Output Made
 gdb_output (Ok bytes) = Gave (CacheOf (GdbBytes bytes.items))
-gdb_output (Err gdb_stops.TooLarge) = Gave (CacheOf DoesNotFit)
-gdb_output (Err gdb_stops.Memory) = Memory
+gdb_output (Err (stops.Cause t)) = Gave (CacheOf DoesNotFit)
+gdb_output (Err stops.Memory) = Memory
 
 -- the bytes of a `.debug_names` and of its strings, that they don't fit, or want of memory
-abbrev pub names_output : Result NameBytes NamesStop → Output Made
+abbrev pub names_output : Result NameBytes WriteStop → Output Made
 names_output (Ok bytes) = Gave (CacheOf (NamesAre bytes.names bytes.strings))
-names_output (Err names_stops.TooLarge) = Gave (CacheOf DoesNotFit)
-names_output (Err names_stops.Memory) = Memory
+names_output (Err (stops.Cause t)) = Gave (CacheOf DoesNotFit)
+names_output (Err stops.Memory) = Memory

@@ -6,8 +6,8 @@ ghost use Rattle.stage_core.specs.Outputs.{output_seen, summary_seen};
 ghost use Rattle.index_pool.specs.Outputs.{output_of, output_or_memory, gdb_output, names_output};
 
 use debugnames_write::NameBytes;
-use index_model::{Linked, List, Run, Shard};
-use ix_base::{NoMemory, Stop};
+use index_model::{Linked, List, Run, Shard, TooLarge, WriteStop};
+use ix_base::{NoMemory, OrMemory, Stop};
 use query_engine::Table;
 use stage_core::{Cache, Output, Summary};
 
@@ -65,23 +65,23 @@ pub(crate) fn of_merge<'f>(table: Result<Table<'f>, NoMemory>) -> Output<'f>
 }
 
 /// The bytes of a `.gdb_index`.
-pub(crate) fn of_gdb<'f>(written: Result<Vec<u8>, gdbindex_write::WriteStop>) -> Output<'f>
+pub(crate) fn of_gdb<'f>(written: Result<Vec<u8>, WriteStop>) -> Output<'f>
     ensures { output_seen result ≡ gdb_output written }
 {
     match written {
         Ok(bytes) => Output::Cache(Cache::Gdb(List::of(bytes))),
-        Err(gdbindex_write::WriteStop::TooLarge) => Output::Cache(Cache::TooLarge),
-        Err(gdbindex_write::WriteStop::Memory) => Output::Memory,
+        Err(OrMemory::Cause(TooLarge)) => Output::Cache(Cache::TooLarge),
+        Err(OrMemory::Memory) => Output::Memory,
     }
 }
 
 /// The bytes of a `.debug_names` and of its strings.
-pub(crate) fn of_names<'f>(written: Result<NameBytes, debugnames_write::WriteStop>) -> Output<'f>
+pub(crate) fn of_names<'f>(written: Result<NameBytes, WriteStop>) -> Output<'f>
     ensures { output_seen result ≡ names_output written }
 {
     match written {
         Ok(bytes) => Output::Cache(Cache::Names(bytes.names, bytes.strings)),
-        Err(debugnames_write::WriteStop::TooLarge) => Output::Cache(Cache::TooLarge),
-        Err(debugnames_write::WriteStop::Memory) => Output::Memory,
+        Err(OrMemory::Cause(TooLarge)) => Output::Cache(Cache::TooLarge),
+        Err(OrMemory::Memory) => Output::Memory,
     }
 }

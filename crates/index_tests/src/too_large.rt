@@ -10,7 +10,8 @@ use crate::program::{UNIT, table};
 use address_map::AddressMap;
 use debugnames_write::write as write_names;
 use gdbindex_write::write as write_gdb;
-use index_model::{Entry, Kind, List, Run, Text, Unit, UnitRange};
+use index_model::{Entry, Kind, List, Run, Text, TooLarge, Unit, UnitRange};
+use ix_base::OrMemory;
 use query_engine::Table;
 use std::alloc::{AllocError, Global};
 use std::test::Fail;
@@ -90,7 +91,7 @@ fn is_too_large(alloc: Global, table: &Table<'_>) -> Result<bool, Fail> {
         return Ok(false);
     }
     let written = write_gdb(alloc, &units, &map, None, table, 8);
-    Ok(matches!(written, Err(gdbindex_write::WriteStop::TooLarge)))
+    Ok(matches!(written, Err(OrMemory::Cause(TooLarge))))
 }
 
 // All numbers of 16 bits, again and again.
@@ -126,7 +127,7 @@ fn written_behind<R: Threads + Sync>(
     }
     match write_names(rt, alloc, &units, bytes, table) {
         Ok(_) => Some((true, false)),
-        Err(debugnames_write::WriteStop::TooLarge) => Some((false, true)),
+        Err(OrMemory::Cause(TooLarge)) => Some((false, true)),
         Err(_) => Some((false, false)),
     }
 }

@@ -5,13 +5,15 @@ use Rattle.index_model.specs.Sections.{section_count}
 use Rattle.reach_model.specs.Added.{new_sections, strings_index}
 use Rattle.reach_model.specs.AddedIndex.{most_sections}
 use Rattle.elf_add.specs.Adders.{Adder, has_section, is_full, with_section, with_strings, AddsAs}
-use Rattle.elf_add.specs.declared.adder.AddStop.{AddStop}
-use Rattle.elf_add.specs.declared.adder.AddStop.TheVariants as adds
+use Rattle.ix_base.specs.declared.or_memory.OrMemory.{OrMemory}
+use Rattle.ix_base.specs.declared.or_memory.OrMemory.TheVariants as either
+use Rattle.elf_add.specs.declared.adder.NoRoom.{NoRoom}
+use Rattle.elf_add.specs.declared.adder.NoRoom.TheVariants as adds
 use Rattle.store_commands.specs.Programs.{is_full_with, is_there, lacks_strings, nothing, one_section, reason, HasRoomForOne, SectionStops, StringsStop}
 
 -- ---- a test of the names, and then one of the number
 
-abbrev outcome : Bool → Bool → Adder → Result Adder AddStop
+abbrev outcome : Bool → Bool → Adder → Result Adder NoRoom
 outcome taken full new = if taken then Err adds.Present else if full then Err adds.TooMany else Ok new
 
 ok_gives : (taken full : Bool) (made new : Adder) → outcome taken full made ≡ Ok new → (taken ≡ false) × (full ≡ false) × (new ≡ made)
@@ -57,16 +59,16 @@ module _ (a : Adder) (name bytes : List ℕ) (fresh : a.addition ≡ nothing) wh
       let g = ok_gives (is_there a.sections name) (is_full_with 1 a.file) made new (sym (first_is a name bytes fresh) ∙ h) in
       (g.0, g.1)
 
-  pub first_present : with_section a name bytes ≡ Err adds.Present → SectionStops a.file a.sections name (reason adds.Present)
+  pub first_present : with_section a name bytes ≡ Err adds.Present → SectionStops a.file a.sections name (reason (either.Cause adds.Present))
   first_present h = present_gives (is_there a.sections name) (is_full_with 1 a.file) made (sym (first_is a name bytes fresh) ∙ h)
 
-  pub first_many : with_section a name bytes ≡ Err adds.TooMany → SectionStops a.file a.sections name (reason adds.TooMany)
+  pub first_many : with_section a name bytes ≡ Err adds.TooMany → SectionStops a.file a.sections name (reason (either.Cause adds.TooMany))
   first_many h = many_gives (is_there a.sections name) (is_full_with 1 a.file) made (sym (first_is a name bytes fresh) ∙ h)
 
-  pub section_stops : (new : Adder) (stop : AddStop) → AddsAs (Err stop) a new (with_section a name bytes) → SectionStops a.file a.sections name (reason stop)
-  section_stops new adds.Present h = first_present h.1
-  section_stops new adds.TooMany h = first_many h.1
-  section_stops new adds.Memory h = tt
+  pub section_stops : (new : Adder) (stop : OrMemory NoRoom) → AddsAs (Err stop) a new (with_section a name bytes) → SectionStops a.file a.sections name (reason stop)
+  section_stops new (either.Cause adds.Present) h = first_present h.1
+  section_stops new (either.Cause adds.TooMany) h = first_many h.1
+  section_stops new either.Memory h = tt
 
 -- ---- and the strings
 
@@ -99,7 +101,7 @@ module _ (a : Adder) (strings : List ℕ) (one : length a.addition.sections ≡ 
   pub last_many : with_strings a strings ≡ Err adds.TooMany → lacks_strings a.file a.sections ≡ true
   last_many h = (many_gives false (lacks_strings a.file a.sections) filled (sym last_is ∙ h)).1
 
-  pub strings_stop : (new : Adder) (stop : AddStop) → (stop ≡ adds.Memory → ⊥) → AddsAs (Err stop) a new (with_strings a strings) → StringsStop a.file a.sections (reason stop)
-  strings_stop new adds.Present taken h = last_present h.1
-  strings_stop new adds.TooMany taken h = last_many h.1
-  strings_stop new adds.Memory taken h = taken refl
+  pub strings_stop : (new : Adder) (stop : OrMemory NoRoom) → (stop ≡ either.Memory → ⊥) → AddsAs (Err stop) a new (with_strings a strings) → StringsStop a.file a.sections (reason stop)
+  strings_stop new (either.Cause adds.Present) taken h = last_present h.1
+  strings_stop new (either.Cause adds.TooMany) taken h = last_many h.1
+  strings_stop new either.Memory taken h = taken refl

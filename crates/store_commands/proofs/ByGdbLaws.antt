@@ -19,8 +19,8 @@ use Rattle.index_model.specs.Sections.{section_bytes}
 use Rattle.address_map.proofs.Halves.{are_the_pieces}
 use Rattle.gdb_entries.specs.Files.{ForProgram, HasProgram}
 use Rattle.gdb_index.specs.Indexes.{gdb_bytes, index_in, listed_bytes}
-use Rattle.gdbindex_write.specs.declared.stop.WriteStop.{WriteStop}
-use Rattle.gdbindex_write.specs.declared.stop.WriteStop.TheVariants.{TooLarge, Memory}
+use Rattle.index_model.specs.WriteStops.{WriteStop, too_large}
+use Rattle.ix_base.specs.declared.or_memory.OrMemory.TheVariants.{Cause, Memory}
 use Rattle.gdbindex_write.specs.Writable.{HasUnit, IsWritable}
 use Rattle.index_board.specs.Kept.{AreOf}
 use Rattle.index_board.specs.Readers.{Reader}
@@ -91,14 +91,14 @@ module _ (image : Image) (m : Summary) (h : IsSummaryOf image m) where
       large_is : leb (length (written version)) 4294967295 ≡ false → DoesNotFit ≡ index_in (ByGdb version) h.built
       large_is large = ap (λ (b : Bool). cond b (GdbBytes own) DoesNotFit) (sym (ap (λ (xs : List ℕ). leb (length xs) 4294967295) (sym (written_is version)) ∙ large))
 
-      pub brings : {Z : Type 0} (r : Result (Vec ℕ Z) WriteStop) (c : Option Kept) → IsKept r c → ForProgram image.file (λ p. IfOk r (λ v. v.items ≡ listed_bytes p image.units m.map m.main version)) → IfOk r (λ v. length v.items ≤ 4294967295) → ForProgram image.file (λ p. r ≡ Err TooLarge → 4294967295 < length (listed_bytes p image.units m.map m.main version)) →
+      pub brings : {Z : Type 0} (r : Result (Vec ℕ Z) WriteStop) (c : Option Kept) → IsKept r c → ForProgram image.file (λ p. IfOk r (λ v. v.items ≡ listed_bytes p image.units m.map m.main version)) → IfOk r (λ v. length v.items ≤ 4294967295) → ForProgram image.file (λ p. r ≡ Err too_large → 4294967295 < length (listed_bytes p image.units m.map m.main version)) →
           IfSome c (Brings version)
       brings r None same bytes fits large = tt
       brings (Ok v) (Some c) same bytes fits large =
           let items : v.items ≡ written version = bytes program program_is in
           let small : leb (length (written version)) 4294967295 ≡ true = le-leb (length (written version)) 4294967295 (omega (arith, fits, ap length items)) in
           gives version c (same ∙ ap (λ (xs : List ℕ). GdbBytes xs) items ∙ small_is small)
-      brings (Err TooLarge) (Some c) same bytes fits large =
+      brings (Err (Cause t)) (Some c) same bytes fits large =
           let big : leb (length (written version)) 4294967295 ≡ false = lt-leb (length (written version)) 4294967295 (large program program_is refl) in
           gives version c (same ∙ large_is big)
       brings (Err Memory) (Some c) same bytes fits large = absurd same

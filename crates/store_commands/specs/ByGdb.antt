@@ -1,13 +1,13 @@
 -- The index of the entries that gdb lists, of a build.
 use Rattle.std.specs.Prelude.{◌≡◌, ℕ, Vec, Option, Some, None, Result, Ok, Err, ⊤}
 use Rattle.file_image.specs.Images.{Image}
-use Rattle.gdbindex_write.specs.declared.stop.WriteStop.{WriteStop}
-use Rattle.gdbindex_write.specs.declared.stop.WriteStop.TheVariants.{TooLarge, Memory}
+use Rattle.ix_base.specs.declared.or_memory.OrMemory.TheVariants.{Cause, Memory}
 use Rattle.index_model.specs.Cache.{GdbBytes, DoesNotFit}
 use Rattle.index_model.specs.Faults.{Built, built_of}
 use Rattle.index_model.specs.MainProgram.{main_of}
 use Rattle.index_model.specs.Outputs.{Summary}
 use Rattle.index_model.specs.Pieces.{IsPieces}
+use Rattle.index_model.specs.WriteStops.{WriteStop}
 use Rattle.stage_core.specs.declared.output.Cache.{Cache}
 use Rattle.stage_core.specs.Outputs.{cache_seen}
 
@@ -21,6 +21,6 @@ pub record IsSummaryOf (image : Image) (m : Summary) : Type 0 where
 -- the bytes, that they don't fit, or want of memory
 abbrev pub IsKept : {Z : Type 0} → Result (Vec ℕ Z) WriteStop → Option Cache → Type 0
 IsKept (Ok v) (Some c) = cache_seen c ≡ GdbBytes v.items
-IsKept (Err TooLarge) (Some c) = cache_seen c ≡ DoesNotFit
+IsKept (Err (Cause t)) (Some c) = cache_seen c ≡ DoesNotFit
 IsKept (Err Memory) (Some c) = ⊥
 IsKept r None = ⊤

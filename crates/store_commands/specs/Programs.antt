@@ -8,8 +8,10 @@ use Rattle.reach_model.specs.Added.{Addition, debug_str}
 use Rattle.reach_model.specs.AddedIndex.{is_crowded, is_indexed, most_sections}
 use Rattle.index_forms.specs.Forms.{kind_of}
 use Rattle.index_forms.specs.declared.form.IndexForm.{IndexForm}
-use Rattle.elf_add.specs.declared.adder.AddStop.{AddStop}
-use Rattle.elf_add.specs.declared.adder.AddStop.TheVariants as adds
+use Rattle.ix_base.specs.declared.or_memory.OrMemory.{OrMemory}
+use Rattle.ix_base.specs.declared.or_memory.OrMemory.TheVariants as either
+use Rattle.elf_add.specs.declared.adder.NoRoom.{NoRoom}
+use Rattle.elf_add.specs.declared.adder.NoRoom.TheVariants as adds
 use Rattle.store_commands.specs.Adds.{ForProgram, HasIndex, HasNoRoom, HasTooLarge}
 use Rattle.store_commands.specs.declared.program.NotAdded.{NotAdded}
 use Rattle.store_commands.specs.declared.program.NotAdded.TheVariants as stops
@@ -55,10 +57,10 @@ IsIndexOf file form cache = ForProgram file form (λ f sections c. cache ≡ c)
 -- ---- why it stopped
 
 -- an adder's reason as the command's
-abbrev pub reason : AddStop → NotAdded
-reason adds.Present = stops.Present
-reason adds.TooMany = stops.TooMany
-reason adds.Memory = stops.Memory
+abbrev pub reason : OrMemory NoRoom → NotAdded
+reason (either.Cause adds.Present) = stops.Present
+reason (either.Cause adds.TooMany) = stops.TooMany
+reason either.Memory = stops.Memory
 
 -- the program has a section of this name
 abbrev pub is_there : List Section → List ℕ → Bool

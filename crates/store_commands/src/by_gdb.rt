@@ -12,11 +12,11 @@ ghost use Rattle.store_commands.specs.ByGdb.{IsKept, IsSummaryOf};
 
 use file_image::Image;
 use gdb_index::listed_index;
-use gdbindex_write::WriteStop;
 use index_board::Reader;
 use index_forms::{GdbVersion, IndexForm};
-use index_model::List;
+use index_model::{List, TooLarge, WriteStop};
 use index_pool::sections_are_small;
+use ix_base::OrMemory;
 use stage_core::{Cache, Summary};
 use std::alloc::Global;
 use std::thread::Threads;
@@ -86,7 +86,7 @@ fn kept(written: Result<Vec<u8>, WriteStop>) -> Option<Cache>
 {
     match written {
         Ok(bytes) => Some(Cache::Gdb(List::of(bytes))),
-        Err(WriteStop::TooLarge) => Some(Cache::TooLarge),
-        Err(WriteStop::Memory) => None,
+        Err(OrMemory::Cause(TooLarge)) => Some(Cache::TooLarge),
+        Err(OrMemory::Memory) => None,
     }
 }

@@ -14,9 +14,10 @@ ghost use Rattle.index_forms.specs.Forms.{kind_of};
 ghost use Rattle.index_model.specs.declared.job.CacheKind.TheVariants.{Names};
 
 use command_base::Status;
-use elf_add::{AddStop, Adder};
+use elf_add::{Adder, NoRoom};
 use index_forms::IndexForm;
 use index_model::CacheKind;
+use ix_base::OrMemory;
 use stage_core::Cache;
 use std::alloc::Global;
 
@@ -145,12 +146,12 @@ fn add_strings<'f>(adder: &mut Adder<'f>, strings: &'f [u8]) -> Result<(), NotAd
 }
 
 // The same reason.
-fn stopped(stop: AddStop) -> NotAdded
+fn stopped(stop: OrMemory<NoRoom>) -> NotAdded
     ensures { result ≡ reason stop }
 {
     match stop {
-        AddStop::Present => NotAdded::Present,
-        AddStop::TooMany => NotAdded::TooMany,
-        AddStop::Memory => NotAdded::Memory,
+        OrMemory::Cause(NoRoom::Present) => NotAdded::Present,
+        OrMemory::Cause(NoRoom::TooMany) => NotAdded::TooMany,
+        OrMemory::Memory => NotAdded::Memory,
     }
 }

@@ -4,7 +4,7 @@ use Rattle.index_model.specs.GdbIndex.{gdb_index_bytes}
 use Rattle.index_model.specs.Seen.{main_seen}
 use Rattle.index_model.specs.declared.entry.Entry.{Entry}
 use Rattle.index_model.specs.declared.range.UnitRange.{UnitRange}
-use Rattle.gdbindex_write.specs.declared.stop.WriteStop.TheVariants.{TooLarge}
+use Rattle.index_model.specs.WriteStops.{too_large}
 use Rattle.gdbindex_write.specs.Prepared.{IsPrepared}
 use Rattle.gdbindex_write.specs.Symbols.{AreSymbolsOf}
 use Rattle.gdbindex_write.proofs.PoolLaws.{all_in_units, numbers_length}
@@ -41,5 +41,5 @@ returns c =
     record {
       bytes = subst (λ (ps : List UnitRange). IfOk c.index_bytes.result (λ v. v.items ≡ gdb_index_bytes c.args.units.now ps main c.args.table.now version)) c.pieces.ensures (written.bytes c.args.table.now passed);
       fits = written.fits c.args.table.now passed;
-      too_large = subst (λ (ps : List UnitRange). c.index_bytes.result ≡ Err TooLarge → 4294967295 < length (gdb_index_bytes c.args.units.now ps main c.args.table.now version)) c.pieces.ensures (written.too_large c.args.table.now passed);
+      too_large = subst (λ (ps : List UnitRange). c.index_bytes.result ≡ Err too_large → 4294967295 < length (gdb_index_bytes c.args.units.now ps main c.args.table.now version)) c.pieces.ensures (written.too_large c.args.table.now passed);
     }

@@ -6,7 +6,7 @@ use Rattle.index_model.specs.GdbIndex.{gdb_index_bytes}
 use Rattle.index_model.specs.Machine.{Output}
 use Rattle.index_model.specs.Outputs.{Made}
 use Rattle.index_model.specs.Seen.{main_seen}
-use Rattle.gdbindex_write.specs.declared.stop.WriteStop.TheVariants.{TooLarge}
+use Rattle.index_model.specs.WriteStops.{too_large}
 use Rattle.gdbindex_write.specs.Writable.{IsWritable}
 use Rattle.stage_core.specs.Outputs.{summary_seen}
 use Rattle.index_pool.specs.Written.{IsIndexOf, kind_of_version}
@@ -37,7 +37,7 @@ returns c =
     subst (λ (o : Option Main). IfOk r (λ v. v.items ≡ gdb_index_bytes image.units map o es c.args.version)) c.main_name-main.ensures
     (subst (λ (us : List UnitHeader). IfOk r (λ v. v.items ≡ gdb_index_bytes us map main es c.args.version)) units.value c.write.ensures.bytes) in
     let large =
-    subst (λ (o : Option Main). r ≡ Err TooLarge → 4294967295 < length (gdb_index_bytes image.units map o es c.args.version)) c.main_name-main.ensures
-    (subst (λ (us : List UnitHeader). r ≡ Err TooLarge → 4294967295 < length (gdb_index_bytes us map main es c.args.version)) units.value c.write.ensures.too_large) in
+    subst (λ (o : Option Main). r ≡ Err too_large → 4294967295 < length (gdb_index_bytes image.units map o es c.args.version)) c.main_name-main.ensures
+    (subst (λ (us : List UnitHeader). r ≡ Err too_large → 4294967295 < length (gdb_index_bytes us map main es c.args.version)) units.value c.write.ensures.too_large) in
     subst (λ (o : Output Made). IsIndexOf image (kind_of_version c.args.version) o) (sym c.of_gdb.ensures)
     (gdb_brings image (summary_seen c.args.summary.now) es c.requires.published units.of_file c.args.version c.requires.version r bytes c.write.ensures.fits large)

@@ -6,7 +6,7 @@ use Rattle.index_model.specs.Machine.{Output}
 use Rattle.index_model.specs.NameIndex.{name_index_bytes, name_index_strings}
 use Rattle.index_model.specs.Outputs.{Made}
 use Rattle.index_model.specs.Sections.{Section, section_bytes}
-use Rattle.debugnames_write.specs.declared.writer.WriteStop.TheVariants.{TooLarge}
+use Rattle.index_model.specs.WriteStops.{too_large}
 use Rattle.debugnames_write.specs.Conditions.{AreIndexable, Fits}
 use Rattle.stage_core.specs.Outputs.{summary_seen}
 use Rattle.index_pool.specs.Written.{IsIndexOf}
@@ -33,6 +33,6 @@ returns g c =
     let names = subst (λ (us : List UnitHeader). IfOk r (λ x. x.names ≡ name_index_bytes us old es)) units.value c.write.ensures.names in
     let strings = subst (λ (us : List UnitHeader). IfOk r (λ x. x.strings ≡ name_index_strings us es)) units.value c.write.ensures.strings in
     let fits = subst (λ (us : List UnitHeader). OnOk r (Fits us old es)) units.value c.write.ensures.fits in
-    let large = subst (λ (us : List UnitHeader). IfErr r (λ stop. stop ≡ TooLarge → ¬ Fits us old es)) units.value c.write.ensures.too_large in
+    let large = subst (λ (us : List UnitHeader). IfErr r (λ stop. stop ≡ too_large → ¬ Fits us old es)) units.value c.write.ensures.too_large in
     subst (λ (o : Output Made). IsIndexOf image Names o) (sym c.of_names.ensures)
     (names_bring image (summary_seen c.args.summary.now) es c.requires units.of_file old old_is r names strings fits large)
