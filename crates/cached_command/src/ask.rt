@@ -12,9 +12,9 @@ ghost use Rattle.cached_command.specs.Askings.{CausesOfHit, IsMissedAt, OnEnded,
 use crate::kept::read_kept;
 use crate::place::KeptFile;
 use crate::tell::tell;
-use command_base::{ReadStop, Status, ended};
+use command_base::{Status, Unread, ended};
 use index_cache::open;
-use ix_base::Fault;
+use ix_base::{Fault, OrMemory};
 use outside::{Shelf, Sink};
 use query_text::Question;
 use reach_model::code::KEPT_TOO_LARGE;
@@ -82,11 +82,11 @@ fn ask_at<F: Shelf, K: Sink>(
             )),
             Err(fault) => Asked::Missed(Some(fault)),
         },
-        Err(ReadStop::Fault) => Asked::Missed(None),
-        Err(ReadStop::TooBig) => Asked::Missed(Some(Fault {
+        Err(OrMemory::Cause(Unread::Fault)) => Asked::Missed(None),
+        Err(OrMemory::Cause(Unread::TooBig)) => Asked::Missed(Some(Fault {
             code: KEPT_TOO_LARGE,
             at: 0,
         })),
-        Err(ReadStop::Memory) => Asked::Ended(Status::NoMemory),
+        Err(OrMemory::Memory) => Asked::Ended(Status::NoMemory),
     }
 }

@@ -7,7 +7,7 @@ mod gdb;
 mod reply;
 mod status;
 
-pub use file::{ReadStop, read_file};
+pub use file::{Unread, read_file, unread_status};
 pub use gdb::{answer_by_gdb, look_gdb};
 pub use reply::{ended, refuse, write};
 pub use status::{RefusedTable, Status};

@@ -53,7 +53,8 @@ impl<'f> Image<'f> {
 
     /// The sections.
     pub fn sections(&self) -> &Sections<'f>
-        ensures { result.now ≡ self.now.sections }
+        ensures value { result.now ≡ self.now.sections }
+        ensures of_file { image_of self.now.file ≡ Ok self.now }
     {
         &self.sections
     }

@@ -100,8 +100,6 @@ fn texts_of<'s, 'f, R: Threads + Sync>(
 ) -> Result<SpelledTexts<'s, 'f>, NoMemory>
     ensures { IfOk result (AreTextsOf image.now.file) }
 {
-    // The sections are those of the image's file.
-    let _units = image.units();
     if has_cxx(readings) {
         SpelledTexts::new(rt, alloc, workers, image.sections())
     } else {

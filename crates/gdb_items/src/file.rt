@@ -93,8 +93,6 @@ impl<'s, 'f> FileItems<'s, 'f> {
     pub(crate) fn text(&self, text: ItemText<'f>) -> Option<&'f [u8]>
         ensures { ForProgram self.now.file (λ p. option_map (λ b. b.now) result ≡ text_told p.sections text.entry) }
     {
-        // The sections are those of the image's file.
-        let _units = self.image.units();
         text.bytes(self.image.sections())
     }
 

@@ -32,8 +32,6 @@ impl<'s, 'f> UnitWithTable<'s, 'f> {
         ensures unit { IfOk result (IsUnitOf image.now number) }
         ensures same { tables.new ≡ tables.old }
     {
-        // The units are those of the image's file.
-        let _units = image.units();
         let home = UnitInFile::of(image, number);
         let table = tables.take(alloc, &home.unit)?;
         Ok(UnitWithTable { home, table })

@@ -207,7 +207,8 @@ impl<'b, 'f> Reader<'b, 'f> {
 
     /// The kept index.
     pub fn cache(&self) -> Option<&Cache>
-        ensures { option_map (λ c. cache_seen c.now) result ≡ self.now.kept.cache }
+        ensures value { option_map (λ c. cache_seen c.now) result ≡ self.now.kept.cache }
+        ensures right { AreOf self.now.board.subject self.now.kept }
     {
         match &self.kept.cache {
             Some(cache) => Some(&**cache),

@@ -5,8 +5,10 @@ use Rattle.outside.proofs.WrittenLaws.{appends_none}
 use Rattle.command_base.specs.FilesRead.{Holds, HoldsMore}
 use Rattle.command_base.specs.Replies.{CausesOfResult, Wrote}
 use Rattle.command_base.specs.Stops.{stop_status}
-use Rattle.command_base.specs.declared.file.ReadStop.{ReadStop}
-use Rattle.command_base.specs.declared.file.ReadStop.TheVariants as stops
+use Rattle.command_base.specs.declared.file.Unread.{Unread}
+use Rattle.command_base.specs.declared.file.Unread.TheVariants as unread
+use Rattle.ix_base.specs.declared.or_memory.OrMemory.{OrMemory}
+use Rattle.ix_base.specs.declared.or_memory.OrMemory.TheVariants as stops
 use Rattle.command_base.specs.declared.status.Status.{Status}
 use Rattle.command_base.specs.declared.status.Status.TheVariants.{Answered, Refused, Usage, ReadFault, StoreFault, WriteFault, NoMemory, IndexRefused, TableRefused, IndexTooLarge, FileTooBig, AlreadyIndexed, TooManySections, InputFault, InputTooLong, Stopped}
 use Rattle.command_base.proofs.ReplyLaws.{wrote_weaker}
@@ -18,15 +20,15 @@ pub wrote_beside : (told : Option Files) (file held : List ℕ) (most : ℕ) (Me
 wrote_beside told file held most Meaning holds small status old new w = wrote_weaker (Meaning held) (SaysBeside told file most Meaning) (λ s text says. (held, holds, small, says)) status old new w
 
 -- where it wasn't read, nothing is written
-pub wrote_stopped : (Says : Status → List ℕ → Type 0) (out : Option (List ℕ)) (stop : ReadStop) → Wrote Says (stop_status stop) out out
-wrote_stopped Says out stops.Fault = appends_none out
-wrote_stopped Says out stops.TooBig = appends_none out
+pub wrote_stopped : (Says : Status → List ℕ → Type 0) (out : Option (List ℕ)) (stop : OrMemory Unread) → Wrote Says (stop_status stop) out out
+wrote_stopped Says out (stops.Cause unread.Fault) = appends_none out
+wrote_stopped Says out (stops.Cause unread.TooBig) = appends_none out
 wrote_stopped Says out stops.Memory = appends_none out
 
 module _ (told : Option Files) (file : List ℕ) (most : ℕ) (reads writes : Type 0) where
-  pub causes_stopped : (stop : ReadStop) → (stop ≡ stops.Fault → reads) → (stop ≡ stops.TooBig → HoldsMore told file most) → CausesBeside told file most reads writes (stop_status stop)
-  causes_stopped stops.Fault fault big = fault refl
-  causes_stopped stops.TooBig fault big = big refl
+  pub causes_stopped : (stop : OrMemory Unread) → (stop ≡ stops.Cause unread.Fault → reads) → (stop ≡ stops.Cause unread.TooBig → HoldsMore told file most) → CausesBeside told file most reads writes (stop_status stop)
+  causes_stopped (stops.Cause unread.Fault) fault big = fault refl
+  causes_stopped (stops.Cause unread.TooBig) fault big = big refl
   causes_stopped stops.Memory fault big = tt
 
   pub causes_looked : (status : Status) → CausesOfResult writes status → CausesBeside told file most reads writes status

@@ -8,8 +8,10 @@ use Rattle.outside.proofs.WrittenLaws.{appends_none}
 use Rattle.command_base.specs.FilesRead.{HoldsMore}
 use Rattle.command_base.specs.Replies.{Wrote}
 use Rattle.command_base.specs.Stops.{stop_status}
-use Rattle.command_base.specs.declared.file.ReadStop.{ReadStop}
-use Rattle.command_base.specs.declared.file.ReadStop.TheVariants as stops
+use Rattle.command_base.specs.declared.file.Unread.{Unread}
+use Rattle.command_base.specs.declared.file.Unread.TheVariants as unread
+use Rattle.ix_base.specs.declared.or_memory.OrMemory.{OrMemory}
+use Rattle.ix_base.specs.declared.or_memory.OrMemory.TheVariants as stops
 use Rattle.command_base.specs.declared.status.Status.{Status}
 use Rattle.command_base.specs.declared.status.Status.TheVariants.{Answered, Refused, Usage, ReadFault, StoreFault, WriteFault, NoMemory, IndexRefused, TableRefused, IndexTooLarge, FileTooBig, AlreadyIndexed, TooManySections, InputFault, InputTooLong, Stopped}
 use Rattle.session_base.specs.Heard.{Heard}
@@ -41,9 +43,9 @@ module _ (file : List ℕ) (action : Action) (told shelf : Option Files) (heard 
   abbrev on_file : Option Request
   on_file = Some (request_on file action)
 
-  pub stopped_reading : (stop : ReadStop) → (stop ≡ stops.Fault → reads) → (stop ≡ stops.TooBig → HoldsMore told file MAX_FILE_BYTES) → Does on_file told shelf heard reads stores writes out out (stop_status stop)
-  stopped_reading stops.Fault fault big = record { wrote = appends_none out; causes = asks_first file action (λ _ _. reads) (fault refl); leaves = same }
-  stopped_reading stops.TooBig fault big = record { wrote = appends_none out; causes = asks_first file action (HoldsMore told) (big refl); leaves = same }
+  pub stopped_reading : (stop : OrMemory Unread) → (stop ≡ stops.Cause unread.Fault → reads) → (stop ≡ stops.Cause unread.TooBig → HoldsMore told file MAX_FILE_BYTES) → Does on_file told shelf heard reads stores writes out out (stop_status stop)
+  stopped_reading (stops.Cause unread.Fault) fault big = record { wrote = appends_none out; causes = asks_first file action (λ _ _. reads) (fault refl); leaves = same }
+  stopped_reading (stops.Cause unread.TooBig) fault big = record { wrote = appends_none out; causes = asks_first file action (HoldsMore told) (big refl); leaves = same }
   stopped_reading stops.Memory fault big = record { wrote = appends_none out; causes = tt; leaves = same }
 
 -- ---- a text of the program's own

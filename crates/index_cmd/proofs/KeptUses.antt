@@ -9,8 +9,10 @@ use Rattle.outside.proofs.WrittenLaws.{appends_more_prefix}
 use Rattle.query_text.specs.Questions.{Question}
 use Rattle.command_base.specs.Replies.{PrefixOf, Wrote, line_of}
 use Rattle.command_base.specs.Stops.{stop_status}
-use Rattle.command_base.specs.declared.file.ReadStop.{ReadStop}
-use Rattle.command_base.specs.declared.file.ReadStop.TheVariants as stops
+use Rattle.command_base.specs.declared.file.Unread.{Unread}
+use Rattle.command_base.specs.declared.file.Unread.TheVariants as unread
+use Rattle.ix_base.specs.declared.or_memory.OrMemory.{OrMemory}
+use Rattle.ix_base.specs.declared.or_memory.OrMemory.TheVariants as stops
 use Rattle.command_base.specs.declared.status.Status.{Status}
 use Rattle.command_base.specs.declared.status.Status.TheVariants.{Answered, Refused, Usage, ReadFault, StoreFault, WriteFault, NoMemory, IndexRefused, TableRefused, IndexTooLarge, FileTooBig, AlreadyIndexed, TooManySections, InputFault, InputTooLong, Stopped}
 use Rattle.session_base.specs.Heard.{Heard}
@@ -46,9 +48,9 @@ module _ (told shelf : Option Files) (kept_reads stores : Type 0) (old new : Opt
   by_request f (Some (OfCached file store q)) p = f file store q p
 
 -- of a file that wasn't read nothing is said
-pub unread_file : (told shelf : Option Files) (kept_reads stores : Type 0) (old new : Option (List ℕ)) (request : Option Request) (stop : ReadStop) → UsesKept request told shelf kept_reads stores old new (stop_status stop)
-unread_file told shelf kept_reads stores old new request stops.Fault = by_request told shelf kept_reads stores old new ReadFault (λ _. ⊤) (λ file store q o. tt) request tt
-unread_file told shelf kept_reads stores old new request stops.TooBig = by_request told shelf kept_reads stores old new FileTooBig (λ _. ⊤) (λ file store q o. tt) request tt
+pub unread_file : (told shelf : Option Files) (kept_reads stores : Type 0) (old new : Option (List ℕ)) (request : Option Request) (stop : OrMemory Unread) → UsesKept request told shelf kept_reads stores old new (stop_status stop)
+unread_file told shelf kept_reads stores old new request (stops.Cause unread.Fault) = by_request told shelf kept_reads stores old new ReadFault (λ _. ⊤) (λ file store q o. tt) request tt
+unread_file told shelf kept_reads stores old new request (stops.Cause unread.TooBig) = by_request told shelf kept_reads stores old new FileTooBig (λ _. ⊤) (λ file store q o. tt) request tt
 unread_file told shelf kept_reads stores old new request stops.Memory = by_request told shelf kept_reads stores old new NoMemory (λ _. ⊤) (λ file store q o. tt) request tt
 
 -- ---- the command

@@ -17,7 +17,7 @@ use crate::say::say;
 use crate::task::{Action, OnFile, Racing, Requested};
 use aranges_command::aranges_file;
 use cached_command::cached_file;
-use command_base::{Status, look_gdb, read_file};
+use command_base::{Status, look_gdb, read_file, unread_status};
 use drill_command::run_drill;
 use files_command::list_files;
 use index_commands::{NamesLook, ask_file, look_names};
@@ -69,7 +69,7 @@ fn read_and_act<
 {
     match read_file(crew.alloc, shelf, on.file, MAX_FILE_BYTES as usize) {
         Ok(bytes) => act(crew, &on.action, &bytes, shelf, input, out),
-        Err(stop) => stop.status(),
+        Err(stop) => unread_status(stop),
     }
 }
 
@@ -126,7 +126,7 @@ fn read_strings<F: Shelf, K: Sink>(
 {
     match read_file(alloc, shelf, strings, MAX_FILE_BYTES as usize) {
         Ok(held) => look_names(alloc, bytes, &held, look, name, out),
-        Err(stop) => stop.status(),
+        Err(stop) => unread_status(stop),
     }
 }
 
@@ -152,6 +152,6 @@ fn read_script<R: Threads + Wait + Sync, F: Shelf, K: Sink, G: Gate + Sync>(
 {
     match read_file(crew.alloc, shelf, script, MAX_SCRIPT_BYTES as usize) {
         Ok(held) => race_file(crew, bytes, &held, how.readers, how.spelling, out),
-        Err(stop) => stop.status(),
+        Err(stop) => unread_status(stop),
     }
 }

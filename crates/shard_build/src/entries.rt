@@ -131,9 +131,8 @@ impl<'s, 'f> Entries<'s, 'f> {
         ensures kept { self.new ≡ self.old }
     {
         // The units are those of the image's file, and the span's is one of them.
-        let _units = self.image.units();
-        let home = UnitInFile::of(self.image, span.unit);
         let section = self.image.sections().debug_abbrev();
+        let home = UnitInFile::of(self.image, span.unit);
         let table = AbbrevTable::of_sound(alloc, section, &home.unit, self.at_hand.take())?;
         let table = self.at_hand.insert(table);
         if !whole {

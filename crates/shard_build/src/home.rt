@@ -1,9 +1,9 @@
 //! The unit of an entry, and what it adds to the entry's own facts.
 
-ghost use Rattle.std.specs.Prelude.{◌≡◌, ◌+◌, ◌<◌, ◌≤◌, ◌^◌, nat_lt, slice_get, if◌then◌else◌, length, codes, Some, None, option_to_list};
+ghost use Rattle.std.specs.Prelude.{◌≡◌, ◌+◌, ◌<◌, ◌≤◌, ◌^◌, nat_lt, slice_get, if◌then◌else◌, length, codes, Ok, Some, None, option_to_list};
 ghost use Rattle.index_model.specs.NodeSeen.{node_seen};
 ghost use Rattle.index_model.specs.Sections.{section_bytes};
-ghost use Rattle.file_image.specs.Images.{unit_bytes};
+ghost use Rattle.file_image.specs.Images.{image_of, unit_bytes};
 ghost use Rattle.shard_build.specs.Kept.{node_by, node_under, target_by, span_from, imports_by};
 ghost use Rattle.shard_build.specs.Texts.{texts_seen};
 
@@ -37,6 +37,7 @@ impl<'s, 'f> UnitInFile<'s, 'f> {
         ensures header { result.unit.body ≤ length result.bytes.now }
         ensures small { result.unit.start + length result.bytes.now < 2 ^ 63 }
         ensures ends { result.unit.start + result.unit.length < 2 ^ 63 }
+        ensures of_file { image_of image.now.file ≡ Ok image.now }
     {
         UnitInFile {
             sections: image.sections(),

@@ -107,8 +107,6 @@ fn store_kept<F: Shelf>(
     ensures causes { CausesOfStore file.now form (Rose (F.store_faults shelf.old) (F.store_faults shelf.new)) result }
     ensures leaves { LeavesAdd file.now form (F.files shelf.old) (F.files shelf.new) name.now result }
 {
-    // What a reader keeps is of its file.
-    let _parts = reader.parts();
     match reader.cache() {
         Some(cache) => store(alloc, file, form, cache, name, shelf),
         // A build that ended without a fault was refused memory.

@@ -91,8 +91,6 @@ fn store_kept<F: Shelf>(alloc: Global, reader: &Reader<'_, '_>, name: &str, shel
     ensures causes { CausesOfStoring reader.now.board.subject.file (ByDwarf reader.now.board.subject.cache) (Rose (F.store_faults shelf.old) (F.store_faults shelf.new)) result }
     ensures leaves { LeavesIndex reader.now.board.subject.file (ByDwarf reader.now.board.subject.cache) (F.files shelf.old) (F.files shelf.new) name.now result }
 {
-    // What a reader keeps is of its file.
-    let _parts = reader.parts();
     match reader.cache() {
         Some(cache) => store(alloc, shelf, name, cache),
         // A build that ended without a fault was refused memory.

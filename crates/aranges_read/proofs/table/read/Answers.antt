@@ -14,10 +14,10 @@ ranges_of_sets-requires-clause-rise c = rw c.units.ensures.value (image_rises c.
 pub returns-in_err-ranges : goal.returns-in_err-ranges
 returns-in_err-ranges c =
     let p = err_from_is_err_and c.from_residual.result c.from_residual.ensures.1 in
-    rw (p.1, p.2) (stops_as c.args.image.now.sections c.args.image.now.units c.units.result.now c.units.ensures.value c.get-bytes.result.now (c.get-bytes.ensures.value ∙ ap (λ (ss : List Section). section_bytes ss (codes ".debug_aranges")) c.sections.ensures) c.in_err-ranges.field-0.0 c.in_err-ranges.ensures)
+    rw (p.1, p.2) (stops_as c.args.image.now.sections c.args.image.now.units c.units.result.now c.units.ensures.value c.get-bytes.result.now (c.get-bytes.ensures.value ∙ ap (λ (ss : List Section). section_bytes ss (codes ".debug_aranges")) c.sections.ensures.value) c.in_err-ranges.field-0.0 c.in_err-ranges.ensures)
 
 pub returns : goal.returns
 returns c =
     let e = c.in_ok-sort_by_key.ensures in
     let up = IsNonDecreasingBy-from_sort_by_key (λ (u : UnitRange). u.unit) _ e.sorted (λ a r q k. search (rules, of_calls)) in
-    map_is c.args.image.now.sections c.args.image.now.units c.units.result.now c.units.ensures.value c.get-bytes.result.now (c.get-bytes.ensures.value ∙ ap (λ (ss : List Section). section_bytes ss (codes ".debug_aranges")) c.sections.ensures) c.in_ok-ranges.ranges.items c.sort_by_key.new.self.items c.in_ok-build.field-0 c.in_ok-ranges.ensures e.permutation up (rw c.deref.ensures.value at c.in_ok-build.ensures.pieces)
+    map_is c.args.image.now.sections c.args.image.now.units c.units.result.now c.units.ensures.value c.get-bytes.result.now (c.get-bytes.ensures.value ∙ ap (λ (ss : List Section). section_bytes ss (codes ".debug_aranges")) c.sections.ensures.value) c.in_ok-ranges.ranges.items c.sort_by_key.new.self.items c.in_ok-build.field-0 c.in_ok-ranges.ensures e.permutation up (rw c.deref.ensures.value at c.in_ok-build.ensures.pieces)

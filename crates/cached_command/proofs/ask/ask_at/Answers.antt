@@ -38,6 +38,6 @@ returns-in-Ok-clause-missed g c =
     let small : length c.in-Ok.bytes.items ≤ MAX_FILE_BYTES = omega (arith, c.in-Ok.ensures.bounded) in
     refused c.in-Ok.bytes.items c.in-Err.fault (subst (λ (n : List ℕ). Holds (g.F.Shelf.files c.args.shelf.now) n c.in-Ok.bytes.items) c.as_str.ensures.value c.in-Ok.ensures.whole) small (ap (λ (kept : List ℕ). kept_index kept c.args.place.now.id.now) (sym c.deref.ensures.value) ∙ c.in-Err.ensures)
 
-pub returns-in-Err-TooBig-clause-missed : goal.returns-in-Err-TooBig-clause-missed
-returns-in-Err-TooBig-clause-missed g c =
-    too_large (subst (λ (n : List ℕ). HoldsMore (g.F.Shelf.files c.args.shelf.now) n MAX_FILE_BYTES) c.as_str.ensures.value (c.read_kept.ensures.too_big (cc c.in-Err-TooBig.is)))
+pub returns-in-Err-Cause-TooBig-clause-missed : goal.returns-in-Err-Cause-TooBig-clause-missed
+returns-in-Err-Cause-TooBig-clause-missed g c =
+    too_large (subst (λ (n : List ℕ). HoldsMore (g.F.Shelf.files c.args.shelf.now) n MAX_FILE_BYTES) c.as_str.ensures.value (c.read_kept.ensures.too_big (cc c.in-Err-Cause-TooBig.is)))

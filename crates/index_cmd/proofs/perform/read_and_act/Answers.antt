@@ -34,7 +34,7 @@ returns-in-Err-clause-did g c =
     let kept = Rose (g.F.Shelf.kept_faults c.args.shelf.now) (g.F.Shelf.kept_faults c.read_file.new.shelf) in
     let writes = Rose (g.K.Sink.write_faults c.args.out.now) (g.K.Sink.write_faults c.args.out.now) in
     let out = g.K.Sink.written c.args.out.now in
-    subst (λ (s : Status). Did (ran g.F.Shelf g.S.Source g.K.Sink (Some (request_on on.file.now on.action)) c.args.shelf.now c.read_file.new.shelf c.args.input.now c.args.input.now c.args.out.now c.args.out.now) s) (sym c.status.ensures) (record {
+    subst (λ (s : Status). Did (ran g.F.Shelf g.S.Source g.K.Sink (Some (request_on on.file.now on.action)) c.args.shelf.now c.read_file.new.shelf c.args.input.now c.args.input.now c.args.out.now c.args.out.now) s) (sym c.unread_status.ensures) (record {
       does = stopped_reading on.file.now on.action told shelf input reads stores writes out c.in-Err.ensures.kept c.in-Err.stop (λ e. c.in-Err.ensures.fault (ap Err e)) (λ e. c.in-Err.ensures.too_big (ap Err e));
       uses = unread_file told shelf kept stores out out (Some (request_on on.file.now on.action)) c.in-Err.stop;
       input = λ _. refl;

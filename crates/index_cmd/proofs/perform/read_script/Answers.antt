@@ -24,12 +24,12 @@ pub returns-in-Err-clause-wrote : goal.returns-in-Err-clause-wrote
 returns-in-Err-clause-wrote g c =
     let says = SaysBeside (g.F.Shelf.files c.args.shelf.now) c.args.script.now MAX_SCRIPT_BYTES (SaysRace c.args.how.spelling c.args.bytes.now c.args.how.readers) in
     let out = g.K.Sink.written c.args.out.now in
-    subst (λ (s : Status). Wrote says s out out) (sym c.status.ensures) (wrote_stopped says out c.in-Err.stop)
+    subst (λ (s : Status). Wrote says s out out) (sym c.unread_status.ensures) (wrote_stopped says out c.in-Err.stop)
 
 pub returns-in-Err-clause-causes : goal.returns-in-Err-clause-causes
 returns-in-Err-clause-causes g c =
     let told = g.F.Shelf.files c.args.shelf.now in
     let reads = Rose (g.F.Shelf.read_faults c.args.shelf.now) (g.F.Shelf.read_faults c.read_file.new.shelf) in
     let writes = Rose (g.K.Sink.write_faults c.args.out.now) (g.K.Sink.write_faults c.args.out.now) in
-    subst (CausesBeside told c.args.script.now MAX_SCRIPT_BYTES reads writes) (sym c.status.ensures)
+    subst (CausesBeside told c.args.script.now MAX_SCRIPT_BYTES reads writes) (sym c.unread_status.ensures)
     (causes_stopped told c.args.script.now MAX_SCRIPT_BYTES reads writes c.in-Err.stop (λ e. c.in-Err.ensures.fault (ap Err e)) (λ e. c.in-Err.ensures.too_big (ap Err e)))

@@ -16,7 +16,7 @@ use Rattle.line_files.proofs.place.line_place.Goals as goal
 pub returns-in_err-table-clause-value : goal.returns-in_err-table-clause-value
 returns-in_err-table-clause-value c u is =
     let ss = c.args.image.now.sections in
-    let section : c.get-section.result.now ≡ section_bytes ss (codes ".debug_abbrev") = c.get-section.ensures.value ∙ ap (λ (xs : List Section). section_bytes xs (codes ".debug_abbrev")) c.sections.ensures in
+    let section : c.get-section.result.now ≡ section_bytes ss (codes ".debug_abbrev") = c.get-section.ensures.value ∙ ap (λ (xs : List Section). section_bytes xs (codes ".debug_abbrev")) c.sections.ensures.value in
     let same : c.unit_at-unit.result ≡ u = same_Some c.unit_at-unit.result u (sym c.unit_at-unit.ensures.value ∙ is) in
     let stops = place_stops ss (c.args.number, c.unit_at-unit.result) c.get-section.result.now c.in_err-table.field-0.0 section c.in_err-table.ensures.value in
     let p = err_from_is_err_and c.from_residual.result c.from_residual.ensures.1 in
@@ -28,7 +28,7 @@ returns-clause-value c u is =
     let unit = c.unit_at-unit.result in
     let own = c.unit_bytes.ensures.own unit c.unit_at-unit.ensures.value in
     let header = c.unit_bytes.ensures.header unit c.unit_at-unit.ensures.value in
-    let section : c.get-section.result.now ≡ section_bytes ss (codes ".debug_abbrev") = c.get-section.ensures.value ∙ ap (λ (xs : List Section). section_bytes xs (codes ".debug_abbrev")) c.sections.ensures in
+    let section : c.get-section.result.now ≡ section_bytes ss (codes ".debug_abbrev") = c.get-section.ensures.value ∙ ap (λ (xs : List Section). section_bytes xs (codes ".debug_abbrev")) c.sections.ensures.value in
     let read = some_value (table c.get-section.result.now unit.«abbrev») (fault BAD_ABBREVIATION unit.start) c.in_ok-table.table.abbrevs c.in_ok-table.ensures.value in
     let found : table (section_bytes ss (codes ".debug_abbrev")) unit.«abbrev» ≡ Some c.insert-abbrevs.result.now.abbrevs =
     ap (λ (bytes : List ℕ). table bytes unit.«abbrev») (sym section) ∙ read ∙ ap (λ (t : AbbrevTable). some_abbrevs t.abbrevs) (sym c.insert-abbrevs.ensures.value) in

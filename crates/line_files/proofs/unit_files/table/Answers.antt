@@ -24,7 +24,7 @@ returns-in-Some c b is w at =
     let u = c.unit_at-start.result in
     let files : files_of b.program.sections w ≡ files_by im.sections (c.args.unit, u) = unit_files im c.unit_at-start.ensures.of_file b is c.args.unit w u at c.unit_at-start.ensures.value in
     let place : place_of im.sections (c.args.unit, u) ≡ Ok (Some c.in-Some.place) = rw (← c.in-Some.is) (c.in_ok-place.ensures.value u c.unit_at-start.ensures.value) in
-    let all = files ∙ place_found im.sections (c.args.unit, u) c.in-Some.place place ∙ ap (λ (ss : List Section). at_place u.start (files_at ss c.in-Some.place)) (sym c.sections.ensures) ∙ c.in_ok-open-in-Some.ensures in
+    let all = files ∙ place_found im.sections (c.args.unit, u) c.in-Some.place place ∙ ap (λ (ss : List Section). at_place u.start (files_at ss c.in-Some.place)) (sym c.sections.ensures.value) ∙ c.in_ok-open-in-Some.ensures in
     rw all c.all_files.ensures
 
 pub returns-in_err-open-in-Some : goal.returns-in_err-open-in-Some
@@ -33,7 +33,7 @@ returns-in_err-open-in-Some c b is w at =
     let u = c.unit_at-start.result in
     let files : files_of b.program.sections w ≡ files_by im.sections (c.args.unit, u) = unit_files im c.unit_at-start.ensures.of_file b is c.args.unit w u at c.unit_at-start.ensures.value in
     let place : place_of im.sections (c.args.unit, u) ≡ Ok (Some c.in-Some.place) = rw (← c.in-Some.is) (c.in_ok-place.ensures.value u c.unit_at-start.ensures.value) in
-    let all = files ∙ place_found im.sections (c.args.unit, u) c.in-Some.place place ∙ ap (λ (ss : List Section). at_place u.start (files_at ss c.in-Some.place)) (sym c.sections.ensures) ∙ c.in_err-open-in-Some.ensures in
+    let all = files ∙ place_found im.sections (c.args.unit, u) c.in-Some.place place ∙ ap (λ (ss : List Section). at_place u.start (files_at ss c.in-Some.place)) (sym c.sections.ensures.value) ∙ c.in_err-open-in-Some.ensures in
     let p = err_from_is_err_and c.from_residual-in_err-open-in-Some.result c.from_residual-in_err-open-in-Some.ensures.1 in
     rw (p.1, p.2) all
 

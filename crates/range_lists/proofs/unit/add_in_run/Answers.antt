@@ -23,7 +23,7 @@ returns-clause-ranges c read w k =
     let low = c.first_low.ensures ∙ ap first_low nodes in
     let rise = subst EntriesRise (sym c.as_slice.ensures) k.entries in
     let home : RangeUnit = record { sections = c.sections.result; number = c.args.unit; header = c.in-Some-Some.header; addr_base = c.in-Some-Some.root.addr_base; rnglists_base = c.in-Some-Some.root.rnglists_base; low = c.first_low.result } in
-    let own = c.add_nodes.ensures rise (subst (λ (ss : List Section). AreRead ss c.args.found.now) (sym c.sections.ensures) read) in
-    moved (λ (m : Result (List Range) Fault). GivesFor (λ _. IsAdded c.args.image.now.sections c.args.unit c.args.found.now c.add_nodes.new.found) c.add_nodes.result m) c.sections.result.now c.args.image.now.sections home w c.of-nodes.result (unit_nodes c.args.unit (facts_in c.args.shard.now.nodes)) c.as_slice.result.now c.args.linked.now.entries c.sections.ensures
+    let own = c.add_nodes.ensures rise (subst (λ (ss : List Section). AreRead ss c.args.found.now) (sym c.sections.ensures.value) read) in
+    moved (λ (m : Result (List Range) Fault). GivesFor (λ _. IsAdded c.args.image.now.sections c.args.unit c.args.found.now c.add_nodes.new.found) c.add_nodes.result m) c.sections.result.now c.args.image.now.sections home w c.of-nodes.result (unit_nodes c.args.unit (facts_in c.args.shard.now.nodes)) c.as_slice.result.now c.args.linked.now.entries c.sections.ensures.value
     (home_alike home w header (ap (λ (r : Root). r.addr_base) root) (ap (λ (r : Root). r.rnglists_base) root) (k.low ∙ ap (option_and_then (λ r. as_address (as_value r))) (sym low)))
-    nodes c.as_slice.ensures (subst (λ (ss : List Section). GivesFor (λ _. IsAdded ss c.args.unit c.args.found.now c.add_nodes.new.found) c.add_nodes.result (all_node_ranges c.sections.result.now (unit_with home) (nodes_with_ranges c.as_slice.result.now c.of-nodes.result))) c.sections.ensures own)
+    nodes c.as_slice.ensures (subst (λ (ss : List Section). GivesFor (λ _. IsAdded ss c.args.unit c.args.found.now c.add_nodes.new.found) c.add_nodes.result (all_node_ranges c.sections.result.now (unit_with home) (nodes_with_ranges c.as_slice.result.now c.of-nodes.result))) c.sections.ensures.value own)

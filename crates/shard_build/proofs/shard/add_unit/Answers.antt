@@ -12,7 +12,7 @@ use Rattle.shard_build.proofs.shard.add_unit.Goals as goal
 
 pub of-requires : goal.of-requires
 of-requires c =
-    let section : c.debug_abbrev-section.result.now ≡ section_bytes c.args.image.now.sections (codes ".debug_abbrev") = c.debug_abbrev-section.ensures.value ∙ ap (λ (ss : List Section). section_bytes ss (codes ".debug_abbrev")) c.sections.ensures in
+    let section : c.debug_abbrev-section.result.now ≡ section_bytes c.args.image.now.sections (codes ".debug_abbrev") = c.debug_abbrev-section.ensures.value ∙ ap (λ (ss : List Section). section_bytes ss (codes ".debug_abbrev")) c.sections.ensures.value in
     λ t e. subst (λ (bytes : List ℕ). IsAtOffset bytes t) (sym section) (c.take-kept.ensures.taken _ c.requires.tables t e)
 
 pub returns-in_err-table-clause-value : goal.returns-in_err-table-clause-value
@@ -20,7 +20,7 @@ returns-in_err-table-clause-value c u is =
     let ss = c.args.image.now.sections in
     let unit = c.of-home.result.unit in
     let stop = c.in_err-table.field-0.0 in
-    let section : c.debug_abbrev-section.result.now ≡ section_bytes ss (codes ".debug_abbrev") = c.debug_abbrev-section.ensures.value ∙ ap (λ (xs : List Section). section_bytes xs (codes ".debug_abbrev")) c.sections.ensures in
+    let section : c.debug_abbrev-section.result.now ≡ section_bytes ss (codes ".debug_abbrev") = c.debug_abbrev-section.ensures.value ∙ ap (λ (xs : List Section). section_bytes xs (codes ".debug_abbrev")) c.sections.ensures.value in
     let here : ℕ × UnitHeader = (c.args.number, unit) in
     let stops : StopsAs stop (scanned ss here) = table_stops ss here c.debug_abbrev-section.result.now stop section c.in_err-table.ensures.value in
     let same : unit ≡ u = same_Some unit u (sym c.of-home.ensures.unit ∙ is) in
@@ -42,7 +42,7 @@ pub returns : goal.returns
 returns c =
     let im = c.args.image.now in
     let own = c.of-home.result.unit in
-    let section : c.debug_abbrev-section.result.now ≡ section_bytes im.sections (codes ".debug_abbrev") = c.debug_abbrev-section.ensures.value ∙ ap (λ (ss : List Section). section_bytes ss (codes ".debug_abbrev")) c.sections.ensures in
+    let section : c.debug_abbrev-section.result.now ≡ section_bytes im.sections (codes ".debug_abbrev") = c.debug_abbrev-section.ensures.value ∙ ap (λ (ss : List Section). section_bytes ss (codes ".debug_abbrev")) c.sections.ensures.value in
     record {
       value = λ u is.
           let same : own ≡ u = same_Some own u (sym c.of-home.ensures.unit ∙ is) in

@@ -11,6 +11,6 @@ pub store-requires-clause-index : goal.store-requires-clause-index
 store-requires-clause-index g c =
     let r = c.args.reader.now in
     let kept = cache_seen c.in-Some.cache.now in
-    let is = index_of r c.parts-parts.ensures.right kept (sym c.cache.ensures ∙ ap (option_map (λ a. cache_seen a.now)) c.in-Some.is) in
+    let is = index_of r c.cache.ensures.right kept (sym c.cache.ensures.value ∙ ap (option_map (λ a. cache_seen a.now)) c.in-Some.is) in
     subst (λ (f : List ℕ). IsIndexOf f c.args.form kept) c.requires.file
     (subst (λ (form : IndexForm). IsIndexOf r.board.subject.file form kept) (sym c.requires.form) (as_program is))

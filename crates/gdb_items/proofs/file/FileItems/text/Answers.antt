@@ -10,4 +10,4 @@ pub returns : goal.returns
 returns c p is =
     let im = c.self.inside.image.now in
     let here : program_of im.file ≡ Ok p = ap (λ (e : Image). program_of e.file) c.self.view_is ∙ is in
-    c.bytes.ensures ∙ ap (λ (ss : List Section). text_told ss c.args.text) (c.sections.ensures ∙ (image_is im.file im p c.units-units.ensures.of_file here).sections)
+    c.bytes.ensures ∙ ap (λ (ss : List Section). text_told ss c.args.text) (c.sections.ensures.value ∙ (image_is im.file im p c.sections.ensures.of_file here).sections)

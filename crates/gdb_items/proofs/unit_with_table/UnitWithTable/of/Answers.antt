@@ -6,12 +6,12 @@ use Rattle.gdb_items.proofs.unit_with_table.UnitWithTable.of.Goals as goal
 pub take-requires : goal.take-requires
 take-requires c =
     let e = c.of-home.ensures in
-    has_table c.args.image.now c.units-units.ensures.of_file c.requires.sound.0 c.requires.sound.1 c.args.number c.of-home.result e.sections e.number e.unit c.args.tables.now c.requires.tables c.requires.number
+    has_table c.args.image.now c.of-home.ensures.of_file c.requires.sound.0 c.requires.sound.1 c.args.number c.of-home.result e.sections e.number e.unit c.args.tables.now c.requires.tables c.requires.number
 
 pub returns-clause-unit : goal.returns-clause-unit
 returns-clause-unit c =
     let im = c.args.image.now in
-    let image = c.units-units.ensures.of_file in
+    let image = c.of-home.ensures.of_file in
     let n = c.args.number in
     let h = c.of-home.result in
     let e = c.of-home.ensures in

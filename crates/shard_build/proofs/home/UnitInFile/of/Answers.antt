@@ -12,11 +12,12 @@ returns c =
     let own = c.unit_bytes.ensures.own _ at in
     let small = c.unit_bytes.ensures.small _ at in
     record {
-      sections = c.sections.ensures;
+      sections = c.sections.ensures.value;
       number = refl;
       unit = at;
       own = own;
       header = c.unit_bytes.ensures.header _ at;
       small = small;
       ends = ends_small im.file im c.args.number _ c.unit_bytes.result.now c.units.ensures.of_file at own small;
+      of_file = c.units.ensures.of_file;
     }
