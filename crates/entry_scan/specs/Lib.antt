@@ -1,6 +1,7 @@
 pub mod SeenAbbreviations
 pub mod AbbreviationTables
 pub mod GivesTable
+pub mod TablesAtOffsets
 pub mod FormNumbers
 pub mod Values
 pub mod Fronts

@@ -5,6 +5,7 @@
 //! which attributes it has, in which forms; a table of them is read once for its units.
 #![tactic(auto)]
 
+mod abbrev_table;
 mod abbreviation;
 mod abbreviations;
 mod attributes;
@@ -21,6 +22,7 @@ mod values;
 mod walk;
 mod written;
 
+pub use abbrev_table::AbbrevTable;
 pub use abbreviation::{Damaged, Spec};
 pub use abbreviations::{Abbrev, Abbrevs};
 pub use attributes::Attributes;

@@ -4,9 +4,9 @@ use Rattle.file_image.specs.Images.{Image, unit_bytes}
 use Rattle.index_model.specs.Program.{Walked, Program}
 use Rattle.index_model.specs.Sections.{section_bytes}
 use Rattle.shard_build.specs.Again.{walk_by, IsSound}
-use Rattle.shard_build.specs.Runs.{IsAtOffset}
+use Rattle.entry_scan.specs.TablesAtOffsets.{IsAtOffset}
 use Rattle.shard_build.specs.declared.home.UnitInFile.{UnitInFile}
-use Rattle.shard_build.specs.declared.tables.AbbrevTable.{AbbrevTable}
+use Rattle.entry_scan.specs.declared.abbrev_table.AbbrevTable.{AbbrevTable}
 use Rattle.gdb_entries.specs.Files.{ForProgram}
 use Rattle.gdb_items.specs.declared.unit_with_table.UnitWithTable.{UnitWithTable}
 

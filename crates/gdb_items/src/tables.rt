@@ -3,12 +3,12 @@
 ghost use Rattle.std.specs.Prelude.{◌≡◌, IfOk, IsSome, Some};
 ghost use Rattle.std.specs.Option.{ForSome};
 ghost use Rattle.index_model.specs.Abbreviations.{table};
-ghost use Rattle.shard_build.specs.Runs.{IsAtOffset};
+ghost use Rattle.entry_scan.specs.TablesAtOffsets.{IsAtOffset};
 
+use entry_scan::AbbrevTable;
 use index_model::Unit;
 use indexmap::IndexMap;
 use ix_base::NoMemory;
-use shard_build::AbbrevTable;
 use std::alloc::Global;
 use std::marker::Model;
 

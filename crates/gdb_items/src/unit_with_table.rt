@@ -6,9 +6,10 @@ ghost use Rattle.gdb_entries.specs.Files.{HasProgram};
 ghost use Rattle.gdb_items.specs.Units.{IsUnitOf};
 
 use crate::tables::ReadTables;
+use entry_scan::AbbrevTable;
 use file_image::Image;
 use ix_base::NoMemory;
-use shard_build::{AbbrevTable, UnitInFile};
+use shard_build::UnitInFile;
 use std::alloc::Global;
 
 /// A unit, and the table of its abbreviations.

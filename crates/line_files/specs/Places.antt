@@ -2,7 +2,7 @@
 use Rattle.std.specs.Prelude.{◌≡◌, ℕ, List, [], ◌∷◌, Option, Some, None, option_and_then, Result, Ok}
 use Rattle.ix_base.specs.declared.fault.Fault.{Fault}
 use Rattle.index_model.specs.declared.unit.Unit.{Unit as UnitHeader}
-use Rattle.index_model.specs.Abbreviations.{Abbrev, table}
+use Rattle.index_model.specs.Abbreviations.{Abbrev}
 use Rattle.index_model.specs.Attributes.{read_as}
 use Rattle.index_model.specs.Meaning.{◌>>=◌, at_place}
 use Rattle.index_model.specs.Program.{walked}
@@ -10,11 +10,6 @@ use Rattle.index_model.specs.Sections.{Section}
 use Rattle.index_model.specs.Walk.{Item, items, walk_of}
 use Rattle.entry_scan.specs.Inside.{tree_of}
 use Rattle.reach_model.specs.LineTables.{FileName, as_line_place, files_there, line_place}
-use Rattle.line_files.specs.declared.abbreviations.AbbrevTable.{AbbrevTable}
-
--- the table is the one at its offset
-abbrev pub IsAtOffset : List ℕ → AbbrevTable → Type 0
-IsAtOffset bytes t = table bytes t.offset ≡ Some t.abbrevs
 
 -- the first of the items
 abbrev pub first_item : List Item → Option Item

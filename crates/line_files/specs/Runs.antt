@@ -16,7 +16,8 @@ use Rattle.line_files.specs.declared.found.FileHit.{FileHit as FoundHit}
 use Rattle.line_files.specs.declared.run.Last.{Last}
 use Rattle.line_files.specs.declared.run.FilesSoFar.{FilesSoFar}
 use Rattle.line_files.specs.Found.{hits_seen}
-use Rattle.line_files.specs.Places.{files_by, IsAtOffset}
+use Rattle.entry_scan.specs.TablesAtOffsets.{IsAtOffset}
+use Rattle.line_files.specs.Places.{files_by}
 
 -- the files of a unit that match
 abbrev pub matches : ℕ → List ℕ → Result (List FileName) Fault → Result (List FileHit) Fault

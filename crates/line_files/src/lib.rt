@@ -4,7 +4,6 @@
 //! order; the line program behind it isn't read. Paths are borrowed from the file.
 #![tactic(auto)]
 
-mod abbreviations;
 mod files;
 mod formats;
 mod found;

@@ -10,11 +10,11 @@ ghost use Rattle.index_model.specs.Gives.{Gives};
 ghost use Rattle.index_model.specs.Sections.{section_bytes};
 ghost use Rattle.file_image.specs.Images.{image_of};
 ghost use Rattle.reach_model.specs.LineTables.{as_line_place};
-ghost use Rattle.line_files.specs.Places.{place_by, place_of, IsAtOffset};
+ghost use Rattle.entry_scan.specs.TablesAtOffsets.{IsAtOffset};
+ghost use Rattle.line_files.specs.Places.{place_by, place_of};
 
-use crate::abbreviations::AbbrevTable;
 use dwarf_codes::attribute::DW_AT_stmt_list;
-use entry_scan::{Abbrevs, Walk};
+use entry_scan::{AbbrevTable, Abbrevs, Walk};
 use file_image::Image;
 use index_model::{Unit, Value};
 use ix_base::Stop;

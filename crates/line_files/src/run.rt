@@ -10,14 +10,14 @@ ghost use Rattle.index_model.specs.Sections.{section_bytes};
 ghost use Rattle.reach_model.specs.LineTables.{files_at};
 ghost use Rattle.line_files.specs.Ahead.{ahead};
 ghost use Rattle.line_files.specs.Found.{hits_seen};
-ghost use Rattle.line_files.specs.Places.{IsAtOffset};
+ghost use Rattle.entry_scan.specs.TablesAtOffsets.{IsAtOffset};
 ghost use Rattle.line_files.specs.Runs.{hits_between, in_unit, matches, unit_hits_by, IsLast, IsRun};
 
-use crate::abbreviations::AbbrevTable;
 use crate::files::FilesLeft;
 use crate::found::FileHit;
 use crate::names::is_match;
 use crate::place::{line_place, unit_at};
+use entry_scan::AbbrevTable;
 use file_image::{Image, Sections};
 use ix_base::{Cursor, NoMemory, Stop};
 use reading_limit::ReadingLimit;

@@ -2,12 +2,12 @@
 use Rattle.std.specs.Prelude.{◌≡◌, ℕ, nat_eq, List, [], ◌∷◌, ◌++◌, flat_map, map, Some}
 use Rattle.std.specs.List.{AllZip}
 use Rattle.indexmap.specs.IndexMap.{IndexMap, get}
-use Rattle.index_model.specs.Abbreviations.{table}
 use Rattle.index_model.specs.Program.{Walked}
 use Rattle.index_model.specs.Sections.{Section}
 use Rattle.index_model.specs.ShardParts.{root_facts, kept_in, IsSeenOf, spans_of, imports_in}
 use Rattle.shard_build.specs.declared.run.ShardSoFar.{ShardSoFar}
-use Rattle.shard_build.specs.declared.tables.AbbrevTable.{AbbrevTable}
+use Rattle.entry_scan.specs.TablesAtOffsets.{IsAtOffset}
+use Rattle.entry_scan.specs.declared.abbrev_table.AbbrevTable.{AbbrevTable}
 
 -- what is kept is what a Shard keeps of these walks
 pub record Holds (ss : List Section) (r : ShardSoFar) (ws : List Walked) : Type 0 where
@@ -20,10 +20,6 @@ pub record Holds (ss : List Section) (r : ShardSoFar) (ws : List Walked) : Type 
 abbrev pub HoldsOneMore : List Section → ShardSoFar → ShardSoFar → Walked → Type 0
 HoldsOneMore ss old new w = (ws : List Walked) → Holds ss old ws → Holds ss new (ws ++ w ∷ [])
 
--- the table is the one at its offset
-abbrev pub IsAtOffset : List ℕ → AbbrevTable → Type 0
-IsAtOffset bytes t = table bytes t.offset ≡ Some t.abbrevs
-
--- so is each of the tables that are kept
+-- each of the tables that are kept is the one at its offset
 abbrev pub AreAtOffsets : {S : Type 0} → List ℕ → IndexMap ℕ AbbrevTable S → Type 0
 AreAtOffsets bytes kept = (offset : ℕ) (t : AbbrevTable) → get nat_eq kept offset ≡ Some t → IsAtOffset bytes t

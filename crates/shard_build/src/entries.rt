@@ -10,8 +10,8 @@ ghost use Rattle.shard_build.specs.Found.{IsFound, IsWithin};
 
 use crate::found::{NodeOrSpan, node_at};
 use crate::home::UnitInFile;
-use crate::tables::AbbrevTable;
 use crate::units_again::UnitsAgain;
+use entry_scan::AbbrevTable;
 use file_image::Image;
 use index_model::{Next, Node, Shard, Span};
 use ix_base::NoMemory;
@@ -35,7 +35,7 @@ impl<'s, 'f> Model for Entries<'s, 'f> {
     ghost use Rattle.std.specs.Option.{ForSome};
     ghost use Rattle.index_model.specs.Sections.{section_bytes};
     ghost use Rattle.shard_build.specs.Entries.{EntriesOf, AreShardsOfFile};
-    ghost use Rattle.shard_build.specs.Runs.{IsAtOffset};
+    ghost use Rattle.entry_scan.specs.TablesAtOffsets.{IsAtOffset};
     ghost use Rattle.shard_build.specs.Again.{AreOfUnits};
 
     ghost Value = { EntriesOf };

@@ -26,5 +26,4 @@ pub use facts::reference;
 pub use found::unit_at;
 pub use home::UnitInFile;
 pub use shard::scan;
-pub use tables::AbbrevTable;
 pub use texts::ItemTexts;

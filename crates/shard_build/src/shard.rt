@@ -12,7 +12,8 @@ ghost use Rattle.shard_build.specs.Runs.{HoldsOneMore, AreAtOffsets};
 
 use crate::home::UnitInFile;
 use crate::run::ShardSoFar;
-use crate::tables::{AbbrevTable, Tables};
+use crate::tables::Tables;
+use entry_scan::AbbrevTable;
 use file_image::Image;
 use index_model::Shard;
 use ix_base::Stop;

@@ -6,7 +6,7 @@ use Rattle.index_model.specs.declared.unit.Unit.{Unit as UnitHeader}
 use Rattle.ix_base.specs.declared.code.TheConstants.{BAD_ABBREVIATION}
 use Rattle.index_model.specs.Abbreviations.{table}
 use Rattle.index_model.specs.Meaning.{fault}
-use Rattle.line_files.specs.declared.abbreviations.AbbrevTable.{AbbrevTable}
+use Rattle.entry_scan.specs.declared.abbrev_table.AbbrevTable.{AbbrevTable}
 use Rattle.index_model.specs.Gives.{StopsAs}
 use Rattle.index_model.specs.Sections.{Section, section_bytes}
 use Rattle.line_files.specs.Places.{place_of}

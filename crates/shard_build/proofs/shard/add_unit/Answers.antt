@@ -6,7 +6,8 @@ use Rattle.index_model.specs.declared.unit.Unit.{Unit as UnitHeader}
 use Rattle.index_model.specs.Faults.{scanned}
 use Rattle.index_model.specs.Gives.{StopsAs}
 use Rattle.index_model.specs.Sections.{Section, section_bytes}
-use Rattle.shard_build.specs.Runs.{HoldsOneMore, IsAtOffset}
+use Rattle.entry_scan.specs.TablesAtOffsets.{IsAtOffset}
+use Rattle.shard_build.specs.Runs.{HoldsOneMore}
 use Rattle.shard_build.proofs.RunEnds.{table_stops}
 use Rattle.shard_build.proofs.shard.add_unit.Goals as goal
 

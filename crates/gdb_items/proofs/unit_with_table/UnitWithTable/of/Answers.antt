@@ -1,5 +1,5 @@
 use Rattle.std.proofs.Common.{ℕ, List, subst}
-use Rattle.shard_build.specs.Runs.{IsAtOffset}
+use Rattle.entry_scan.specs.TablesAtOffsets.{IsAtOffset}
 use Rattle.shard_build.proofs.WalkOfUnit.{has_table, is_sound, its_own, its_sections, its_walk}
 use Rattle.gdb_items.proofs.unit_with_table.UnitWithTable.of.Goals as goal
 

@@ -5,11 +5,11 @@ use Rattle.index_model.specs.Faults.{program_of}
 use Rattle.index_model.specs.Program.{Program}
 use Rattle.index_model.specs.Sections.{Section, section_bytes}
 use Rattle.file_image.specs.Images.{image_of, unit_bytes}
-use Rattle.shard_build.specs.declared.tables.AbbrevTable.{AbbrevTable}
+use Rattle.entry_scan.specs.declared.abbrev_table.AbbrevTable.{AbbrevTable}
 use Rattle.std.proofs.lemmas.Option.{same_Some}
 use Rattle.shard_build.specs.declared.units_again.UnitsAgain.{UnitsAgain}
 use Rattle.shard_build.specs.Again.{AreOfUnit, AreOfUnits}
-use Rattle.shard_build.specs.Runs.{IsAtOffset}
+use Rattle.entry_scan.specs.TablesAtOffsets.{IsAtOffset}
 use Rattle.shard_build.specs.Entries.{EntriesOf}
 use Rattle.shard_build.specs.Found.{IsWithin}
 use Rattle.shard_build.proofs.FoundSpans.{span_number}

@@ -1,6 +1,7 @@
 use Rattle.std.proofs.Common.{ℕ}
-use Rattle.shard_build.specs.declared.tables.AbbrevTable.{AbbrevTable}
-use Rattle.shard_build.specs.Runs.{IsAtOffset, AreAtOffsets}
+use Rattle.entry_scan.specs.declared.abbrev_table.AbbrevTable.{AbbrevTable}
+use Rattle.entry_scan.specs.TablesAtOffsets.{IsAtOffset}
+use Rattle.shard_build.specs.Runs.{AreAtOffsets}
 use Rattle.shard_build.proofs.MapLaws.{one_more}
 use Rattle.shard_build.proofs.tables.Tables.put.Goals as goal
 

@@ -1,6 +1,6 @@
 use Rattle.std.proofs.Common.{ℕ, sym, ◌∙◌}
-use Rattle.shard_build.specs.declared.tables.AbbrevTable.{AbbrevTable}
-use Rattle.shard_build.specs.Runs.{IsAtOffset}
+use Rattle.entry_scan.specs.declared.abbrev_table.AbbrevTable.{AbbrevTable}
+use Rattle.entry_scan.specs.TablesAtOffsets.{IsAtOffset}
 use Rattle.shard_build.proofs.MapLaws.{one_less}
 use Rattle.shard_build.proofs.tables.Tables.take.Goals as goal
 
