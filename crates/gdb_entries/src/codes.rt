@@ -4,7 +4,7 @@
 
 pub(crate) const DW_TAG_array_type: u64 = 0x01;
 
-pub(crate) const DW_TAG_entry_point: u64 = 0x03;
+pub const DW_TAG_entry_point: u64 = 0x03;
 
 pub(crate) const DW_TAG_imported_declaration: u64 = 0x08;
 

@@ -14,6 +14,7 @@ mod language;
 mod separator;
 pub mod vectors;
 
+pub use codes::DW_TAG_entry_point;
 pub use item::{
     ItemFacts, counts, gives_component, gives_scope_alone, is_allowed_in, is_called, is_static,
     opens,

@@ -6,6 +6,7 @@ ghost use Rattle.index_model.specs.Attributes.{attribute, next_reference};
 ghost use Rattle.index_model.specs.ShardParts.{as_next};
 ghost use Rattle.gdb_entries.specs.Chains.{facts_of, is_naming, origin_of};
 
+use crate::codes::DW_AT_extension;
 use dwarf_codes::attribute::{
     DW_AT_MIPS_linkage_name, DW_AT_abstract_origin, DW_AT_declaration, DW_AT_external,
     DW_AT_linkage_name, DW_AT_name, DW_AT_specification,
@@ -14,9 +15,6 @@ use entry_scan::Item;
 use gdb_entries::ItemFacts;
 use index_model::Next;
 use shard_build::reference;
-
-// The namespace that a namespace goes on with (DWARF 5, section 3.2.2).
-const DW_AT_EXTENSION: u64 = 0x54;
 
 /// What the rules ask of an entry.
 #[tactic(auto, unfolding(gdb_entries::specs::Chains::facts_of))]
@@ -48,7 +46,7 @@ fn has_naming(entry: &Item<'_>) -> bool
         || entry.has(DW_AT_MIPS_linkage_name)
         || entry.has(DW_AT_specification)
         || entry.has(DW_AT_abstract_origin)
-        || entry.has(DW_AT_EXTENSION)
+        || entry.has(DW_AT_extension)
 }
 
 /// The reference to what it is a part or a copy of: its specification, else its abstract origin, else its extension.
@@ -57,7 +55,7 @@ pub(crate) fn origin_of(entry: &Item<'_>) -> Option<Next>
 {
     match next_reference(entry) {
         Some(next) => Some(next),
-        None => reference(entry, DW_AT_EXTENSION),
+        None => reference(entry, DW_AT_extension),
     }
 }
 

@@ -9,6 +9,7 @@
 
 mod by_owner;
 mod chain;
+mod codes;
 mod facts;
 mod file;
 mod imports;

@@ -3,12 +3,10 @@
 ghost use Rattle.std.specs.Prelude.{◌≡◌, option_map};
 ghost use Rattle.gdb_items.specs.Roots.{producer_by};
 
+use crate::codes::DW_AT_producer;
 use entry_scan::Item;
 use file_image::text;
 use shard_build::UnitInFile;
-
-// DW_AT_producer (DWARF 5, section 7.5.4, table 7.5).
-const PRODUCER: u64 = 0x25;
 
 /// The producer of a root whose unit's part of `.debug_str_offsets` begins at the base. An empty one is none, and so is one that can't be
 /// read.
@@ -19,7 +17,7 @@ pub(crate) fn producer<'f>(
 ) -> Option<&'f [u8]>
     ensures { option_map (λ b. b.now) result ≡ producer_by home.now.sections.now base home.now.unit.wide root.now }
 {
-    let value = root.value(PRODUCER)?;
+    let value = root.value(DW_AT_producer)?;
     match text(home.sections, base, home.unit.wide, &value) {
         Ok(producer) => producer,
         Err(_) => None,

@@ -13,7 +13,6 @@ mod reading;
 mod scope;
 mod seen;
 mod statics;
-mod tags;
 mod unit;
 
 pub use file::FilePlaces;

@@ -14,8 +14,7 @@ ghost use Rattle.gdb_scopes.specs.Places.{offset_of, ForItem, IsAt, IsSeenIn};
 
 use crate::file::FilePlaces;
 use crate::seen::SeenItem;
-use crate::tags::DW_TAG_ENTRY_POINT;
-use gdb_entries::LanguageClass;
+use gdb_entries::{DW_TAG_entry_point, LanguageClass};
 use gdb_items::{Chain, UnitItem};
 use ix_base::NoMemory;
 use std::alloc::Global;
@@ -30,7 +29,7 @@ impl<'s, 'r, 'f> FilePlaces<'s, 'r, 'f> {
         let Some(item) = self.at(alloc, offset)? else {
             return Ok(None);
         };
-        if item.facts.tag == DW_TAG_ENTRY_POINT {
+        if item.facts.tag == DW_TAG_entry_point {
             self.scope_of_entry_point(alloc, &item)
         } else {
             self.scope_in_place(alloc, &item)
@@ -48,7 +47,7 @@ impl<'s, 'r, 'f> FilePlaces<'s, 'r, 'f> {
         ensures value { ForItem self.old.file seen.now.item.offset (λ p d. IsSeenIn p (Some class) seen.now d → class_read p d.home ≡ Some class → IsChainOf p d chain.now → IfOk result (λ scope. scope ≡ option_map offset_of (scope_of p d))) }
         ensures kept { self.new ≡ self.old }
     {
-        if seen.item.facts.tag == DW_TAG_ENTRY_POINT {
+        if seen.item.facts.tag == DW_TAG_entry_point {
             return self.scope(alloc, seen.item.offset);
         }
         if seen.around.is_some() {

@@ -11,8 +11,7 @@ ghost use Rattle.gdb_items.specs.Items.{IsItemOf};
 ghost use Rattle.gdb_scopes.specs.Places.{ForItem};
 
 use crate::file::FilePlaces;
-use crate::tags::DW_TAG_ENTRY_POINT;
-use gdb_entries::{LanguageClass, is_static};
+use gdb_entries::{DW_TAG_entry_point, LanguageClass, is_static};
 use gdb_items::{Chain, UnitItem};
 use ix_base::NoMemory;
 use std::alloc::Global;
@@ -30,7 +29,7 @@ impl<'s, 'r, 'f> FilePlaces<'s, 'r, 'f> {
         ensures value { ForItem self.old.file item.now.offset (λ p d. IsItemOf p.sections item.now d → class_read p d.home ≡ Some class → IsChainOf p d chain.now → IfOk result (λ is. is ≡ is_item_static p class d)) }
         ensures kept { self.new ≡ self.old }
     {
-        if item.facts.tag == DW_TAG_ENTRY_POINT {
+        if item.facts.tag == DW_TAG_entry_point {
             return self.is_static_around(alloc, class, item.offset);
         }
         Ok(is_static(class, item.facts.tag, chain.external))

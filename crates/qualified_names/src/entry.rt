@@ -7,16 +7,12 @@ ghost use Rattle.index_model.specs.Names.{simple_name};
 ghost use Rattle.qualified_names.specs.Indexed.{ForAnyLink, ForLink, HasAnyLink, HasLink};
 
 use crate::names::QualifiedNames;
+use crate::tags::{SUBPROGRAM, VARIABLE};
 use entry_rules::{Class, Kind, class, kind};
 use index_model::{Entry, LinkedEntry, Text};
 use ix_base::NoMemory;
 use name_forms::ada_tail;
 use std::alloc::Global;
-
-// The tags of entries that may have linkage names (DWARF 5, section 7.5.3).
-const SUBPROGRAM: u16 = 0x2e;
-
-const VARIABLE: u16 = 0x34;
 
 /// Adds the entry of an indexed entry, and at once its linkage entry.
 #[tactic(auto, unfolding(index_model::specs::Entries::entries_of_link))]

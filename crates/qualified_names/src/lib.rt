@@ -7,6 +7,7 @@ mod main_program;
 mod names;
 mod run;
 mod sought;
+mod tags;
 
 pub use main_program::main_of;
 pub use name_forms::ada;

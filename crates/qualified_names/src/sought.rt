@@ -8,12 +8,10 @@ ghost use Rattle.qualified_names.specs.Indexed.{ForAnyLink};
 ghost use Rattle.qualified_names.specs.Sought.{ForCounted, is_main_by};
 ghost use Rattle.qualified_names.specs.declared.sought.MainBy.TheVariants.{Said, Named};
 
+use crate::tags::SUBPROGRAM;
 use entry_rules::{Class, class};
 use index_model::LinkedEntry;
 use parent_resolve::Languages;
-
-// The tag of a subprogram (DWARF 5, section 7.5.3).
-const SUBPROGRAM: u16 = 0x2e;
 
 // The name of the main program in C and C++.
 const MAIN: &[u8] = b"main";
