@@ -31,7 +31,7 @@ returns-then-hops-eq-MAX_CHAIN_HOPS-clause-value c p file d there is =
     let of_file : program_of c.loop-target.entries.image.file ≡ Ok p = subst (λ (e : EntriesOf). program_of e.image.file ≡ Ok p) (sym c.loop-target.invariant.kept) file in
     let v = c.in_ok-target.ensures.value p of_file (chain_end d s.seen) s.is.there s.is.end in
     let g = was_next p c.args.at (next_of p (chain_end d s.seen)) c.in_ok-target.field-0 c.in-Some.target c.in-Some.is v in
-    stops_at c.args.at REFERENCE_CHAIN (chain_of p d) c.from.result c.from.ensures (too_long p d c.loop-target.chain c.loop-target.hops s g.0 g.1 c.if-hops-eq-MAX_CHAIN_HOPS.true)
+    stops_at c.args.at REFERENCE_CHAIN (chain_of p d) _ refl (too_long p d c.loop-target.chain c.loop-target.hops s g.0 g.1 c.if-hops-eq-MAX_CHAIN_HOPS.true)
 
 pub loop-target-preserved : goal.loop-target-preserved
 loop-target-preserved c = record {

@@ -1,7 +1,5 @@
 use Rattle.std.proofs.Common.{Option, Some, None, ap, sym, subst}
-use Rattle.index_model.specs.Gives.{Stop}
 use Rattle.index_model.specs.declared.shard.Node.{Node}
-use Rattle.index_model.specs.Gives.{StopsAs}
 use Rattle.index_model.specs.Meaning.{at_place}
 use Rattle.index_model.specs.Chains.{next_of}
 use Rattle.shard_build.specs.Entries.{IsNodeIn, entry_meant}
@@ -29,4 +27,4 @@ returns-in-None-clause-value c p file d there is =
     let ref = r p n d is q c.in-Some.is in
     let v = c.in_ok-target.ensures.value p file d.home (home_in p d there).0 (sym (says p.sections n d is).unit) ref (is_reference p n d is q c.in-Some.is) in
     let m = nothing_meant p.sections (entry_meant p d.home ref) (subst (λ (o : Option Node). IsNodeIn p.sections o (entry_meant p d.home ref)) c.in-None.is v) in
-    subst (λ (s : Stop). StopsAs s (at_place c.args.at (next_of p d))) (sym c.from.ensures) (ap (at_place c.args.at) (next_fault p n d is q c.in-Some.is m))
+    ap (at_place c.args.at) (next_fault p n d is q c.in-Some.is m)

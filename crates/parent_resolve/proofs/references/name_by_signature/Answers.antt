@@ -48,4 +48,4 @@ returns-in-None-clause-value c p file d there is =
     let w : Same s p.walks (Some t) = subst (Same s p.walks) (sym (c.find.ensures image.units c.requires.signed) ∙ c.in-Some-find.is) u in
     let v = c.in_ok-node.ensures.value p file w.0 w.1.member w.1.number (type_place w.0) (ap (λ (n : ℕ). let q : Next = record { target = n; near = true } in q) (sym w.1.type_offset)) in
     let m = nothing_meant p.sections (entry_meant p w.0 (type_place w.0)) (subst (λ (o : Option Node). IsNodeIn p.sections o (entry_meant p w.0 (type_place w.0))) c.in-None.is v) in
-    stops_at c.args.at BAD_REFERENCE (name_by_signature p d) c.from.result c.from.ensures (name_fault p d s (sym (says p.sections c.args.node.now d is).signature ∙ c.in-Some.is) w.0 w.1.found m)
+    stops_at c.args.at BAD_REFERENCE (name_by_signature p d) _ refl (name_fault p d s (sym (says p.sections c.args.node.now d is).signature ∙ c.in-Some.is) w.0 w.1.found m)
