@@ -4,10 +4,11 @@ use Rattle.file_image.specs.Images.{Image}
 use Rattle.index_model.specs.declared.job.Job.TheVariants.{Link, Main, Name}
 use Rattle.index_model.specs.declared.shard.Shard.{Shard}
 use Rattle.index_model.specs.declared.shard.Linked.{Linked}
-use Rattle.index_model.specs.Machine.{Output}
+use Rattle.index_model.specs.Machine.{Output, Memory, Faulty, Gave}
 use Rattle.index_model.specs.Outputs.{Made}
 use Rattle.stage_core.specs.Inputs.{ScansOf, LinksOf, Handed}
 use Rattle.index_pool.specs.Drawn.{IsDrawn, IsOutputFor}
+use Rattle.index_pool.specs.Outputs.{BringsAs}
 
 module _ (image : Image) (task h : Handed) (is : task ≡ h) where
   pub drawn_as : IsDrawn image task → IsDrawn image h
@@ -15,6 +16,12 @@ module _ (image : Image) (task h : Handed) (is : task ≡ h) where
 
   pub output_as : (o : Output Made) → IsOutputFor image h o → IsOutputFor image task o
   output_as o = subst (λ (h : Handed). IsOutputFor image h o) (sym is)
+
+-- what holds of the output that is meant and of want of memory holds of what is brought
+pub brought_as : (P : Output Made → Type 0) → P Memory → (meant told : Output Made) → BringsAs meant told → P meant → P told
+brought_as P free meant Memory brings holds = free
+brought_as P free meant (Faulty f) brings holds = subst P (sym brings) holds
+brought_as P free meant (Gave made) brings holds = subst P (sym brings) holds
 
 -- ---- what the jobs are given
 

@@ -1,6 +1,6 @@
 -- The output of the Write job.
 use Rattle.std.proofs.Common.{◌≡◌, ◌⊎◌, ℕ, ◌+◌, ◌<◌, ◌≤◌, ◌^◌, Bool, true, false, cond, ◌&&◌, leb, List, [], ◌∷◌, length, map, Option, Some, None, Result, Ok, Err, Vec, refl, sym, ap, subst, ◌∙◌, arith, inl, inr}
-use Rattle.std.specs.Prelude.{All, IfOk, IfErr, OnOk, IsOkAnd, IsSomeAnd, codes}
+use Rattle.std.specs.Prelude.{All, IfSome, IfOk, IfErr, OnOk, IsOkAnd, IsSomeAnd, codes}
 use Rattle.std.proofs.lemmas.Bool.{le-leb, leb-true, lt-leb}
 use Rattle.ix_base.specs.declared.limits.TheConstants.{MAX_UNITS}
 use Rattle.file_image.specs.Images.{Image, image_of}
@@ -35,9 +35,11 @@ use Rattle.ix_base.specs.declared.or_memory.OrMemory.TheVariants as stops
 use Rattle.gdbindex_write.specs.Writable.{IsWritable, HasUnit, IsMainOf}
 use Rattle.debugnames_write.specs.declared.writer.NameBytes.{NameBytes as Written}
 use Rattle.debugnames_write.specs.Conditions.{AreIndexable, Fits, IsInside}
+use Rattle.stage_core.specs.declared.output.Cache.{Cache as CacheMade}
 use Rattle.stage_core.specs.Inputs.{PublishedOf}
+use Rattle.stage_core.specs.Outputs.{cache_seen}
 use Rattle.index_pool.specs.Drawn.{IsDrawn}
-use Rattle.index_pool.specs.Outputs.{gdb_output, names_output}
+use Rattle.index_pool.specs.Outputs.{cache_output, gdb_output, names_output}
 use Rattle.index_pool.specs.Written.{ArePublished, IsIndexOf, kind_of_version}
 use Rattle.index_pool.proofs.FileEntries.{entries_in_units, entries_have_units, pieces_in_units, main_named}
 use Rattle.index_pool.proofs.FileUnits.{gdb_units, name_units}
@@ -200,6 +202,15 @@ module _ (image : Image) (m : Summary) (entries : List Entry) (h : ArePublished 
         gives Names old_strings old DoesNotFit
         (ap (λ (b : Bool). cond b (NameBytes name_bytes strings) DoesNotFit) (sym (does_not_fit (large refl))) ∙ names_are)
     names_bring (Err stops.Memory) first second fits large = tt
+
+-- an index that was written, alone and as an output
+pub written_cache : (image : Image) (kind : CacheKind) (o : Option CacheMade) → IsIndexOf image kind (cache_output o) → IfSome o (λ cache. IsOkAnd (built_of image.file) (λ b. cache_seen cache ≡ cache_in kind b))
+written_cache image kind None is = tt
+written_cache image kind (Some cache) is = is
+
+pub cache_written : (image : Image) (kind : CacheKind) (o : Option CacheMade) → IfSome o (λ cache. IsOkAnd (built_of image.file) (λ b. cache_seen cache ≡ cache_in kind b)) → IsIndexOf image kind (cache_output o)
+cache_written image kind None is = tt
+cache_written image kind (Some cache) is = is
 
 -- ---- what is given for the Write job
 

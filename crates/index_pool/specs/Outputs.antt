@@ -1,5 +1,5 @@
 -- What calls that may be refused bring as outputs of jobs.
-use Rattle.std.specs.Prelude.{Vec, ℕ, Result, Ok, Err}
+use Rattle.std.specs.Prelude.{◌≡◌, ⊤, Vec, ℕ, Option, Some, None, Result, Ok, Err}
 use Rattle.debugnames_write.specs.declared.writer.NameBytes.{NameBytes}
 use Rattle.ix_base.specs.declared.fault.NoMemory.{NoMemory}
 use Rattle.index_model.specs.Gives.{Stop}
@@ -8,6 +8,13 @@ use Rattle.ix_base.specs.declared.or_memory.OrMemory.TheVariants as stops
 use Rattle.index_model.specs.Cache.{GdbBytes, NameBytes as NamesAre, DoesNotFit}
 use Rattle.index_model.specs.Machine.{Output, Memory, Faulty, Gave}
 use Rattle.index_model.specs.Outputs.{Made, CacheOf}
+use Rattle.stage_core.specs.declared.output.Cache.{Cache}
+use Rattle.stage_core.specs.Outputs.{cache_seen}
+
+-- the output that is meant, or want of memory
+abbrev pub BringsAs : Output Made → Output Made → Type 0
+BringsAs meant Memory = ⊤
+BringsAs meant told = told ≡ meant
 
 -- what was made, the first fault, or want of memory
 abbrev pub output_of : {X : Type 0} → (X → Made) → Result X Stop → Output Made
@@ -19,6 +26,11 @@ output_of make (Err stops.Memory) = Memory
 abbrev pub output_or_memory : {X : Type 0} → (X → Made) → Result X NoMemory → Output Made
 output_or_memory make (Ok x) = Gave (make x)
 output_or_memory make (Err e) = Memory
+
+-- the index, or want of memory
+abbrev pub cache_output : Option Cache → Output Made
+cache_output (Some cache) = Gave (CacheOf (cache_seen cache))
+cache_output None = Memory
 
 -- the bytes of a `.gdb_index`, that they don't fit, or want of memory
 abbrev pub gdb_output : {Z : Type 0} → Result (Vec ℕ Z) WriteStop → Output Made

@@ -29,9 +29,9 @@ pub fn perform<'f, R: Threads + Sync>(
     ensures { IsOutputFor image.now (task_seen task.entry) (output_seen result) }
 {
     match task {
-        Task::Scan { first, count, .. } => of_scan(scan(alloc, image, first, count)),
-        Task::Link { run, shards } => of_link(link(alloc, image, &shards, run as usize)),
-        Task::Main { shards, linked } => of_main(summary(alloc, image, &shards, &linked)),
+        Task::Scan { first, count, .. } => of_scan(alloc, scan(alloc, image, first, count)),
+        Task::Link { run, shards } => of_link(alloc, link(alloc, image, &shards, run as usize)),
+        Task::Main { shards, linked } => of_main(alloc, summary(alloc, image, &shards, &linked)),
         Task::Name {
             run,
             shards,
@@ -39,7 +39,7 @@ pub fn perform<'f, R: Threads + Sync>(
         } => of_name(run_of(alloc, image, &shards, &linked, run as usize)),
         Task::Merge(runs) => {
             sections_are_small(image);
-            of_merge(Table::merge(rt, alloc, runs))
+            of_merge(alloc, Table::merge(rt, alloc, runs))
         }
         Task::Write { published, kind } => {
             let (Some(summary), Some(table)) = (&published.summary, &published.table) else {

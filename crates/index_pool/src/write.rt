@@ -8,7 +8,7 @@ ghost use Rattle.index_model.specs.Seen.{main_seen};
 ghost use Rattle.stage_core.specs.Outputs.{cache_seen, output_seen, summary_seen};
 ghost use Rattle.index_pool.specs.Written.{ArePublished, IsIndexOf, kind_of_version};
 
-use crate::outputs::{of_gdb, of_names};
+use crate::outputs::{gdb_cache, names_cache, of_cache};
 use crate::sizes::sections_are_small;
 use file_image::Image;
 use index_model::{CacheKind, Main, MainName};
@@ -52,7 +52,8 @@ fn gdb_index<'f>(
     sections_are_small(image);
     let units = image.units();
     let main = main_name(&summary.main);
-    of_gdb(gdbindex_write::write(alloc, units, &summary.map, main, table, version))
+    let written = gdbindex_write::write(alloc, units, &summary.map, main, table, version);
+    of_cache(alloc, gdb_cache(written))
 }
 
 /// A `.debug_names` and the strings that it adds, of what a build of the image's file has published; or that the format can't hold
@@ -67,10 +68,7 @@ pub fn name_index<'f, R: Threads + Sync>(
     requires { ArePublished image.now (summary_seen summary.now) table.now }
     ensures { IsIndexOf image.now Names (output_seen result) }
 {
-    sections_are_small(image);
-    let units = image.units();
-    let old_strings = image.sections().get(b".debug_str").len() as u64;
-    of_names(debugnames_write::write(rt, alloc, units, old_strings, table))
+    of_cache(alloc, name_cache(rt, alloc, image, summary, table))
 }
 
 /// The index that `name_index` brings. None where memory was refused.
@@ -84,10 +82,10 @@ pub fn name_cache<'f, R: Threads + Sync>(
     requires { ArePublished image.now (summary_seen summary.now) table.now }
     ensures { IfSome result (λ cache. IsOkAnd (built_of image.now.file) (λ b. cache_seen cache ≡ cache_in Names b)) }
 {
-    match name_index(rt, alloc, image, summary, table) {
-        Output::Cache(cache) => Some(cache),
-        _ => None,
-    }
+    sections_are_small(image);
+    let units = image.units();
+    let old_strings = image.sections().get(b".debug_str").len() as u64;
+    names_cache(debugnames_write::write(rt, alloc, units, old_strings, table))
 }
 
 // The main program, its name borrowed.

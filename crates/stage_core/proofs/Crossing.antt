@@ -10,7 +10,7 @@ use Rattle.query_engine.specs.contracts.table.Table as Table
 use Rattle.stage_core.specs.contracts.output.Summary as Summary
 use Rattle.stage_core.specs.contracts.output.Cache as Cache
 use Rattle.stage_core.specs.contracts.output.Parts as Parts
-use Rattle.stage_core.specs.contracts.brought.Brought as Brought
+use Rattle.stage_core.specs.contracts.output.Output as Output
 use Rattle.stage_core.specs.contracts.progress.Progress as Progress
 use Rattle.stage_core.specs.contracts.stock.Stock as Stock
 use Rattle.stage_core.specs.contracts.task.Task as Task
@@ -52,15 +52,13 @@ cache_send = search (sendable, crosses) depth 60 fits 60000
 cache_sync : IsSync Cache.the_row
 cache_sync = search (sendable, crosses) depth 60 fits 60000
 
--- ---- what is kept of it
-
-brought_send : (l : NamedLft) → IsSend (Brought.the_row l)
-brought_send l = search (sendable, crosses, shard_send, shard_sync, linked_send, linked_sync, entry_send, summary_send, summary_sync, table_send, table_sync, cache_send, cache_sync) depth 60 fits 60000
+output_send : (l : NamedLft) → IsSend (Output.the_row l)
+output_send l = search (sendable, crosses, shard_send, shard_sync, linked_send, linked_sync, entry_send, summary_send, summary_sync, table_send, table_sync, cache_send, cache_sync) depth 60 fits 60000
 
 -- ---- as fields of what holds them
 
 progress_held : (l : NamedLft) → IsSend (Progress.the_field l).row
-progress_held l = search (sendable, crosses, brought_send) depth 60 fits 60000
+progress_held l = search (sendable, crosses, output_send) depth 60 fits 60000
 
 stock_held : (l : NamedLft) → IsSend (Stock.the_field l).row
 stock_held l = search (sendable, crosses, shard_send, shard_sync, linked_send, linked_sync) depth 60 fits 60000

@@ -8,7 +8,7 @@ use Rattle.index_model.specs.declared.entry.Entry.{Entry}
 use Rattle.ix_base.specs.Reading.{◌>>=◌ as ◌>>=?◌}
 use Rattle.index_model.specs.MachineEvents.{made_in}
 use Rattle.index_model.specs.Outputs.{Made}
-use Rattle.stage_core.specs.declared.brought.Brought.{Brought}
+use Rattle.stage_core.specs.declared.output.Output.{Output}
 use Rattle.stage_core.specs.Slots.{slot_seen, made_of_slots, made_as}
 use Rattle.stage_core.specs.Inputs.{run_in}
 
@@ -18,16 +18,16 @@ taken : {A B : Type 0} (f : A → Option B) (o : Option A) (xs : List A) → fil
 taken f None xs = refl
 taken f (Some x) xs = refl
 
-pub next_made : {B : Type 0} (f : Made → Option B) (slots : List (Option Brought)) (i : ℕ) (slot : Option Brought) → i < length slots → slot ≡ get_or slots i slot → filter_map f (made_of_slots (drop i slots)) ≡ cons_option (made_as f slot) (filter_map f (made_of_slots (drop (i + 1) slots)))
+pub next_made : {B : Type 0} (f : Made → Option B) (slots : List (Option Output)) (i : ℕ) (slot : Option Output) → i < length slots → slot ≡ get_or slots i slot → filter_map f (made_of_slots (drop i slots)) ≡ cons_option (made_as f slot) (filter_map f (made_of_slots (drop (i + 1) slots)))
 next_made f slots i slot lt is =
-    let F : List (Option Brought) → List _ = λ xs. filter_map f (made_of_slots xs) in
-    at_drop_more F slots i slot lt ∙ (ap (λ (x : Option Brought). F (x ∷ drop (i + 1) slots)) (sym is) ∙ taken f (made_in (slot_seen slot)) (made_of_slots (drop (i + 1) slots)))
+    let F : List (Option Output) → List _ = λ xs. filter_map f (made_of_slots xs) in
+    at_drop_more F slots i slot lt ∙ (ap (λ (x : Option Output). F (x ∷ drop (i + 1) slots)) (sym is) ∙ taken f (made_in (slot_seen slot)) (made_of_slots (drop (i + 1) slots)))
 
 -- ---- the only slot
 
-pub only_made : (slots : List (Option Brought)) (slot : Option Brought) → length slots ≡ 1 → slot ≡ get_or slots 0 slot → slice_get (made_of_slots slots) 0 ≡ made_in (slot_seen slot)
+pub only_made : (slots : List (Option Output)) (slot : Option Output) → length slots ≡ 1 → slot ≡ get_or slots 0 slot → slice_get (made_of_slots slots) 0 ≡ made_in (slot_seen slot)
 only_made [] slot one is = absurd (omega (arith, one))
-only_made (x ∷ []) slot one is = first (made_in (slot_seen x)) ∙ ap (λ (x : Option Brought). made_in (slot_seen x)) (sym is)
+only_made (x ∷ []) slot one is = first (made_in (slot_seen x)) ∙ ap (λ (x : Option Output). made_in (slot_seen x)) (sym is)
   where
     first : {A : Type 0} (o : Option A) → slice_get (cons_option o []) 0 ≡ o
     first None = refl
@@ -41,7 +41,7 @@ listed None xs = refl
 listed (Some x) xs = refl
 
 -- what the next slot holds is added
-pub shared_more : {B : Type 0} (f : Made → Option B) (slots : List (Option Brought)) (i : ℕ) (slot : Option Brought) (old new : List B) (o : Option B) → i < length slots → slot ≡ get_or slots i slot → o ≡ made_as f slot →
+pub shared_more : {B : Type 0} (f : Made → Option B) (slots : List (Option Output)) (i : ℕ) (slot : Option Output) (old new : List B) (o : Option B) → i < length slots → slot ≡ get_or slots i slot → o ≡ made_as f slot →
     new ≡ old ++ option_to_list o → new ++ filter_map f (made_of_slots (drop (i + 1) slots)) ≡ old ++ filter_map f (made_of_slots (drop i slots))
 shared_more f slots i slot old new o lt is made added =
     let rest = filter_map f (made_of_slots (drop (i + 1) slots)) in
@@ -49,7 +49,7 @@ shared_more f slots i slot old new o lt is made added =
     next_made f slots i slot lt is ∙ (listed (made_as f slot) rest ∙ ap (λ o. option_to_list o ++ rest) (sym made)) in
     rw (added, next, append_assoc) refl
 
-pub moved_more : (slots : List (Option Brought)) (i : ℕ) (slot empty : Option Brought) (runs : List (List Entry)) (o : Option (List Entry)) → i < length slots → slot ≡ get_or slots i slot → o ≡ made_as run_in slot →
+pub moved_more : (slots : List (Option Output)) (i : ℕ) (slot empty : Option Output) (runs : List (List Entry)) (o : Option (List Entry)) → i < length slots → slot ≡ get_or slots i slot → o ≡ made_as run_in slot →
     (runs ++ option_to_list o) ++ filter_map run_in (made_of_slots (drop (i + 1) (slice_set slots i empty))) ≡ runs ++ filter_map run_in (made_of_slots (drop i slots))
 moved_more slots i slot empty runs o lt is made =
     let rest : List (List Entry) = filter_map run_in (made_of_slots (drop (i + 1) slots)) in

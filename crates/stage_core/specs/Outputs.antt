@@ -1,5 +1,5 @@
 -- What contracts see of outputs and of what is published.
-use Rattle.std.specs.Prelude.{Bool, true, false, option_map}
+use Rattle.std.specs.Prelude.{option_map}
 use Rattle.std.specs.Arc.{arc_value}
 use Rattle.index_model.specs.Cache.{Cache as CacheOf, GdbBytes, NameBytes, DoesNotFit}
 use Rattle.index_model.specs.Machine.{Output as OutputOf, Memory, Faulty, Gave}
@@ -24,20 +24,14 @@ summary_seen m = record { main = m.main; map = m.map }
 
 -- the output of a job
 abbrev pub output_seen : Output → OutputOf Made
-output_seen (outputs.Shard shard) = Gave (ShardOf shard)
-output_seen (outputs.Linked linked) = Gave (LinkedOf linked)
-output_seen (outputs.Summary summary) = Gave (GaveSummary (summary_seen summary))
+output_seen (outputs.Shard shard) = Gave (ShardOf (arc_value shard))
+output_seen (outputs.Linked linked) = Gave (LinkedOf (arc_value linked))
+output_seen (outputs.Summary summary) = Gave (GaveSummary (summary_seen (arc_value summary)))
 output_seen (outputs.Run run) = Gave (RunOf run)
-output_seen (outputs.Table table) = Gave (TableOf table)
-output_seen (outputs.Cache cache) = Gave (GaveCache (cache_seen cache))
+output_seen (outputs.Table table) = Gave (TableOf (arc_value table))
+output_seen (outputs.Cache cache) = Gave (GaveCache (cache_seen (arc_value cache)))
 output_seen (outputs.Fault f) = Faulty f
 output_seen outputs.Memory = Memory
-
--- whether the job made something
-abbrev pub is_made : Output → Bool
-is_made (outputs.Fault f) = false
-is_made outputs.Memory = false
-is_made other = true
 
 -- what has been published
 abbrev pub parts_seen : Parts → PartsOf

@@ -1,11 +1,11 @@
 -- What contracts see of the progress: the state of the machine.
-use Rattle.std.specs.Prelude.{◌≡◌, true, map}
-use Rattle.index_model.specs.Machine.{State, End, Going, Stopped, Refused, is_going}
+use Rattle.std.specs.Prelude.{map}
+use Rattle.index_model.specs.Machine.{State, End, Going, Stopped, Refused}
 use Rattle.index_model.specs.Outputs.{Made}
 use Rattle.stage_core.specs.declared.progress.End.{End as EndKept}
 use Rattle.stage_core.specs.declared.progress.End.TheVariants as ends
 use Rattle.stage_core.specs.declared.progress.Progress.TheInside.{Inside}
-use Rattle.stage_core.specs.Slots.{slots_seen, made_of_slots, NoneLost}
+use Rattle.stage_core.specs.Slots.{slots_seen, made_of_slots}
 
 -- whether jobs go on
 abbrev pub end_seen : EndKept → End
@@ -21,7 +21,3 @@ progress_seen p = record {
   brought = slots_seen p.brought.items;
   end = end_seen p.end;
 }
-
--- while jobs go on, nothing that the jobs of the open kind made is lost
-abbrev pub LosesNothing : Inside → Type 0
-LosesNothing p = is_going (end_seen p.end) ≡ true → NoneLost p.brought.items

@@ -4,7 +4,6 @@ ghost use Rattle.std.specs.Prelude.{◌≡◌, ◌<◌, true, false, is_none, le
 ghost use Rattle.std.specs.List.{list_any};
 ghost use Rattle.index_model.specs.Machine.{Refused, Stopped, place_of_job, is_going, level, stage, plan_for, machine_start, refused_start};
 ghost use Rattle.index_model.specs.MachineEvents.{after_draw, after_finish, decided, is_running, next_job};
-ghost use Rattle.stage_core.specs.Brought.{brought_seen};
 ghost use Rattle.stage_core.specs.Build.{Fits, IsOpen, SameSubject, subject_of, plan_of_build};
 ghost use Rattle.stage_core.specs.Cut.{units_in};
 ghost use Rattle.stage_core.specs.Inputs.{handed};
@@ -12,7 +11,6 @@ ghost use Rattle.stage_core.specs.Outputs.{output_seen};
 ghost use Rattle.stage_core.specs.Place.{place_seen};
 ghost use Rattle.stage_core.specs.Tasks.{task_seen};
 
-use crate::brought::Brought;
 use crate::output::{Output, Parts};
 use crate::place::{Place, place_of};
 use crate::progress::Progress;
@@ -142,22 +140,21 @@ impl<'f> Build<'f> {
         if !self.progress.is_running(place) {
             return false;
         }
-        self.bring(alloc, place, Brought::share(alloc, output))
+        self.bring(alloc, place, output)
     }
 
     // Takes what a running job brought. Answers whether memory was refused here.
-    fn bring(&mut self, alloc: Global, place: Place, brought: Brought<'f>) -> bool
+    fn bring(&mut self, alloc: Global, place: Place, output: Output<'f>) -> bool
         requires fits { Fits self.old }
         requires running { is_running self.old.progress (place_seen place) ≡ true }
-        ensures state { self.new.progress ≡ after_finish (plan_of_build self.old) self.old.progress (place_seen place) (brought_seen brought.entry) result }
+        ensures state { self.new.progress ≡ after_finish (plan_of_build self.old) self.old.progress (place_seen place) (output_seen output.entry) result }
         ensures fits { Fits self.new }
         ensures subject { SameSubject self.old self.new }
     {
-        let lost = brought.is_lost();
-        self.progress.bring(place.number, brought);
+        self.progress.bring(place.number, output);
         if self.progress.is_stopped() {
             self.tasks.clear();
-            return lost;
+            return false;
         }
         self.decide(alloc)
     }

@@ -4,9 +4,7 @@
 //! over every list of events of any actors (specs/LawsCore) holds of every `Core`.
 #![tactic(auto)]
 
-mod brought;
 mod build;
-mod lost;
 mod machine;
 mod made;
 mod opening;

@@ -1,8 +1,9 @@
 //! What jobs bring, and what is published of it.
 
-ghost use Rattle.std.specs.Prelude.{◌≡◌, option_map, IfOk, None};
+ghost use Rattle.std.specs.Prelude.{◌≡◌, option_map, IfOk, Some, None};
 ghost use Rattle.std.specs.Arc.{arc_value};
-ghost use Rattle.stage_core.specs.Outputs.{parts_seen};
+ghost use Rattle.index_model.specs.MachineEvents.{fault_in, is_memory};
+ghost use Rattle.stage_core.specs.Outputs.{output_seen, parts_seen};
 
 use address_map::AddressMap;
 use index_model::{Entry, Linked, List, Main, Run, Shard};
@@ -80,17 +81,36 @@ pub(crate) fn share<T>(part: &Option<Arc<T>>) -> Result<Option<Arc<T>>, AllocErr
     }
 }
 
-/// What a job brings.
+/// What a job brings, shared where later jobs or readers use it.
 #[derive(Drop)]
 pub enum Output<'f> {
-    Shard(Shard<'f>),
-    Linked(Linked<'f>),
-    Summary(Summary<'f>),
+    Shard(Arc<Shard<'f>>),
+    Linked(Arc<Linked<'f>>),
+    Summary(Arc<Summary<'f>>),
     Run(Run<'f>),
-    Table(Table<'f>),
-    Cache(Cache),
+    Table(Arc<Table<'f>>),
+    Cache(Arc<Cache>),
     /// The first fault that the job met.
     Fault(Fault),
     /// Memory was refused.
     Memory,
+}
+
+impl Output<'_> {
+    /// The fault that the job met.
+    pub(crate) fn fault(&self) -> Option<Fault>
+        ensures { result ≡ fault_in (Some (output_seen self.now)) }
+    {
+        match self {
+            Output::Fault(fault) => Some(*fault),
+            _ => None,
+        }
+    }
+
+    /// Whether memory was refused to the job.
+    pub(crate) fn wants_memory(&self) -> bool
+        ensures { result ≡ is_memory (output_seen self.now) }
+    {
+        matches!(self, Output::Memory)
+    }
 }

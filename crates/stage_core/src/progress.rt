@@ -1,15 +1,15 @@
 //! How far the jobs are: the state of the machine.
 
-ghost use Rattle.std.specs.Prelude.{◌≡◌, ◌<◌, ◌||◌, ◌++◌, ◌∷◌, [], suc, true, length, filter_map, replicate, is_none, not, OnOk, OnErr, IfOk, None};
+ghost use Rattle.std.specs.Prelude.{◌≡◌, ◌<◌, ◌++◌, ◌∷◌, [], suc, length, filter_map, replicate, is_none, not, OnOk, OnErr, IfOk, None};
 ghost use Rattle.std.specs.List.{list_any};
 ghost use Rattle.index_model.specs.Machine.{Going, Stopped, Refused, is_going, is_stopped};
 ghost use Rattle.index_model.specs.MachineEvents.{is_memory, is_running, with_output, least_fault, made_in};
-ghost use Rattle.stage_core.specs.Brought.{brought_seen, is_lost};
-ghost use Rattle.stage_core.specs.Slots.{slots_seen, NoneLost};
+ghost use Rattle.stage_core.specs.Outputs.{output_seen};
+ghost use Rattle.stage_core.specs.Slots.{slots_seen};
 ghost use Rattle.stage_core.specs.Stopping.{stopped_if};
 ghost use Rattle.stage_core.specs.Place.{place_seen};
 
-use crate::brought::Brought;
+use crate::output::Output;
 use crate::place::Place;
 use crate::slots::{Slots, is_whole, least_fault, vacant};
 use ix_base::Fault;
@@ -42,11 +42,9 @@ impl<'f> Model for Progress<'f> {
 
     ghost Value = { State Made };
 
-    ghost use Rattle.stage_core.specs.Progress.{progress_seen, LosesNothing};
+    ghost use Rattle.stage_core.specs.Progress.{progress_seen};
 
     ghost view = { progress_seen };
-
-    ghost invariant = { LosesNothing };
 }
 
 impl<'f> Progress<'f> {
@@ -110,20 +108,19 @@ impl<'f> Progress<'f> {
     }
 
     /// The job with this number of the open kind is finished. Want of memory stops the machine.
-    pub fn bring(&mut self, number: usize, brought: Brought<'f>)
+    pub fn bring(&mut self, number: usize, output: Output<'f>)
         requires { number < length self.old.brought }
-        ensures { self.new ≡ stopped_if (with_output self.old number (brought_seen brought.entry)) (is_memory (brought_seen brought.entry) || is_lost brought.entry) }
+        ensures { self.new ≡ stopped_if (with_output self.old number (output_seen output.entry)) (is_memory (output_seen output.entry)) }
     {
-        if brought.wants_memory() {
+        if output.wants_memory() {
             self.end = End::Stopped;
         }
-        self.brought[number] = Some(brought);
+        self.brought[number] = Some(output);
     }
 
     /// What the jobs of the open kind brought.
-    pub fn brought(&self) -> &[Option<Brought<'f>>]
-        ensures brought { slots_seen result.now ≡ self.now.brought }
-        ensures kept { is_going self.now.end ≡ true → NoneLost result.now }
+    pub fn brought(&self) -> &[Option<Output<'f>>]
+        ensures { slots_seen result.now ≡ self.now.brought }
     {
         &self.brought
     }
@@ -163,7 +160,6 @@ impl<'f> Progress<'f> {
     /// Where memory was refused nothing has changed.
     pub fn close(&mut self, alloc: Global, jobs: u32) -> Result<Slots<'f>, AllocError>
         ensures brought { IfOk result (λ slots. slots_seen slots.items ≡ self.old.brought) }
-        ensures kept { IfOk result (λ slots. is_going self.old.end ≡ true → NoneLost slots.items) }
         ensures closed { OnOk result (self.new ≡ record self.old { closed = self.old.closed ++ filter_map made_in self.old.brought ∷ []; drawn = 0; brought = replicate jobs None }) }
         ensures same { OnErr result (self.new ≡ self.old) }
     {

@@ -8,11 +8,10 @@ ghost use Rattle.index_model.specs.MachineEvents.{least_fault as least_fault_of,
 ghost use Rattle.index_model.specs.Parts.{summary_in as summary_made, table_in as table_made, index_in as index_made};
 ghost use Rattle.stage_core.specs.Inputs.{shard_in, linked_in as link_in, run_in};
 ghost use Rattle.stage_core.specs.Outputs.{summary_seen, cache_seen};
-ghost use Rattle.stage_core.specs.Slots.{slot_seen, slots_seen, made_of_slots, NoneLost};
+ghost use Rattle.stage_core.specs.Slots.{slot_seen, slots_seen, made_of_slots};
 
-use crate::brought::Brought;
 use crate::made::{cache_of, linked_of, run_of, shard_of, summary_of, table_of};
-use crate::output::{Cache, Summary};
+use crate::output::{Cache, Output, Summary};
 use index_model::{Linked, Run, Shard};
 use ix_base::Fault;
 use query_engine::Table;
@@ -20,7 +19,7 @@ use std::alloc::{AllocError, Global};
 use std::sync::Arc;
 
 /// What each job of a kind brought, in their order. None where it isn't finished.
-pub(crate) type Slots<'f> = Vec<Option<Brought<'f>>>;
+pub(crate) type Slots<'f> = Vec<Option<Output<'f>>>;
 
 /// The slots of so many jobs, none of which is finished.
 pub(crate) fn vacant<'f>(alloc: Global, jobs: u32) -> Result<Slots<'f>, AllocError>
@@ -35,7 +34,7 @@ pub(crate) fn vacant<'f>(alloc: Global, jobs: u32) -> Result<Slots<'f>, AllocErr
 }
 
 /// Whether all jobs are finished.
-pub(crate) fn is_whole(slots: &[Option<Brought<'_>>]) -> bool
+pub(crate) fn is_whole(slots: &[Option<Output<'_>>]) -> bool
     ensures { result ≡ not (list_any is_none (slots_seen slots.now)) }
 {
     for slot in slots {
@@ -47,7 +46,7 @@ pub(crate) fn is_whole(slots: &[Option<Brought<'_>>]) -> bool
 }
 
 /// The fault of the least job that met one.
-pub(crate) fn least_fault(slots: &[Option<Brought<'_>>]) -> Option<Fault>
+pub(crate) fn least_fault(slots: &[Option<Output<'_>>]) -> Option<Fault>
     ensures { result ≡ least_fault_of (slots_seen slots.now) }
 {
     for slot in slots {
@@ -59,11 +58,11 @@ pub(crate) fn least_fault(slots: &[Option<Brought<'_>>]) -> Option<Fault>
 }
 
 // The fault that a job met.
-fn fault_in(slot: &Option<Brought<'_>>) -> Option<Fault>
+fn fault_in(slot: &Option<Output<'_>>) -> Option<Fault>
     ensures { result ≡ fault_of (slot_seen slot.now) }
 {
     match slot {
-        Some(brought) => brought.fault(),
+        Some(output) => output.fault(),
         None => None,
     }
 }
@@ -71,9 +70,8 @@ fn fault_in(slot: &Option<Brought<'_>>) -> Option<Fault>
 /// The shards that jobs made.
 pub(crate) fn shards_in<'f>(
     alloc: Global,
-    slots: &[Option<Brought<'f>>],
+    slots: &[Option<Output<'f>>],
 ) -> Result<Vec<Arc<Shard<'f>>>, AllocError>
-    requires { NoneLost slots.now }
     ensures { IfOk result (λ v. map arc_value v.items ≡ filter_map shard_in (made_of_slots slots.now)) }
 {
     let mut shards = Vec::with_capacity(alloc, slots.len())?;
@@ -86,9 +84,8 @@ pub(crate) fn shards_in<'f>(
 /// The links that jobs made.
 pub(crate) fn linked_in<'f>(
     alloc: Global,
-    slots: &[Option<Brought<'f>>],
+    slots: &[Option<Output<'f>>],
 ) -> Result<Vec<Arc<Linked<'f>>>, AllocError>
-    requires { NoneLost slots.now }
     ensures { IfOk result (λ v. map arc_value v.items ≡ filter_map link_in (made_of_slots slots.now)) }
 {
     let mut all = Vec::with_capacity(alloc, slots.len())?;
@@ -109,9 +106,8 @@ fn push_shared<T: Drop>(all: &mut Vec<Arc<T>>, made: Option<&Arc<T>>) -> Result<
 }
 
 /// Moves the runs that jobs made behind others. There is room for them.
-pub(crate) fn move_runs<'f>(slots: &mut [Option<Brought<'f>>], runs: &mut Vec<Run<'f>>)
-    requires kept { NoneLost slots.old }
-    requires room { vec_len runs.old + length slots.old ≤ vec_capacity runs.old }
+pub(crate) fn move_runs<'f>(slots: &mut [Option<Output<'f>>], runs: &mut Vec<Run<'f>>)
+    requires { vec_len runs.old + length slots.old ≤ vec_capacity runs.old }
     ensures { runs.new.items ≡ runs.old.items ++ filter_map run_in (made_of_slots slots.old) }
 {
     for slot in slots.iter_mut() {
@@ -123,10 +119,9 @@ pub(crate) fn move_runs<'f>(slots: &mut [Option<Brought<'f>>], runs: &mut Vec<Ru
 
 /// The summary that the only job made.
 pub(crate) fn summary_in<'f>(
-    slots: &[Option<Brought<'f>>],
+    slots: &[Option<Output<'f>>],
 ) -> Result<Option<Arc<Summary<'f>>>, AllocError>
-    requires kept { NoneLost slots.now }
-    requires one { length slots.now ≡ 1 }
+    requires { length slots.now ≡ 1 }
     ensures { IfOk result (λ o. option_map (λ m. summary_seen (arc_value m)) o ≡ summary_made (slice_get (made_of_slots slots.now) 0)) }
 {
     match summary_of(&slots[0]) {
@@ -137,10 +132,9 @@ pub(crate) fn summary_in<'f>(
 
 /// The table that the only job made.
 pub(crate) fn table_in<'f>(
-    slots: &[Option<Brought<'f>>],
+    slots: &[Option<Output<'f>>],
 ) -> Result<Option<Arc<Table<'f>>>, AllocError>
-    requires kept { NoneLost slots.now }
-    requires one { length slots.now ≡ 1 }
+    requires { length slots.now ≡ 1 }
     ensures { IfOk result (λ o. option_map arc_value o ≡ table_made (slice_get (made_of_slots slots.now) 0)) }
 {
     match table_of(&slots[0]) {
@@ -150,9 +144,8 @@ pub(crate) fn table_in<'f>(
 }
 
 /// The index that the only job made.
-pub(crate) fn cache_in(slots: &[Option<Brought<'_>>]) -> Result<Option<Arc<Cache>>, AllocError>
-    requires kept { NoneLost slots.now }
-    requires one { length slots.now ≡ 1 }
+pub(crate) fn cache_in(slots: &[Option<Output<'_>>]) -> Result<Option<Arc<Cache>>, AllocError>
+    requires { length slots.now ≡ 1 }
     ensures { IfOk result (λ o. option_map (λ c. cache_seen (arc_value c)) o ≡ index_made (slice_get (made_of_slots slots.now) 0)) }
 {
     match cache_of(&slots[0]) {

@@ -10,7 +10,7 @@ use Rattle.index_pool.proofs.LinkJob.{link_of_file, link_within, link_brings}
 use Rattle.index_pool.proofs.MainJob.{main_of_file, main_brings}
 use Rattle.index_pool.proofs.MergeJob.{merge_few, merge_tails, merge_brings}
 use Rattle.index_pool.proofs.NameJob.{name_of_file, name_within, name_brings}
-use Rattle.index_pool.proofs.Performs.{drawn_as, output_as, to_link, to_main, to_name}
+use Rattle.index_pool.proofs.Performs.{drawn_as, output_as, brought_as, to_link, to_main, to_name}
 use Rattle.index_pool.proofs.ScanJob.{scan_within, scan_brings}
 use Rattle.index_pool.proofs.WriteJob.{has_summary, has_table, are_published, write_brings}
 use Rattle.index_pool.proofs.job.perform.Goals as goal
@@ -23,7 +23,7 @@ scan-requires g c = scan_within c.args.image.now c.in-Scan.run' c.in-Scan.first 
 
 pub returns-in-Scan : goal.returns-in-Scan
 returns-in-Scan g c = output_as c.args.image.now (task_seen c.args.task) _ (ap task_seen c.in-Scan.is) (output_seen c.of_scan.result)
-    (λ d. subst (λ (o : Output Made). IsOutputOf d.machine.subject (Scan c.in-Scan.run') o) (sym c.of_scan.ensures) (scan_brings c.args.image.now c.in-Scan.run' c.in-Scan.first c.in-Scan.count d c.scan.result c.scan.ensures))
+    (λ d. brought_as (λ (o : Output Made). IsOutputOf d.machine.subject (Scan c.in-Scan.run') o) tt _ (output_seen c.of_scan.result) c.of_scan.ensures (scan_brings c.args.image.now c.in-Scan.run' c.in-Scan.first c.in-Scan.count d c.scan.result c.scan.ensures))
 
 -- ---- Link
 
@@ -44,7 +44,7 @@ returns-in-Link g c =
     let slice = c.deref-in-Link.ensures.value ∙ ap (λ v. v.items) c.deref.ensures in
     let is = ap task_seen c.in-Link.is ∙ ap (λ xs. to_link c.in-Link.run' (map arc_value xs)) (sym slice) in
     output_as c.args.image.now (task_seen c.args.task) _ is (output_seen c.of_link.result)
-    (λ d. subst (λ (o : Output Made). IsOutputOf d.machine.subject (Link c.in-Link.run') o) (sym c.of_link.ensures) (link_brings c.args.image.now c.in-Link.run' (map arc_value c.deref-in-Link.result.now) d c.link.result c.link.ensures))
+    (λ d. brought_as (λ (o : Output Made). IsOutputOf d.machine.subject (Link c.in-Link.run') o) tt _ (output_seen c.of_link.result) c.of_link.ensures (link_brings c.args.image.now c.in-Link.run' (map arc_value c.deref-in-Link.result.now) d c.link.result c.link.ensures))
 
 -- ---- Main
 
@@ -61,7 +61,7 @@ returns-in-Main g c =
     let linked = c.deref-in-Main-4.ensures.value ∙ ap (λ v. v.items) c.deref-in-Main-3.ensures in
     let is = ap task_seen c.in-Main.is ∙ ap (λ xs. to_main (map arc_value xs) (map arc_value (arc_value c.in-Main.linked).items)) (sym shards) ∙ ap (λ ys. to_main (map arc_value c.deref-in-Main-2.result.now) (map arc_value ys)) (sym linked) in
     output_as c.args.image.now (task_seen c.args.task) _ is (output_seen c.of_main.result)
-    (λ d. subst (λ (o : Output Made). IsOutputOf d.machine.subject Main o) (sym c.of_main.ensures) (main_brings c.args.image.now (map arc_value c.deref-in-Main-2.result.now) (map arc_value c.deref-in-Main-4.result.now) d c.summary.result c.summary.ensures))
+    (λ d. brought_as (λ (o : Output Made). IsOutputOf d.machine.subject Main o) tt _ (output_seen c.of_main.result) c.of_main.ensures (main_brings c.args.image.now (map arc_value c.deref-in-Main-2.result.now) (map arc_value c.deref-in-Main-4.result.now) d c.summary.result c.summary.ensures))
 
 -- ---- Name
 
@@ -98,7 +98,7 @@ merge-requires-clause-tails g c κs within = merge_tails c.args.image.now c.in-M
 
 pub returns-in-Merge : goal.returns-in-Merge
 returns-in-Merge g c = output_as c.args.image.now (task_seen c.args.task) _ (ap task_seen c.in-Merge.is) (output_seen c.of_merge.result)
-    (λ d. subst (λ (o : Output Made). IsOutputOf d.machine.subject Merge o) (sym c.of_merge.ensures) (merge_brings c.args.image.now c.in-Merge.runs.items d c.merge.result c.merge.ensures))
+    (λ d. brought_as (λ (o : Output Made). IsOutputOf d.machine.subject Merge o) tt _ (output_seen c.of_merge.result) c.of_merge.ensures (merge_brings c.args.image.now c.in-Merge.runs.items d c.merge.result c.merge.ensures))
 
 -- ---- Write
 

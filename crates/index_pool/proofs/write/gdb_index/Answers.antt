@@ -8,8 +8,9 @@ use Rattle.index_model.specs.Outputs.{Made}
 use Rattle.index_model.specs.Seen.{main_seen}
 use Rattle.index_model.specs.WriteStops.{too_large}
 use Rattle.gdbindex_write.specs.Writable.{IsWritable}
-use Rattle.stage_core.specs.Outputs.{summary_seen}
+use Rattle.stage_core.specs.Outputs.{output_seen, summary_seen}
 use Rattle.index_pool.specs.Written.{IsIndexOf, kind_of_version}
+use Rattle.index_pool.proofs.Performs.{brought_as}
 use Rattle.index_pool.proofs.WriteJob.{writable, gdb_brings}
 use Rattle.index_pool.proofs.write.gdb_index.Goals as goal
 
@@ -39,5 +40,5 @@ returns c =
     let large =
     subst (λ (o : Option Main). r ≡ Err too_large → 4294967295 < length (gdb_index_bytes image.units map o es c.args.version)) c.main_name-main.ensures
     (subst (λ (us : List UnitHeader). r ≡ Err too_large → 4294967295 < length (gdb_index_bytes us map main es c.args.version)) units.value c.write.ensures.too_large) in
-    subst (λ (o : Output Made). IsIndexOf image (kind_of_version c.args.version) o) (sym c.of_gdb.ensures)
-    (gdb_brings image (summary_seen c.args.summary.now) es c.requires.published units.of_file c.args.version c.requires.version r bytes c.write.ensures.fits large)
+    brought_as (λ (o : Output Made). IsIndexOf image (kind_of_version c.args.version) o) tt _ (output_seen c.of_cache.result) c.of_cache.ensures
+    (subst (λ (o : Output Made). IsIndexOf image (kind_of_version c.args.version) o) (sym c.gdb_cache.ensures) (gdb_brings image (summary_seen c.args.summary.now) es c.requires.published units.of_file c.args.version c.requires.version r bytes c.write.ensures.fits large))

@@ -1,9 +1,8 @@
-use Rattle.std.proofs.Common.{◌≡◌, ◌<◌, ◌+◌, ◌++◌, false, List, length, filter_map, drop, Some, None, sym, ap, ◌∙◌, arith, length-set, append-nil}
+use Rattle.std.proofs.Common.{◌≡◌, ◌<◌, ◌+◌, ◌++◌, List, length, filter_map, drop, Some, None, sym, ap, ◌∙◌, arith, length-set, append-nil}
 use Rattle.std.specs.Prelude.{slice_set}
-use Rattle.std.proofs.lemmas.List.Elements.{All-set}
 use Rattle.index_model.specs.declared.entry.Entry.{Entry}
 use Rattle.stage_core.specs.Inputs.{run_in}
-use Rattle.stage_core.specs.Slots.{made_as, made_of_slots, is_lost_slot, NoneLost}
+use Rattle.stage_core.specs.Slots.{made_as, made_of_slots}
 use Rattle.stage_core.proofs.SlotLaws.{moved_more}
 use Rattle.stage_core.proofs.slots.move_runs.Goals as goal
 use Rattle.stage_core.proofs.slots.move_runs.Goals.{in-Some, in_default}
@@ -13,18 +12,15 @@ loop-slot-preserved c =
     let slots = c.loop-slot.slots in
     let i = c.loop-slot.slot-index in
     let slot = c.slot-item.result in
-    let kept : NoneLost (slice_set slots i c.take.new.self) = All-set (λ slot. is_lost_slot slot ≡ false) slots i c.take.new.self (ap is_lost_slot c.take.ensures.after) c.loop-slot.invariant.kept in
     let lt : i < length slots = omega (arith, c.loop-slot-test.true, c.loop-slot.auto.slots) in
     let size = length-set slots i c.take.new.self in
     let made : c.run_of.result ≡ made_as run_in slot = c.run_of.ensures ∙ ap (made_as run_in) (c.take.ensures.value ∙ sym c.slot-item.is) in
     elim c.match-run_of.branch [
       | in-Some w ↦ record {
-        kept = kept;
         room = rw (w.runs-is) (omega (arith, size, w.push_reserved.ensures.len, w.push_reserved.ensures.capacity, c.loop-slot.invariant.room));
         moved = rw (w.runs-is, w.push_reserved.ensures.items) (moved_more slots i slot c.take.new.self c.loop-slot.runs.items (Some w.in-Some.run') lt c.slot-item.is (sym w.in-Some.is ∙ made) ∙ c.loop-slot.invariant.moved);
       }
       | in_default w ↦ record {
-        kept = kept;
         room = rw (w.runs-is) (omega (arith, size, c.loop-slot.invariant.room));
         moved =
             let all = filter_map run_in (made_of_slots (drop (i + 1) (slice_set slots i c.take.new.self))) in

@@ -18,7 +18,7 @@ pub returns-clause-opens : goal.returns-clause-opens
 returns-clause-opens c =
     let a : Build = c.args.self.now in
     let ms : List Made = filter_map made_in a.progress.brought in
-    let made : made_of_slots c.brought.result.now ≡ ms = ap (λ (bs : List (Option (Output Made))). filter_map made_in bs) c.brought.ensures.brought in
+    let made : made_of_slots c.brought.result.now ≡ ms = ap (λ (bs : List (Option (Output Made))). filter_map made_in bs) c.brought.ensures in
     let b : Build = record { file = a.file; runs = a.runs; cache = a.cache; progress = c.shut.new.self; stock = stocks.Nothing; tasks = c.clear.new.self; parts = record a.parts { cache = c.in_ok-cache.cache } } in
     let published =
     ap (λ (o : Option Cache). record (parts_seen a.parts) { cache = o }) (c.in_ok-cache.ensures ∙ ap (λ (xs : List Made). index_in (slice_get xs 0)) made) ∙

@@ -19,7 +19,7 @@ pub returns-clause-opens : goal.returns-clause-opens
 returns-clause-opens c =
     let a : Build = c.args.self.now in
     let ms : List Made = filter_map made_in a.progress.brought in
-    let made : made_of_slots c.brought.result.now ≡ ms = ap (λ (bs : List (Option (Output Made))). filter_map made_in bs) c.brought.ensures.brought in
+    let made : made_of_slots c.brought.result.now ≡ ms = ap (λ (bs : List (Option (Output Made))). filter_map made_in bs) c.brought.ensures in
     let stock = stocks.Main c.args.shards c.in_ok-linked.linked in
     let b : Build = record { file = a.file; runs = a.runs; cache = a.cache; progress = c.shut.new.self; stock = stock; tasks = c.in_ok-tasks.tasks; parts = a.parts } in
     let shards : List Shard = map arc_value (arc_value c.args.shards).items in

@@ -1,10 +1,10 @@
 use Rattle.std.proofs.Common.{◌≡◌, List, [], ◌∷◌, ◌++◌, Option, filter_map, ap, ◌∙◌, arith, length-append, sym, subst}
-use Rattle.index_model.specs.Machine.{Output}
+use Rattle.index_model.specs.Machine.{Output as OutputOf}
 use Rattle.index_model.specs.MachineEvents.{made_in}
 use Rattle.index_model.specs.Outputs.{Made}
 use Rattle.index_model.specs.declared.entry.Entry.{Entry}
 use Rattle.index_model.specs.declared.job.Job.TheVariants.{Merge}
-use Rattle.stage_core.specs.declared.brought.Brought.{Brought}
+use Rattle.stage_core.specs.declared.output.Output.{Output}
 use Rattle.stage_core.specs.declared.task.Task.{Task}
 use Rattle.stage_core.specs.declared.task.Task.TheVariants as tasks
 use Rattle.stage_core.specs.Inputs.{RunsOf, run_in}
@@ -22,12 +22,12 @@ pub returns-clause-opens : goal.returns-clause-opens
 returns-clause-opens c =
     let a : Build = c.args.self.now in
     let ms : List Made = filter_map made_in a.progress.brought in
-    let made : made_of_slots c.brought.result.now ≡ ms = ap (λ (bs : List (Option (Output Made))). filter_map made_in bs) c.brought.ensures.brought in
+    let made : made_of_slots c.brought.result.now ≡ ms = ap (λ (bs : List (Option (OutputOf Made))). filter_map made_in bs) c.brought.ensures in
     let b : Build = record { file = a.file; runs = a.runs; cache = a.cache; progress = c.close.new.self; stock = stocks.Merge; tasks = c.place_task.new.tasks; parts = a.parts } in
     let moved : c.move_runs.new.runs.items ≡ filter_map run_in ms =
     c.move_runs.ensures ∙ (ap (λ (rs : List (List Entry)). rs ++ filter_map run_in (made_of_slots c.deref_mut.result.now)) c.in_ok-runs.ensures.items ∙
-    (ap (λ (slots : List (Option Brought)). filter_map run_in (made_of_slots slots)) c.deref_mut.ensures.value ∙
-    ap (λ (bs : List (Option (Output Made))). filter_map run_in (filter_map made_in bs)) c.in_ok-brought.ensures.brought)) in
+    (ap (λ (slots : List (Option Output)). filter_map run_in (made_of_slots slots)) c.deref_mut.ensures.value ∙
+    ap (λ (bs : List (Option (OutputOf Made))). filter_map run_in (filter_map made_in bs)) c.in_ok-brought.ensures.brought)) in
     let task : Task = tasks.Merge c.move_runs.new.runs in
     let only =
     other_tasks c.place_task.new.tasks.items 1 _ (λ _. record { job = Merge; given = RunsOf (filter_map run_in ms) }) (λ i. ap (λ (rs : List (List Entry)). record { job = Merge; given = RunsOf rs }) moved)

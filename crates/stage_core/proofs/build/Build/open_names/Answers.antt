@@ -17,7 +17,7 @@ pub returns-clause-opens : goal.returns-clause-opens
 returns-clause-opens c =
     let a : Build = c.args.self.now in
     let ms : List Made = filter_map made_in a.progress.brought in
-    let made : made_of_slots c.brought.result.now ≡ ms = ap (λ (bs : List (Option (Output Made))). filter_map made_in bs) c.brought.ensures.brought in
+    let made : made_of_slots c.brought.result.now ≡ ms = ap (λ (bs : List (Option (Output Made))). filter_map made_in bs) c.brought.ensures in
     let b : Build = record { file = a.file; runs = a.runs; cache = a.cache; progress = c.shut.new.self; stock = stocks.Name; tasks = c.args.tasks; parts = record a.parts { summary = c.in_ok-summary.summary } } in
     let published =
     ap (λ (o : Option Summary). record (parts_seen a.parts) { summary = o }) (c.in_ok-summary.ensures ∙ ap (λ (xs : List Made). summary_in (slice_get xs 0)) made) ∙

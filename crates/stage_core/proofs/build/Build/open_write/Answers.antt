@@ -23,7 +23,7 @@ pub returns-clause-opens : goal.returns-clause-opens
 returns-clause-opens c =
     let a : Build = c.args.self.now in
     let ms : List Made = filter_map made_in a.progress.brought in
-    let made : made_of_slots c.brought.result.now ≡ ms = ap (λ (bs : List (Option (Output Made))). filter_map made_in bs) c.brought.ensures.brought in
+    let made : made_of_slots c.brought.result.now ≡ ms = ap (λ (bs : List (Option (Output Made))). filter_map made_in bs) c.brought.ensures in
     let b : Build = record { file = a.file; runs = a.runs; cache = a.cache; progress = c.shut.new.self; stock = stocks.Write; tasks = c.in_ok-tasks.tasks; parts = record a.parts { table = c.in_ok-table.table } } in
     let new : Parts = record (parts (going a.progress.closed)) { table = table_in (slice_get ms 0) } in
     let table : option_map arc_value c.in_ok-table.table ≡ table_in (slice_get ms 0) = c.in_ok-table.ensures ∙ ap (λ (xs : List Made). table_in (slice_get xs 0)) made in
