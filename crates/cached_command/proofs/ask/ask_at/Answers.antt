@@ -1,5 +1,6 @@
-use Rattle.std.proofs.Common.{ℕ, ◌≤◌, List, ◌++◌, length, Some, refl, sym, ap, subst, ◌∙◌, arith}
+use Rattle.std.proofs.Common.{ℕ, ◌≤◌, List, ◌++◌, length, Some, Err, refl, sym, ap, subst, ◌∙◌, arith}
 use Rattle.ix_base.specs.declared.limits.TheConstants.{MAX_FILE_BYTES}
+use Rattle.ix_base.specs.declared.or_memory.OrMemory.TheVariants.{Cause}
 use Rattle.query_text.specs.Questions.{question_seen}
 use Rattle.reach_model.specs.KeptIndexes.{kept_index}
 use Rattle.reach_model.specs.KeptTexts.{text_of_hit}
@@ -40,4 +41,4 @@ returns-in-Ok-clause-missed g c =
 
 pub returns-in-Err-Cause-TooBig-clause-missed : goal.returns-in-Err-Cause-TooBig-clause-missed
 returns-in-Err-Cause-TooBig-clause-missed g c =
-    too_large (subst (λ (n : List ℕ). HoldsMore (g.F.Shelf.files c.args.shelf.now) n MAX_FILE_BYTES) c.as_str.ensures.value (c.read_kept.ensures.too_big (cc c.in-Err-Cause-TooBig.is)))
+    too_large (subst (λ (n : List ℕ). HoldsMore (g.F.Shelf.files c.args.shelf.now) n MAX_FILE_BYTES) c.as_str.ensures.value (c.read_kept.ensures.too_big (c.in-Err-Cause-TooBig.is ∙ ap Err (c.in-Err-Cause-TooBig.field-0-is ∙ ap Cause c.in-Err-Cause-TooBig.field-0-0-is))))
