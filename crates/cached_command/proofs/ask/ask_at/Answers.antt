@@ -1,4 +1,4 @@
-use Rattle.std.proofs.Common.{ℕ, ◌≤◌, List, ◌++◌, length, Some, Err, refl, sym, ap, subst, ◌∙◌, arith}
+use Rattle.std.proofs.Common.{◌≡◌, ℕ, ◌≤◌, List, ◌++◌, length, Some, Err, refl, sym, ap, subst, ◌∙◌, arith}
 use Rattle.ix_base.specs.declared.limits.TheConstants.{MAX_FILE_BYTES}
 use Rattle.ix_base.specs.declared.or_memory.OrMemory.TheVariants.{Cause}
 use Rattle.query_text.specs.Questions.{question_seen}
@@ -6,6 +6,7 @@ use Rattle.reach_model.specs.KeptIndexes.{kept_index}
 use Rattle.reach_model.specs.KeptTexts.{text_of_hit}
 use Rattle.command_base.specs.FilesRead.{Holds, HoldsMore}
 use Rattle.command_base.specs.Replies.{Wrote}
+use Rattle.command_base.specs.declared.file.Unread.TheVariants.{TooBig}
 use Rattle.command_base.specs.declared.status.Status.{Status}
 use Rattle.cached_command.specs.Askings.{SaysHit}
 use Rattle.cached_command.specs.Caches.{refused, too_large}
@@ -41,4 +42,7 @@ returns-in-Ok-clause-missed g c =
 
 pub returns-in-Err-Cause-TooBig-clause-missed : goal.returns-in-Err-Cause-TooBig-clause-missed
 returns-in-Err-Cause-TooBig-clause-missed g c =
-    too_large (subst (λ (n : List ℕ). HoldsMore (g.F.Shelf.files c.args.shelf.now) n MAX_FILE_BYTES) c.as_str.ensures.value (c.read_kept.ensures.too_big (c.in-Err-Cause-TooBig.is ∙ ap Err (c.in-Err-Cause-TooBig.field-0-is ∙ ap Cause c.in-Err-Cause-TooBig.field-0-0-is))))
+    let cause : c.in-Err-Cause-TooBig.field-0 ≡ Cause c.in-Err-Cause-TooBig.field-0-0 = c.in-Err-Cause-TooBig.field-0-is in
+    let why : c.in-Err-Cause-TooBig.field-0-0 ≡ TooBig = c.in-Err-Cause-TooBig.field-0-0-is in
+    let told : c.read_kept.result ≡ Err (Cause TooBig) = c.in-Err-Cause-TooBig.is ∙ ap Err (cause ∙ ap Cause why) in
+    too_large (subst (λ (n : List ℕ). HoldsMore (g.F.Shelf.files c.args.shelf.now) n MAX_FILE_BYTES) c.as_str.ensures.value (c.read_kept.ensures.too_big told))
