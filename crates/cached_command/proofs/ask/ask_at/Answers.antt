@@ -43,6 +43,6 @@ returns-in-Ok-clause-missed g c =
 pub returns-in-Err-Cause-TooBig-clause-missed : goal.returns-in-Err-Cause-TooBig-clause-missed
 returns-in-Err-Cause-TooBig-clause-missed g c =
     let cause : c.in-Err-Cause-TooBig.field-0 ≡ Cause c.in-Err-Cause-TooBig.field-0-0 = c.in-Err-Cause-TooBig.field-0-is in
-    let why : c.in-Err-Cause-TooBig.field-0-0 ≡ TooBig = c.in-Err-Cause-TooBig.field-0-0-is in
+    let why : c.in-Err-Cause-TooBig.field-0-0 ≡ TooBig = rw cause at c.in-Err-Cause-TooBig.field-0-0-is in
     let told : c.read_kept.result ≡ Err (Cause TooBig) = c.in-Err-Cause-TooBig.is ∙ ap Err (cause ∙ ap Cause why) in
     too_large (subst (λ (n : List ℕ). HoldsMore (g.F.Shelf.files c.args.shelf.now) n MAX_FILE_BYTES) c.as_str.ensures.value (c.read_kept.ensures.too_big told))
