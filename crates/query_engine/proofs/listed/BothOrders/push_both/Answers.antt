@@ -1,4 +1,4 @@
-use Rattle.std.proofs.Common.{◌-◌, length, ap, refl, arith, length-append}
+use Rattle.std.proofs.Common.{length, ap, refl, arith, length-append}
 use Rattle.query_engine.specs.Listed.{merged}
 use Rattle.query_engine.proofs.listed.BothOrders.push_both.Goals as goal
 
