@@ -14,6 +14,7 @@ mod resolved;
 mod section_header;
 mod section_table;
 mod sections;
+mod short_strings;
 mod strings;
 mod table;
 mod text_limits;

@@ -10,6 +10,7 @@ use crate::compressed::check_compressed;
 use crate::found::{NamedSection, index_named, sections_of_table, table_fault};
 use crate::ident::check_ident;
 use crate::resolved::{Resolved, content_of};
+use crate::short_strings::ShortStrings;
 use crate::table::SectionHeaders;
 use crate::text_limits::TextLimits;
 use ix_base::{Fault, MAX_FILE_BYTES, Stop, code};
@@ -22,6 +23,7 @@ pub struct Sections<'f> {
     found: Vec<NamedSection<'f>>,
     resolved: Resolved<'f>,
     limits: TextLimits,
+    short: ShortStrings,
 }
 
 impl<'f> Model for Sections<'f> {
@@ -61,10 +63,12 @@ impl<'f> Sections<'f> {
             }));
         }
         let limits = TextLimits::of(resolved.str, resolved.line_str);
+        let short = ShortStrings::of(alloc, resolved.str)?;
         Ok(Sections {
             found,
             resolved,
             limits,
+            short,
         })
     }
 
@@ -153,6 +157,14 @@ impl<'f> Sections<'f> {
         ensures { result ≡ true → tested (string_at (section_bytes self.now (codes ".debug_str")) at) ≡ Ok tt }
     {
         at < self.limits.str
+    }
+
+    /// Whether two looks tell that the string at an offset of `.debug_str` is sound, and has fewer than 4,096 bytes.
+    #[inline(always)]
+    pub fn is_short_str(&self, at: u64) -> bool
+        ensures { result ≡ true → tested (string_at (section_bytes self.now (codes ".debug_str")) at) ≡ Ok tt }
+    {
+        self.is_sound_str(at) && self.short.is_short(at)
     }
 
     /// The index of the first section of this name among all headers, of which that of section 0 is the first; None where there

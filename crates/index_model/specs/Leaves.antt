@@ -1,11 +1,19 @@
 -- What a leaf says of a node.
-use Rattle.std.specs.Prelude.{◌≡◌, ℕ, ◌+◌, ◌<◌, ◌^◌, Bool, true, ◌&&◌, is_none, IfSome, nat_le, if◌then◌else◌, List, length, slice_range, slice_get, unwrap_or, Option, Some, None, option_map}
+use Rattle.std.specs.Prelude.{◌≡◌, ℕ, ◌+◌, ◌<◌, ◌^◌, Bool, true, ◌&&◌, is_none, IfSome, nat_le, if◌then◌else◌, List, length, slice_range, slice_get, unwrap_or, Option, Some, None, option_map, option_and_then}
 use Rattle.std.specs.Borrow.{Bor}
 use Rattle.index_model.specs.declared.shard.Node.{Node}
 use Rattle.index_model.specs.declared.leaf.Leaf.{Leaf}
+use Rattle.index_model.specs.declared.place.TextBytes.{TextBytes}
+use Rattle.index_model.specs.declared.small_node.SmallNode.{SmallNode}
 use Rattle.index_model.specs.declared.place.TextInFile.{TextInFile}
-use Rattle.index_model.specs.Marks.{is_declaration, is_external, is_enum_class, is_main, has_address, has_value, has_parent, has_name, has_linkage, has_next, is_near, is_aside}
+use Rattle.index_model.specs.Marks.{is_declaration, is_external, is_enum_class, is_main, has_address, has_value, has_parent, has_name, has_linkage, has_next, is_near, is_aside, has_strings}
+use Rattle.index_model.specs.Meaning.{value_of}
 use Rattle.index_model.specs.NodeSeen.{NodeSeen, node_seen}
+use Rattle.index_model.specs.Strings.{string_at, some_text}
+
+-- the string that begins at an offset of `.debug_str`, if it is a text
+abbrev pub string_of : List ℕ → ℕ → Option (List ℕ)
+string_of strings at = some_text (value_of (string_at strings at))
 
 -- a text of the file, by where it begins and its length
 abbrev pub text_at : List ℕ → ℕ → ℕ → Option (List ℕ)
@@ -37,12 +45,42 @@ leaf_facts l = record {
   ranges = None;
 }
 
+-- a text of a leaf, by its place and its length
+abbrev pub leaf_text : TextBytes → Leaf → ℕ → ℕ → Option (List ℕ)
+leaf_text b l at length = if has_strings l.given then string_of b.strings.now at else text_at b.file.now at length
+
 -- what a leaf says by itself
-unfoldable pub leaf_seen : List ℕ → Leaf → NodeSeen
-leaf_seen file l = record {
+unfoldable pub leaf_seen : TextBytes → Leaf → NodeSeen
+leaf_seen b l = record {
   facts = leaf_facts l;
-  name = if has_name l.given then text_at file l.name l.name_length else None;
-  linkage = if has_linkage l.given then text_at file l.linkage l.linkage_length else None;
+  name = if has_name l.given then leaf_text b l l.name l.name_length else None;
+  linkage = if has_linkage l.given then leaf_text b l l.linkage l.linkage_length else None;
+}
+
+-- what a small node says, where its texts are these strings
+unfoldable pub small_seen : List ℕ → SmallNode → NodeSeen
+small_seen strings s = record {
+  facts = record {
+    unit = s.unit;
+    offset = s.offset;
+    parent = s.parent;
+    tag = s.tag;
+    declaration = s.own.declaration;
+    external = s.own.external;
+    enum_class = s.own.enum_class;
+    main = s.own.main;
+    address = s.own.address;
+    value = s.own.value;
+    name = None;
+    linkage = None;
+    next = s.next;
+    signature = None;
+    low = None;
+    high = None;
+    ranges = None;
+  };
+  name = option_and_then (string_of strings) s.name;
+  linkage = option_and_then (string_of strings) s.linkage;
 }
 
 -- ---- which nodes a leaf can stand for
@@ -62,8 +100,8 @@ is_plain n = is_none n.signature && is_none n.low && is_none n.high && is_none n
 -- ---- leaves among nodes that are kept whole
 
 -- the node of a leaf, where these are kept whole
-unfoldable pub unpacked : List ℕ → List Node → Leaf → NodeSeen
-unpacked file whole l = if is_aside l.given then unwrap_or (option_map node_seen (slice_get whole l.offset)) (leaf_seen file l) else leaf_seen file l
+unfoldable pub unpacked : TextBytes → List Node → Leaf → NodeSeen
+unpacked b whole l = if is_aside l.given then unwrap_or (option_map node_seen (slice_get whole l.offset)) (leaf_seen b l) else leaf_seen b l
 
 -- where its node is kept whole, it is among these
 abbrev pub IsInside : List Node → Leaf → Type 0

@@ -49,3 +49,7 @@ is_near g = is_set g.bits 16
 -- the node is kept whole, aside
 abbrev pub is_aside : Given → Bool
 is_aside g = is_set g.bits 32
+
+-- its texts are strings of `.debug_str`
+abbrev pub has_strings : Given → Bool
+has_strings g = is_set g.bits 64

@@ -1,7 +1,7 @@
 //! Which numbers of a leaf say something, a bit for each.
 
 ghost use Rattle.std.specs.Prelude.{◌≡◌, true, false};
-ghost use Rattle.index_model.specs.Marks.{has_parent, has_name, has_linkage, has_next, is_near, is_aside};
+ghost use Rattle.index_model.specs.Marks.{has_parent, has_name, has_linkage, has_next, is_near, is_aside, has_strings};
 
 use crate::bits::{bit, is_set};
 
@@ -17,6 +17,8 @@ const NEAR: u8 = 16;
 
 const ASIDE: u8 = 32;
 
+const STRINGS: u8 = 64;
+
 /// Which numbers of a leaf say something: all others are 0.
 #[derive(Clone, Copy)]
 pub(crate) struct Given {
@@ -25,12 +27,20 @@ pub(crate) struct Given {
 
 impl Given {
     /// Of a leaf that stands for a node by itself.
-    pub fn of(parent: bool, name: bool, linkage: bool, next: bool, near: bool) -> Given
+    pub fn of(
+        parent: bool,
+        name: bool,
+        linkage: bool,
+        next: bool,
+        near: bool,
+        strings: bool,
+    ) -> Given
         ensures parent { has_parent result ≡ parent }
         ensures name { has_name result ≡ name }
         ensures linkage { has_linkage result ≡ linkage }
         ensures next { has_next result ≡ next }
         ensures near { is_near result ≡ near }
+        ensures strings { has_strings result ≡ strings }
         ensures aside { is_aside result ≡ false }
     {
         Given {
@@ -38,7 +48,8 @@ impl Given {
                 | bit(name, NAME)
                 | bit(linkage, LINKAGE)
                 | bit(next, NEXT)
-                | bit(near, NEAR),
+                | bit(near, NEAR)
+                | bit(strings, STRINGS),
         }
     }
 
@@ -78,6 +89,13 @@ impl Given {
         ensures { result ≡ is_near self }
     {
         is_set(self.bits, NEAR)
+    }
+
+    /// Whether its texts are strings of `.debug_str`.
+    pub fn strings(self) -> bool
+        ensures { result ≡ has_strings self }
+    {
+        is_set(self.bits, STRINGS)
     }
 
     /// Whether the node is kept whole, aside.

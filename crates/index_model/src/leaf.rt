@@ -3,11 +3,11 @@
 ghost use Rattle.std.specs.Prelude.{◌≡◌, true, if◌then◌else◌, Some, None, option_map};
 ghost use Rattle.index_model.specs.Marks.{has_parent, has_name, has_linkage, has_next, is_near, is_aside};
 ghost use Rattle.index_model.specs.NodeSeen.{node_seen};
-ghost use Rattle.index_model.specs.Leaves.{leaf_seen, text_at};
+ghost use Rattle.index_model.specs.Leaves.{leaf_seen, leaf_text};
 
 use crate::given::Given;
 use crate::marks::NodeFlags;
-use crate::place::text_at;
+use crate::place::{TextBytes, string_of, text_at};
 use crate::shard::{Next, Node};
 
 /// A node whose numbers are small, whose texts stand in the file, and that has no addresses and no signature; or where
@@ -18,9 +18,9 @@ pub(crate) struct Leaf {
     pub offset: u32,
     pub unit: u32,
     pub parent: u32,
-    /// Where the name begins in the file.
+    /// Where the name begins in the file, or in `.debug_str`.
     pub name: u32,
-    /// Where the linkage name begins in the file.
+    /// Where the linkage name begins there.
     pub linkage: u32,
     /// What the reference to the next one names.
     pub next: u32,
@@ -56,8 +56,8 @@ impl Leaf {
 
     /// The node for which a leaf stands by itself.
     #[tactic(auto, unfolding(crate::specs::Leaves::leaf_seen))]
-    pub fn node<'f>(&self, file: &'f [u8]) -> Node<'f>
-        ensures { node_seen result ≡ leaf_seen file.now self.now }
+    pub fn node<'f>(&self, bytes: TextBytes<'f>) -> Node<'f>
+        ensures { node_seen result ≡ leaf_seen bytes.entry self.now }
     {
         Node {
             unit: self.unit,
@@ -70,8 +70,8 @@ impl Leaf {
             main: self.marks.main(),
             address: self.marks.address(),
             value: self.marks.value(),
-            name: self.name(file),
-            linkage: self.linkage(file),
+            name: self.name(bytes),
+            linkage: self.linkage(bytes),
             next: self.next(),
             signature: None,
             low: None,
@@ -90,23 +90,34 @@ impl Leaf {
         }
     }
 
-    fn name<'f>(&self, file: &'f [u8]) -> Option<&'f [u8]>
-        ensures { option_map (λ t. t.now) result ≡ (if has_name self.now.given then text_at file.now self.now.name self.now.name_length else None) }
+    fn name<'f>(&self, bytes: TextBytes<'f>) -> Option<&'f [u8]>
+        ensures { option_map (λ t. t.now) result ≡ (if has_name self.now.given then leaf_text bytes.entry self.now self.now.name self.now.name_length else None) }
     {
         if self.given.name() {
-            text_at(file, self.name, self.name_length)
+            self.text(bytes, self.name, self.name_length)
         } else {
             None
         }
     }
 
-    fn linkage<'f>(&self, file: &'f [u8]) -> Option<&'f [u8]>
-        ensures { option_map (λ t. t.now) result ≡ (if has_linkage self.now.given then text_at file.now self.now.linkage self.now.linkage_length else None) }
+    fn linkage<'f>(&self, bytes: TextBytes<'f>) -> Option<&'f [u8]>
+        ensures { option_map (λ t. t.now) result ≡ (if has_linkage self.now.given then leaf_text bytes.entry self.now self.now.linkage self.now.linkage_length else None) }
     {
         if self.given.linkage() {
-            text_at(file, self.linkage, self.linkage_length)
+            self.text(bytes, self.linkage, self.linkage_length)
         } else {
             None
+        }
+    }
+
+    // The text at a place, which has this length if it isn't a string of `.debug_str`.
+    fn text<'f>(&self, bytes: TextBytes<'f>, at: u32, length: u16) -> Option<&'f [u8]>
+        ensures { option_map (λ t. t.now) result ≡ leaf_text bytes.entry self.now at length }
+    {
+        if self.given.strings() {
+            string_of(bytes.strings, at)
+        } else {
+            text_at(bytes.file, at, length)
         }
     }
 

@@ -4,7 +4,7 @@ ghost use Rattle.std.specs.Prelude.{◌≡◌};
 ghost use Rattle.index_model.specs.Marks.{is_declaration, is_external, is_enum_class, is_main, has_address, has_value};
 
 use crate::bits::{bit, is_set};
-use crate::shard::Node;
+use crate::small_node::OwnFacts;
 
 const DECLARATION: u8 = 1;
 
@@ -32,22 +32,22 @@ impl NodeFlags {
         NodeFlags { bits: 0 }
     }
 
-    /// The marks of a node.
-    pub fn of(node: &Node<'_>) -> NodeFlags
-        ensures declaration { is_declaration result ≡ node.now.declaration }
-        ensures external { is_external result ≡ node.now.external }
-        ensures enum_class { is_enum_class result ≡ node.now.enum_class }
-        ensures main { is_main result ≡ node.now.main }
-        ensures address { has_address result ≡ node.now.address }
-        ensures value { has_value result ≡ node.now.value }
+    /// The marks of an entry that says this.
+    pub fn of(own: OwnFacts) -> NodeFlags
+        ensures declaration { is_declaration result ≡ own.declaration }
+        ensures external { is_external result ≡ own.external }
+        ensures enum_class { is_enum_class result ≡ own.enum_class }
+        ensures main { is_main result ≡ own.main }
+        ensures address { has_address result ≡ own.address }
+        ensures value { has_value result ≡ own.value }
     {
         NodeFlags {
-            bits: bit(node.declaration, DECLARATION)
-                | bit(node.external, EXTERNAL)
-                | bit(node.enum_class, ENUM_CLASS)
-                | bit(node.main, MAIN)
-                | bit(node.address, ADDRESS)
-                | bit(node.value, VALUE),
+            bits: bit(own.declaration, DECLARATION)
+                | bit(own.external, EXTERNAL)
+                | bit(own.enum_class, ENUM_CLASS)
+                | bit(own.main, MAIN)
+                | bit(own.address, ADDRESS)
+                | bit(own.value, VALUE),
         }
     }
 

@@ -1,30 +1,22 @@
 //! The nodes of a shard, small.
 //!
 //! There are millions of nodes, and most have small numbers and no addresses. So 32 bytes are kept of each, with its texts by
-//! where they stand in the file, and a node of which they can't say all lies aside, whole.
+//! where they stand, and a node of which they can't say all lies aside, whole.
 
-ghost use Rattle.std.specs.Prelude.{◌≡◌, ◌++◌, ◌∷◌, [], length, slice_get, option_map, OnOk};
-ghost use Rattle.index_model.specs.NodeSeen.{node_seen};
+ghost use Rattle.std.specs.Prelude.{◌≡◌, true, All, IfSome, length, map, slice_get, option_map};
+ghost use Rattle.index_model.specs.Leaves.{unpacked, IsInside};
+ghost use Rattle.index_model.specs.NodeSeen.{node_seen, IsDeclaredIn};
 
 use crate::leaf::Leaf;
-use crate::packing::packed;
+use crate::place::TextBytes;
 use crate::shard::Node;
-use crate::unpacking::{offset_of, tag_of, unit_of, unpacked};
-use ix_base::NoMemory;
-use std::alloc::Global;
+use crate::unpacking::{is_declared_in, offset_of, tag_of, unit_of, unpacked};
 use std::marker::Model;
-
-/// Where in the file the texts of a node are thought to stand. Nothing rests on it but how few bytes the node takes.
-#[derive(Clone, Copy)]
-pub struct Places {
-    pub name: u64,
-    pub linkage: u64,
-}
 
 /// Nodes, in the order in which they were added. Contracts see them as a list, each with the bytes of its texts.
 #[derive(Drop)]
 pub struct Nodes<'f> {
-    file: &'f [u8],
+    bytes: TextBytes<'f>,
     // One of each node.
     leaves: Vec<Leaf>,
     // The nodes that lie aside.
@@ -38,37 +30,22 @@ impl<'f> Model for Nodes<'f> {
 
     ghost Value = { List NodeSeen };
 
-    ghost view = { λ n. map (unpacked n.file.now n.whole.items) n.leaves.items };
+    ghost view = { λ n. map (unpacked n.bytes n.whole.items) n.leaves.items };
 
     ghost invariant = { λ n. All (IsInside n.whole.items) n.leaves.items };
 }
 
 impl<'f> Nodes<'f> {
-    /// No nodes of this file.
-    pub fn new(alloc: Global, file: &'f [u8]) -> Nodes<'f>
-        ensures { result ≡ [] }
+    // Those of these leaves.
+    pub(crate) fn of(bytes: TextBytes<'f>, whole: Vec<Node<'f>>, leaves: Vec<Leaf>) -> Nodes<'f>
+        requires { All (IsInside whole.items) leaves.items }
+        ensures { result ≡ map (unpacked bytes.entry whole.entry.items) leaves.items }
     {
         Nodes {
-            file,
-            leaves: Vec::new(alloc),
-            whole: Vec::new(alloc),
+            bytes,
+            leaves,
+            whole,
         }
-    }
-
-    #[tactic(auto, using(crate::proofs::LeafLaws::added_alone, crate::proofs::LeafLaws::added_aside))]
-    /// Adds a node behind the others. It takes 32 bytes where its texts stand at their places, its numbers are small, and
-    /// it has no addresses and no signature; else it takes many more.
-    pub fn push(&mut self, node: &Node<'f>, places: Places) -> Result<(), NoMemory>
-        ensures { OnOk result (self.new ≡ self.old ++ node_seen node.now ∷ []) }
-    {
-        if let Some(leaf) = packed(self.file, node, places) {
-            self.leaves.push(leaf)?;
-        } else {
-            let index = u32::try_from(self.whole.len()).map_err(|_| NoMemory)?;
-            self.whole.push(*node)?;
-            self.leaves.push(Leaf::aside(index))?;
-        }
-        Ok(())
     }
 
     /// How many nodes there are.
@@ -83,7 +60,19 @@ impl<'f> Nodes<'f> {
         ensures { option_map node_seen result ≡ slice_get self.now index }
     {
         let leaf = self.leaves.get(index)?;
-        Some(unpacked(self.file, &self.whole, leaf))
+        Some(unpacked(self.bytes, &self.whole, leaf))
+    }
+
+    /// Whether a few looks tell that the node with this index is that of a declaration inside the entry at a joint offset, which
+    /// refers to no other entry. There are many, and no index lists them.
+    #[inline(always)]
+    pub fn is_declared_in(&self, index: usize, parent: u64) -> bool
+        ensures { result ≡ true → IfSome (slice_get self.now index) (IsDeclaredIn parent) }
+    {
+        match self.leaves.get(index) {
+            Some(leaf) => is_declared_in(leaf, parent),
+            None => false,
+        }
     }
 
     /// The joint offset of the node with this index.

@@ -1,7 +1,18 @@
 //! Where a text stands in the file.
 
-ghost use Rattle.std.specs.Prelude.{◌≡◌, IfSome, IsSome, option_map};
-ghost use Rattle.index_model.specs.Leaves.{StandsAt, text_at, text_of};
+ghost use Rattle.std.specs.Prelude.{◌≡◌, IfSome, IsSome, drop, option_map};
+ghost use Rattle.index_model.specs.Meaning.{value_of};
+ghost use Rattle.index_model.specs.Strings.{bounded, some_text};
+ghost use Rattle.index_model.specs.Leaves.{StandsAt, string_of, text_at, text_of};
+
+use ix_base::{Cursor, MAX_STRING};
+
+/// The bytes in which texts stand: those of a file, and its section `.debug_str`.
+#[derive(Clone, Copy)]
+pub struct TextBytes<'f> {
+    pub file: &'f [u8],
+    pub strings: &'f [u8],
+}
 
 /// Where a text stands in the file, if there is one.
 #[derive(Clone, Copy)]
@@ -44,4 +55,33 @@ pub(crate) fn text_at(file: &[u8], at: u32, length: u16) -> Option<&[u8]>
 {
     let from = at as usize;
     file.get(from..from + length as usize)
+}
+
+/// The string that begins at an offset of `.debug_str`, if a zero ends it and it isn't too long. An empty one is none.
+#[tactic(auto, unfolding(crate::specs::Strings::string_at))]
+pub(crate) fn string_of(strings: &[u8], at: u32) -> Option<&[u8]>
+    ensures { option_map (λ t. t.now) result ≡ string_of strings.now at }
+{
+    let text = cursor_at(strings, at as usize).zstr()?;
+    within_limit(text)
+}
+
+// A cursor at an offset. Behind the end there is nothing to read.
+fn cursor_at(strings: &[u8], at: usize) -> Cursor<'_>
+    ensures { result.rest ≡ drop at strings.now }
+{
+    let at = at.min(strings.len());
+    Cursor::new(strings, at)
+}
+
+// A string within the limit. An empty one is no text.
+#[tactic(auto, unfolding(crate::specs::Strings::bounded))]
+fn within_limit(text: &[u8]) -> Option<&[u8]>
+    ensures { option_map (λ t. t.now) result ≡ some_text (value_of (bounded text.now)) }
+{
+    if text.len() as u64 > MAX_STRING || text.is_empty() {
+        None
+    } else {
+        Some(text)
+    }
 }

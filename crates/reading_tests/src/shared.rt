@@ -1,6 +1,9 @@
 //! index_model: what shards say of parents and languages.
 
-use index_model::{Import, List, Node, Nodes, Places, Root, Shard, Span, Spans, Text, language};
+use index_model::{
+    Import, List, Node, NodesSoFar, OwnFacts, Places, Root, Shard, SmallNode, Span, Spans, Text,
+    TextBytes, language,
+};
 use std::alloc::{AllocError, Global};
 use std::sync::Arc;
 use std::test::Fail;
@@ -33,6 +36,66 @@ fn span(entry: u64, depth: u32, from: u64, to: u64) -> Span {
     }
 }
 
+// No nodes of a file of which nothing is kept but two strings.
+fn no_nodes(alloc: Global) -> NodesSoFar<'static> {
+    let bytes = TextBytes {
+        file: &[],
+        strings: b"main\0add\0",
+    };
+    NodesSoFar::new(alloc, bytes)
+}
+
+// A node of a declaration, by the offsets of its texts.
+fn small_node(name: u64, linkage: u64) -> SmallNode {
+    SmallNode {
+        unit: 0,
+        offset: 0xb,
+        parent: None,
+        tag: 0x2e,
+        own: OwnFacts {
+            declaration: true,
+            external: false,
+            enum_class: false,
+            main: false,
+            address: false,
+            value: false,
+        },
+        name: Some(name),
+        linkage: Some(linkage),
+        next: None,
+    }
+}
+
+// Whether the small node was added, and its texts.
+fn small_texts(
+    alloc: Global,
+    small: &SmallNode,
+) -> Result<(bool, [Option<&'static [u8]>; 2]), Fail> {
+    let mut own = no_nodes(alloc);
+    let added = own.push_small(small)?;
+    let texts = match own.finish().get(0) {
+        Some(node) => [node.name, node.linkage],
+        None => [None; 2],
+    };
+    Ok((added, texts))
+}
+
+#[test]
+fn a_small_nodes_texts_are_strings(rt: HostRuntime) -> Result<(), Fail> {
+    let strings: [Option<&'static [u8]>; 2] = [Some(b"main"), Some(b"add")];
+    assert_eq!(rt;
+        small_texts(rt.alloc(), &small_node(0, 5))?,
+        (true, strings)
+    );
+    let behind: [Option<&'static [u8]>; 2] = [Some(b"dd"), None];
+    assert_eq!(rt; small_texts(rt.alloc(), &small_node(6, 9))?, (true, behind));
+    assert_eq!(rt;
+        small_texts(rt.alloc(), &small_node(1 << 32, 5))?,
+        (false, [None; 2])
+    );
+    Ok(())
+}
+
 // The parents at three places in a shard of the third unit with these spans.
 fn parents(alloc: Global, spans: &[Span]) -> Result<[Option<u64>; 3], Fail> {
     let mut own = Spans::new(alloc);
@@ -42,7 +105,7 @@ fn parents(alloc: Global, spans: &[Span]) -> Result<[Option<u64>; 3], Fail> {
     let shard = Shard {
         first: 2,
         roots: List::of(Vec::new(alloc)),
-        nodes: Nodes::new(alloc, &[]),
+        nodes: no_nodes(alloc).finish(),
         spans: own,
         imports: List::of(Vec::new(alloc)),
     };
@@ -106,7 +169,7 @@ fn shard(
     imports: &[Import],
 ) -> Result<Shard<'static>, Fail> {
     let roots = list(alloc, roots)?;
-    let mut own = Nodes::new(alloc, &[]);
+    let mut own = no_nodes(alloc);
     for node in nodes {
         own.push(
             node,
@@ -120,7 +183,7 @@ fn shard(
     Ok(Shard {
         first: 0,
         roots,
-        nodes: own,
+        nodes: own.finish(),
         spans: Spans::new(alloc),
         imports,
     })

@@ -28,3 +28,4 @@ mod UnitRead
 pub mod MapLaws
 mod UnkeptLaws
 pub mod WalkOfUnit
+mod SmallLaws

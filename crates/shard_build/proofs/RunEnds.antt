@@ -17,6 +17,7 @@ use Rattle.index_model.specs.Abbreviations.{table}
 use Rattle.index_model.specs.Meaning.{each, fault, some_or}
 use Rattle.index_model.specs.Program.{Walked, walked}
 use Rattle.index_model.specs.Sections.{Section, section_bytes}
+use Rattle.index_model.specs.Strings.{str}
 use Rattle.index_model.specs.Shards.{first_number}
 use Rattle.shard_build.specs.declared.run.ShardSoFar.{ShardSoFar}
 use Rattle.shard_build.specs.Runs.{Holds, HoldsOneMore}
@@ -133,13 +134,13 @@ module _ (ss : List Section) (us : List UnitHeader) (first count : ℕ) (fits : 
           subst (λ (n : ℕ). first_number front n) number (first_of ss x xs front (sym (ap (each (scanned ss)) same) ∙ is))
 
   -- before the first unit nothing is kept
-  pub so_far_none : (r : ShardSoFar) → r.roots.items ≡ [] → r.kept.nodes ≡ [] → r.kept.spans ≡ [] → r.kept.imports.items ≡ [] → SoFar ss us first first r
-  so_far_none r roots nodes spans imports =
+  pub so_far_none : (r : ShardSoFar) → r.roots.items ≡ [] → r.kept.nodes.nodes ≡ [] → r.kept.nodes.strings ≡ str ss → r.kept.spans ≡ [] → r.kept.imports.items ≡ [] → SoFar ss us first first r
+  so_far_none r roots nodes strings spans imports =
       let zero_units : first - first ≡ 0 = omega arith in
       record {
         front = [];
         read = ap (λ (n : ℕ). each (scanned ss) (take n all)) zero_units;
-        holds = record { roots = roots; nodes = rw nodes tt; spans = spans; imports = imports };
+        holds = record { roots = roots; nodes = rw nodes tt; strings = strings; spans = spans; imports = imports };
       }
 
   -- one unit more

@@ -31,16 +31,17 @@ flat_push f ws w = flat_map-append f ws (w ∷ []) ∙ ap (λ (xs : List _). fla
 kept_push : (ws : List Walked) (w : Walked) → kept_in (ws ++ w ∷ []) ≡ kept_in ws ++ filter (λ d. is_kept d.home d.item) (located w)
 kept_push ws w = ap (filter (λ (d : Located). is_kept d.home d.item)) (flat_push located ws w) ∙ filter-append (λ (d : Located). is_kept d.home d.item) (flat_map located ws) (located w)
 
-module _ (ss : List Section) (old new : ShardSoFar) (w : Walked) (b : Behind) (nodes : b.nodes ≡ old.kept.nodes) (spans : b.spans ≡ old.kept.spans) (imports : b.imports ≡ old.kept.imports.items) where
+module _ (ss : List Section) (old new : ShardSoFar) (w : Walked) (b : Behind) (nodes : b.nodes ≡ old.kept.nodes.nodes) (same_strings : new.kept.nodes.strings ≡ old.kept.nodes.strings) (spans : b.spans ≡ old.kept.spans) (imports : b.imports ≡ old.kept.imports.items) where
   -- the run holds what the unit adds
   pub holds_more : Adds ss b (kept_seen new.kept) w → new.roots.items ≡ old.roots.items ++ new.kept.frame.root ∷ [] → HoldsOneMore ss old new w
   holds_more a roots ws h = record {
     roots = roots ∙ ap (λ (r : Root). old.roots.items ++ r ∷ []) a.root ∙ ap (λ (rs : List Root). rs ++ root_facts w ∷ []) h.roots ∙ sym (map-append root_facts ws (w ∷ []));
     nodes =
-        let all : new.kept.nodes ≡ old.kept.nodes ++ a.more = a.nodes ∙ ap (λ (ns : List NodeSeen). ns ++ a.more) nodes in
-        let zipped : AllZip (IsSeenOf ss) (old.kept.nodes ++ a.more) (kept_in ws ++ filter (λ d. is_kept d.home d.item) (located w)) =
-        zip_append (IsSeenOf ss) old.kept.nodes a.more (kept_in ws) (filter (λ d. is_kept d.home d.item) (located w)) h.nodes a.are_nodes in
-        subst (λ (ds : List Located). AllZip (IsSeenOf ss) new.kept.nodes ds) (sym (kept_push ws w)) (subst (λ (ns : List NodeSeen). AllZip (IsSeenOf ss) ns (kept_in ws ++ filter (λ d. is_kept d.home d.item) (located w))) (sym all) zipped);
+        let all : new.kept.nodes.nodes ≡ old.kept.nodes.nodes ++ a.more = a.nodes ∙ ap (λ (ns : List NodeSeen). ns ++ a.more) nodes in
+        let zipped : AllZip (IsSeenOf ss) (old.kept.nodes.nodes ++ a.more) (kept_in ws ++ filter (λ d. is_kept d.home d.item) (located w)) =
+        zip_append (IsSeenOf ss) old.kept.nodes.nodes a.more (kept_in ws) (filter (λ d. is_kept d.home d.item) (located w)) h.nodes a.are_nodes in
+        subst (λ (ds : List Located). AllZip (IsSeenOf ss) new.kept.nodes.nodes ds) (sym (kept_push ws w)) (subst (λ (ns : List NodeSeen). AllZip (IsSeenOf ss) ns (kept_in ws ++ filter (λ d. is_kept d.home d.item) (located w))) (sym all) zipped);
+    strings = same_strings ∙ h.strings;
     spans = a.spans ∙ ap (λ (xs : List Span). xs ++ spans_of w) (spans ∙ h.spans) ∙ sym (flat_push spans_of ws w);
     imports = a.imports ∙ ap (λ (xs : List Import). xs ++ imports_in ss w) (imports ∙ h.imports) ∙ sym (flat_push (imports_in ss) ws w);
   }

@@ -33,7 +33,7 @@ pub record Behind : Type 0 where
 
 -- what a scan has kept
 abbrev pub kept_seen : ItemsSoFar → Behind
-kept_seen k = record { frame = k.frame; opened = reverse k.opened.items; nodes = k.nodes; spans = k.spans; imports = k.imports.items }
+kept_seen k = record { frame = k.frame; opened = reverse k.opened.items; nodes = k.nodes.nodes; spans = k.spans; imports = k.imports.items }
 
 -- ---- the entry in whose children the next one stands
 

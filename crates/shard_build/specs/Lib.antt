@@ -7,3 +7,4 @@ pub mod Entries
 pub mod Found
 pub mod Again
 pub mod Unkept
+pub mod Small

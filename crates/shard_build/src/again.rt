@@ -18,7 +18,7 @@ use crate::facts;
 use crate::home::UnitInFile;
 use crate::text_places::TextPlaces;
 use entry_scan::{Abbrevs, Item, Walk, item_at};
-use index_model::{Node, Nodes, Span};
+use index_model::{Node, Nodes, NodesSoFar, Span, TextBytes};
 use ix_base::NoMemory;
 use std::alloc::Global;
 
@@ -59,7 +59,8 @@ impl<'s, 'f> UnitInFile<'s, 'f> {
     {
         let base = self.str_offsets_base(abbrevs);
         let places = TextPlaces::of(file);
-        let mut nodes = Nodes::new(alloc, file);
+        let bytes = TextBytes { file, strings: &[] };
+        let mut nodes = NodesSoFar::new(alloc, bytes);
         let mut above = Above::new(alloc)?;
         let mut walk = Walk::new(self.bytes, &self.unit, abbrevs);
         while let Ok(Some(entry)) = walk.next() {
@@ -67,7 +68,7 @@ impl<'s, 'f> UnitInFile<'s, 'f> {
             nodes.push(&node, places.of_entry(self, base, &entry))?;
             above.pass(&entry);
         }
-        Ok(nodes)
+        Ok(nodes.finish())
     }
 
     // The node of an entry without a fault, whose parent has this joint offset.

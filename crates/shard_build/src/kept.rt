@@ -2,17 +2,18 @@
 
 ghost use Rattle.std.specs.Prelude.{◌≡◌, ◌+◌, ◌<◌, ◌^◌, ◌++◌, ◌∷◌, [], ℕ, length, reverse, OnOk};
 ghost use Rattle.index_model.specs.Gives.{Gives};
+ghost use Rattle.index_model.specs.Strings.{str};
 ghost use Rattle.shard_build.specs.Kept.{has_node, is_visited_in, node_by, nodes_added, with_texts, spans_by, opened_by, imports_by};
 ghost use Rattle.shard_build.specs.Texts.{HoldsTexts};
 
 use crate::frame::UnitFacts;
 use crate::home::UnitInFile;
-use crate::open::{Open, role_of};
+use crate::open::{Open, offset_of, role_of};
 use crate::text_places::TextPlaces;
 use crate::texts::TextOffsets;
 use entry_rules::in_table;
 use entry_scan::Item;
-use index_model::{Import, Nodes, Spans};
+use index_model::{Import, NodesSoFar, Spans};
 use ix_base::{NoMemory, Stop};
 
 /// What is kept of the entries of a run behind some of its tokens.
@@ -22,7 +23,7 @@ pub(crate) struct ItemsSoFar<'f> {
     pub frame: UnitFacts,
     // Its entries whose children are still to come, the outermost first.
     pub opened: Vec<Open>,
-    pub nodes: Nodes<'f>,
+    pub nodes: NodesSoFar<'f>,
     pub spans: Spans,
     pub imports: Vec<Import>,
     // Where texts stand in the file.
@@ -32,7 +33,7 @@ pub(crate) struct ItemsSoFar<'f> {
 // Adds the node of an entry that has one. The texts of others are tested alone.
 #[tactic(auto, unfolding(crate::specs::Kept::nodes_by))]
 pub(crate) fn add_node<'f>(
-    nodes: &mut Nodes<'f>,
+    nodes: &mut NodesSoFar<'f>,
     places: &mut TextPlaces,
     home: &UnitInFile<'_, 'f>,
     frame: &UnitFacts,
@@ -42,7 +43,9 @@ pub(crate) fn add_node<'f>(
 ) -> Result<(), Stop>
     requires texts { HoldsTexts home.now.bytes.now home.now.unit entry.now }
     requires visited { visited ≡ is_visited_in outer frame.now.ada }
-    ensures { Gives (λ _. nodes.new) result (nodes_added home.now.sections.now (home.now.number, home.now.unit) frame.now outer nodes.old entry.now) }
+    requires strings { nodes.old.strings ≡ str home.now.sections.now }
+    ensures value { Gives (λ _. nodes.new.nodes) result (nodes_added home.now.sections.now (home.now.number, home.now.unit) frame.now outer nodes.old.nodes entry.now) }
+    ensures strings { OnOk result (nodes.new.strings ≡ nodes.old.strings) }
 {
     let base = frame.str_offsets_base;
     if has_node(home, frame, outer, visited, entry) {
@@ -69,17 +72,24 @@ fn has_node(
 
 // Adds the node of an entry, with its texts.
 fn add_node_with_texts<'f>(
-    nodes: &mut Nodes<'f>,
+    nodes: &mut NodesSoFar<'f>,
     places: &mut TextPlaces,
     home: &UnitInFile<'_, 'f>,
     base: Option<u64>,
     outer: Option<Open>,
     entry: &Item<'_>,
 ) -> Result<(), Stop>
-    requires { HoldsTexts home.now.bytes.now home.now.unit entry.now }
-    ensures { Gives (λ _. nodes.new) result (with_texts home.now.sections.now (home.now.number, home.now.unit) base entry.now (λ t. nodes.old ++ node_by home.now.sections.now (home.now.number, home.now.unit) outer entry.now t ∷ [])) }
+    requires texts { HoldsTexts home.now.bytes.now home.now.unit entry.now }
+    requires strings { nodes.old.strings ≡ str home.now.sections.now }
+    ensures value { Gives (λ _. nodes.new.nodes) result (with_texts home.now.sections.now (home.now.number, home.now.unit) base entry.now (λ t. nodes.old.nodes ++ node_by home.now.sections.now (home.now.number, home.now.unit) outer entry.now t ∷ [])) }
+    ensures strings { OnOk result (nodes.new.strings ≡ nodes.old.strings) }
 {
     let offsets = TextOffsets::of(entry);
+    if let Some(small) = home.small_node(offset_of(outer), entry, &offsets) {
+        if nodes.push_small(&small)? {
+            return Ok(());
+        }
+    }
     let texts = home.texts_at(base, entry, &offsets)?;
     places.count(&texts)?;
     let node = home.node(outer, entry, texts);

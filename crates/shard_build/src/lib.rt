@@ -14,6 +14,7 @@ mod kept;
 mod open;
 mod run;
 mod shard;
+mod small;
 mod tables;
 mod text_places;
 mod texts;

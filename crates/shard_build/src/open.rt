@@ -1,6 +1,6 @@
 //! Entries whose children are still to come.
 
-ghost use Rattle.std.specs.Prelude.{◌≡◌, reverse};
+ghost use Rattle.std.specs.Prelude.{◌≡◌, option_map, reverse};
 ghost use Rattle.shard_build.specs.Kept.{innermost, is_visited_in, role_of};
 
 use entry_rules::visited;
@@ -22,6 +22,16 @@ pub(crate) fn innermost(opened: &Vec<Open>) -> Option<Open>
     ensures { result ≡ innermost (reverse opened.now.items) }
 {
     opened.last().copied()
+}
+
+/// The joint offset of an open entry, if there is one.
+pub(crate) fn offset_of(outer: Option<Open>) -> Option<u64>
+    ensures { result ≡ option_map (λ o. o.at) outer }
+{
+    match outer {
+        None => None,
+        Some(open) => Some(open.at),
+    }
 }
 
 /// Whether an entry with this lexical parent is visited. A root has none.

@@ -7,6 +7,7 @@ ghost use Rattle.index_model.specs.Gives.{GivesFor};
 ghost use Rattle.index_model.specs.Program.{Walked};
 ghost use Rattle.index_model.specs.Sections.{Section, section_bytes};
 ghost use Rattle.index_model.specs.Shards.{StandsFor, first_number};
+ghost use Rattle.index_model.specs.Strings.{str};
 ghost use Rattle.file_image.specs.Images.{unit_bytes};
 ghost use Rattle.shard_build.specs.Runs.{Holds, HoldsOneMore};
 
@@ -15,7 +16,7 @@ use crate::home::UnitInFile;
 use crate::kept::ItemsSoFar;
 use crate::text_places::TextPlaces;
 use entry_scan::{Abbrevs, Walk};
-use index_model::{List, Nodes, Root, Shard, Spans};
+use index_model::{List, NodesSoFar, Root, Shard, Spans, TextBytes};
 use ix_base::Stop;
 use std::alloc::Global;
 
@@ -28,9 +29,10 @@ pub(crate) struct ShardSoFar<'f> {
 
 impl<'f> ShardSoFar<'f> {
     /// A run of no units of a file.
-    pub fn new(alloc: Global, file: &'f [u8]) -> ShardSoFar<'f>
+    pub fn new(alloc: Global, bytes: TextBytes<'f>) -> ShardSoFar<'f>
         ensures roots { result.roots.items ≡ [] }
-        ensures nodes { result.kept.nodes ≡ [] }
+        ensures nodes { result.kept.nodes.nodes ≡ [] }
+        ensures strings { result.kept.nodes.strings ≡ bytes.entry.strings.now }
         ensures spans { result.kept.spans ≡ [] }
         ensures imports { result.kept.imports.items ≡ [] }
     {
@@ -39,10 +41,10 @@ impl<'f> ShardSoFar<'f> {
             kept: ItemsSoFar {
                 frame: UnitFacts::blank(),
                 opened: Vec::new(alloc),
-                nodes: Nodes::new(alloc, file),
+                nodes: NodesSoFar::new(alloc, bytes),
                 spans: Spans::new(alloc),
                 imports: Vec::new(alloc),
-                places: TextPlaces::of(file),
+                places: TextPlaces::of(bytes.file),
             },
         }
     }
@@ -54,6 +56,7 @@ impl<'f> ShardSoFar<'f> {
         requires header { home.now.unit.body ≤ length home.now.bytes.now }
         requires small { home.now.unit.start + length home.now.bytes.now < 2 ^ 63 }
         requires ends { home.now.unit.start + home.now.unit.length < 2 ^ 63 }
+        requires strings { self.old.kept.nodes.strings ≡ str home.now.sections.now }
         ensures { GivesFor (λ _ w. HoldsOneMore home.now.sections.now self.old self.new w) result (scanned home.now.sections.now (home.now.number, home.now.unit)) }
     {
         self.kept.frame = UnitFacts::blank();
@@ -80,7 +83,7 @@ impl<'f> ShardSoFar<'f> {
         Shard {
             first,
             roots: List::of(roots),
-            nodes,
+            nodes: nodes.finish(),
             spans,
             imports: List::of(imports),
         }

@@ -7,6 +7,7 @@ ghost use Rattle.index_model.specs.Gives.{GivesFor};
 ghost use Rattle.index_model.specs.Meaning.{each};
 ghost use Rattle.index_model.specs.Sections.{section_bytes};
 ghost use Rattle.index_model.specs.Shards.{StandsFor};
+ghost use Rattle.index_model.specs.Strings.{str};
 ghost use Rattle.index_model.specs.declared.unit.Unit.{Unit as UnitHeader};
 ghost use Rattle.shard_build.specs.Runs.{HoldsOneMore, AreAtOffsets};
 
@@ -15,7 +16,7 @@ use crate::run::ShardSoFar;
 use crate::tables::Tables;
 use entry_scan::AbbrevTable;
 use file_image::Image;
-use index_model::Shard;
+use index_model::{Shard, TextBytes};
 use ix_base::Stop;
 use std::alloc::Global;
 
@@ -31,7 +32,11 @@ pub fn scan<'f>(alloc: Global, image: &Image<'f>, first: u32, count: u32) -> Res
 {
     // There are at most `MAX_UNITS` of them, so their numbers don't wrap.
     let units = &image.units()[first as usize..(first + count) as usize];
-    let mut run = ShardSoFar::new(alloc, image.file());
+    let bytes = TextBytes {
+        file: image.file(),
+        strings: image.sections().debug_str(),
+    };
+    let mut run = ShardSoFar::new(alloc, bytes);
     let mut tables = Tables::new(alloc, units, image.sections().debug_abbrev().len())?;
     for number in first..first + count {
         add_unit(alloc, image, number, &mut run, &mut tables)?;
@@ -48,6 +53,7 @@ fn add_unit<'f>(
     tables: &mut Tables,
 ) -> Result<(), Stop>
     requires within { number < length image.now.units }
+    requires strings { run.old.kept.nodes.strings ≡ str image.now.sections }
     requires tables { AreAtOffsets (section_bytes image.now.sections (codes ".debug_abbrev")) tables.old.kept }
     ensures value { (u : UnitHeader) → slice_get image.now.units number ≡ Some u → GivesFor (λ _ w. HoldsOneMore image.now.sections run.old run.new w) result (scanned image.now.sections (number, u)) }
     ensures tables { OnOk result (AreAtOffsets (section_bytes image.now.sections (codes ".debug_abbrev")) tables.new.kept) }

@@ -4,6 +4,7 @@ ghost use Rattle.std.specs.Prelude.{◌≡◌, ◌+◌, ◌<◌, ◌^◌, Contai
 ghost use Rattle.ix_base.specs.declared.fault.Fault.{Fault as FaultOf};
 ghost use Rattle.entry_scan.specs.Tokens.{token_seen};
 ghost use Rattle.index_model.specs.Gives.{Gives, GivesAlways};
+ghost use Rattle.index_model.specs.Strings.{str};
 ghost use Rattle.index_model.specs.Walk.{Item as EntryOf, items};
 ghost use Rattle.shard_build.specs.Kept.{kept_seen, entered, with_others, closed, behind};
 ghost use Rattle.shard_build.specs.Texts.{HoldsTexts};
@@ -21,7 +22,9 @@ impl<'f> ItemsSoFar<'f> {
     fn enter(&mut self, home: &UnitInFile<'_, 'f>, entry: &Item<'_>) -> Result<(), Stop>
         requires small { home.now.unit.start + home.now.unit.length < 2 ^ 63 }
         requires texts { HoldsTexts home.now.bytes.now home.now.unit entry.now }
-        ensures { Gives (λ _. kept_seen self.new) result (entered home.now.sections.now (home.now.number, home.now.unit) (kept_seen self.old) entry.now) }
+        requires strings { self.old.nodes.strings ≡ str home.now.sections.now }
+        ensures strings { OnOk result (self.new.nodes.strings ≡ self.old.nodes.strings) }
+        ensures value { Gives (λ _. kept_seen self.new) result (entered home.now.sections.now (home.now.number, home.now.unit) (kept_seen self.old) entry.now) }
     {
         self.frame.learn(entry);
         let outer = innermost(&self.opened);
@@ -47,7 +50,8 @@ impl<'f> ItemsSoFar<'f> {
         visited: bool,
     ) -> Result<(), NoMemory>
         requires { home.now.unit.start + home.now.unit.length < 2 ^ 63 }
-        ensures { OnOk result (kept_seen self.new ≡ with_others home.now.sections.now (home.now.number, home.now.unit) (kept_seen self.old) entry.now visited) }
+        ensures strings { OnOk result (self.new.nodes.strings ≡ self.old.nodes.strings) }
+        ensures value { OnOk result (kept_seen self.new ≡ with_others home.now.sections.now (home.now.number, home.now.unit) (kept_seen self.old) entry.now visited) }
     {
         open(&mut self.opened, entry, visited, self.spans.len())?;
         add_span(&mut self.spans, home, entry)?;
@@ -56,7 +60,8 @@ impl<'f> ItemsSoFar<'f> {
 
     // Takes in a null, which ends the children of the innermost open entry.
     fn close(&mut self, after: u64) -> Result<(), NoMemory>
-        ensures { OnOk result (kept_seen self.new ≡ closed (kept_seen self.old) (reverse self.old.opened.items) after) }
+        ensures strings { OnOk result (self.new.nodes.strings ≡ self.old.nodes.strings) }
+        ensures value { OnOk result (kept_seen self.new ≡ closed (kept_seen self.old) (reverse self.old.opened.items) after) }
     {
         match self.opened.pop() {
             Some(open) => self.spans.end(open.span, after),
@@ -68,7 +73,9 @@ impl<'f> ItemsSoFar<'f> {
     fn take(&mut self, home: &UnitInFile<'_, 'f>, token: &Token<'_>) -> Result<(), Stop>
         requires small { home.now.unit.start + home.now.unit.length < 2 ^ 63 }
         requires texts { OnEntry (token_seen token.now) (HoldsTexts home.now.bytes.now home.now.unit) }
-        ensures { Gives (λ _. kept_seen self.new) result (behind home.now.sections.now (home.now.number, home.now.unit) (kept_seen self.old) (token_seen token.now)) }
+        requires strings { self.old.nodes.strings ≡ str home.now.sections.now }
+        ensures strings { OnOk result (self.new.nodes.strings ≡ self.old.nodes.strings) }
+        ensures value { Gives (λ _. kept_seen self.new) result (behind home.now.sections.now (home.now.number, home.now.unit) (kept_seen self.old) (token_seen token.now)) }
     {
         match token {
             Token::Null { after, .. } => {
@@ -83,7 +90,9 @@ impl<'f> ItemsSoFar<'f> {
     pub fn walk(&mut self, home: &UnitInFile<'_, 'f>, mut walk: Walk<'_>) -> Result<(), Stop>
         requires small { home.now.unit.start + home.now.unit.length < 2 ^ 63 }
         requires texts { (d : EntryOf) → Contains (items walk) d → HoldsTexts home.now.bytes.now home.now.unit d }
-        ensures { Gives (λ _. kept_seen self.new) result (behind_walk home.now.sections.now (home.now.number, home.now.unit) (kept_seen self.old) walk.entry) }
+        requires strings { self.old.nodes.strings ≡ str home.now.sections.now }
+        ensures strings { OnOk result (self.new.nodes.strings ≡ self.old.nodes.strings) }
+        ensures value { Gives (λ _. kept_seen self.new) result (behind_walk home.now.sections.now (home.now.number, home.now.unit) (kept_seen self.old) walk.entry) }
     {
         let mut place = Token::Null { depth: 0, after: 0 };
         'tokens: while let Some(token) = walk.token()? {

@@ -1,8 +1,9 @@
-use Rattle.std.proofs.Common.{◌≡◌, ℕ, ◌-◌, take, Ok, subst, arith}
+use Rattle.std.proofs.Common.{◌≡◌, ℕ, ◌-◌, take, Ok, ap, subst, arith, ◌∙◌}
 use Rattle.std.proofs.lemmas.Result.{err_from_is_err_and}
 use Rattle.index_model.specs.Faults.{scanned}
 use Rattle.index_model.specs.Gives.{StopsAs}
 use Rattle.index_model.specs.Meaning.{each}
+use Rattle.index_model.specs.Strings.{str}
 use Rattle.shard_build.proofs.RunEnds.{units_from, so_far_none, so_far_more, run_stops, first_is, in_run}
 use Rattle.shard_build.proofs.shard.scan.Goals as goal
 
@@ -11,7 +12,7 @@ loop-number-init c =
     let im = c.args.image.now in
     let new = c.new-run.ensures in
     record {
-      kept = so_far_none im.sections im.units c.args.first c.args.count c.requires c.new-run.result new.roots new.nodes new.spans new.imports;
+      kept = so_far_none im.sections im.units c.args.first c.args.count c.requires c.new-run.result new.roots new.nodes (new.strings ∙ c.debug_str.ensures.value ∙ ap str c.sections.ensures.value) new.spans new.imports;
       tables = c.in_ok-tables.ensures _;
     }
 

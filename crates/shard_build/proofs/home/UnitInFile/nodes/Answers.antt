@@ -1,4 +1,4 @@
-use Rattle.std.proofs.Common.{ℕ, Option, Ok, refl, subst}
+use Rattle.std.proofs.Common.{ℕ, Option, Ok, refl, subst, ap}
 use Rattle.entry_scan.specs.Ahead.{GivesItem}
 use Rattle.entry_scan.specs.declared.item.Item.{Item as Read}
 use Rattle.index_model.specs.declared.unit.Unit.{Unit as UnitHeader}
@@ -22,7 +22,7 @@ node_of_sound-node-requires-clause-texts c =
     let walk = (scanned_walked home.sections.now u w c.requires.sound).0 in
     let d = c.in-Ok-Some.entry in
     let given = subst (λ (o : Option Read). GivesItem c.loop-entry.walk c.next.new.self (Ok o)) c.in-Ok-Some.field-0-is c.in-Ok-Some.ensures.value in
-    holds_texts home.sections.now u w walk home.bytes.now c.requires.own d (is_of_unit home.sections.now w c.loop-entry.nodes c.loop-entry.above.offsets.items c.loop-entry.walk c.loop-entry.invariant d c.next.new.self given.items)
+    holds_texts home.sections.now u w walk home.bytes.now c.requires.own d (is_of_unit home.sections.now w c.loop-entry.nodes.nodes c.loop-entry.above.offsets.items c.loop-entry.walk c.loop-entry.invariant d c.next.new.self given.items)
 
 pub node_of_sound-node-requires-clause-sound : goal.node_of_sound-node-requires-clause-sound
 node_of_sound-node-requires-clause-sound c =
@@ -31,7 +31,7 @@ node_of_sound-node-requires-clause-sound c =
     let w = walk_by home c.args.abbrevs.now in
     let d = c.in-Ok-Some.entry in
     let given = subst (λ (o : Option Read). GivesItem c.loop-entry.walk c.next.new.self (Ok o)) c.in-Ok-Some.field-0-is c.in-Ok-Some.ensures.value in
-    let t = texts_read home.sections.now u w c.requires.sound c.str_offsets_base-base.result c.str_offsets_base-base.ensures home.unit.wide refl d (is_of_unit home.sections.now w c.loop-entry.nodes c.loop-entry.above.offsets.items c.loop-entry.walk c.loop-entry.invariant d c.next.new.self given.items) in
+    let t = texts_read home.sections.now u w c.requires.sound c.str_offsets_base-base.result c.str_offsets_base-base.ensures home.unit.wide refl d (is_of_unit home.sections.now w c.loop-entry.nodes.nodes c.loop-entry.above.offsets.items c.loop-entry.walk c.loop-entry.invariant d c.next.new.self given.items) in
     (t.0, t.2)
 
 pub loop-entry-preserved : goal.loop-entry-preserved
@@ -43,5 +43,5 @@ loop-entry-preserved c =
     let d = c.in-Ok-Some.entry in
     let given = subst (λ (o : Option Read). GivesItem c.loop-entry.walk c.next.new.self (Ok o)) c.in-Ok-Some.field-0-is c.in-Ok-Some.ensures.value in
     let r = c.loop-entry.invariant in
-    let t = texts_read home.sections.now u w c.requires.sound c.str_offsets_base-base.result c.str_offsets_base-base.ensures home.unit.wide refl d (is_of_unit home.sections.now w c.loop-entry.nodes c.loop-entry.above.offsets.items c.loop-entry.walk r d c.next.new.self given.items) in
-    read_one home.sections.now w c.loop-entry.nodes c.loop-entry.above.offsets.items c.loop-entry.walk r d c.next.new.self given.items u walk c.parent.result c.parent.ensures t.0 t.1 _ (c.node_of_sound-node.ensures t.0 t.2) c.push.new.self c.in_ok-push.ensures c.pass.new.self.offsets.items c.pass.ensures
+    let t = texts_read home.sections.now u w c.requires.sound c.str_offsets_base-base.result c.str_offsets_base-base.ensures home.unit.wide refl d (is_of_unit home.sections.now w c.loop-entry.nodes.nodes c.loop-entry.above.offsets.items c.loop-entry.walk r d c.next.new.self given.items) in
+    read_one home.sections.now w c.loop-entry.nodes.nodes c.loop-entry.above.offsets.items c.loop-entry.walk r d c.next.new.self given.items u walk c.parent.result c.parent.ensures t.0 t.1 _ (c.node_of_sound-node.ensures t.0 t.2) c.push.new.self.nodes (ap (λ g. g.nodes) c.in_ok-push.ensures) c.pass.new.self.offsets.items c.pass.ensures

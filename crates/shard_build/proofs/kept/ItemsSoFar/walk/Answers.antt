@@ -18,6 +18,7 @@ tokens-preserved-then-passes c =
     let u : ℕ × UnitHeader = (c.args.home.now.number, c.args.home.now.unit) in
     record {
       same = one_more c.args.home.now.sections.now u (kept_seen c.tokens.self) (kept_seen c.tokens.self) (token_seen c.in-Some.token) c.tokens.walk c.token.new.self first (c.passes.ensures c.if-passes.true) ∙ c.tokens.invariant.same;
+      strings = c.tokens.invariant.strings;
       end = ap (λ (w : Walk). w.end) (sym first) ∙ c.tokens.invariant.end;
       texts = on_others (HoldsTexts c.args.home.now.bytes.now c.args.home.now.unit) (token_seen c.in-Some.token) c.tokens.walk c.token.new.self first c.tokens.invariant.texts;
     }
@@ -27,7 +28,8 @@ tokens-preserved c =
     let first : c.tokens.walk ≡ with_token (token_seen c.in-Some.token) c.token.new.self = search rules in
     let u : ℕ × UnitHeader = (c.args.home.now.number, c.args.home.now.unit) in
     record {
-      same = one_more c.args.home.now.sections.now u (kept_seen c.tokens.self) (kept_seen c.take.new.self) (token_seen c.in-Some.token) c.tokens.walk c.token.new.self first c.in_default-take.ensures ∙ c.tokens.invariant.same;
+      same = one_more c.args.home.now.sections.now u (kept_seen c.tokens.self) (kept_seen c.take.new.self) (token_seen c.in-Some.token) c.tokens.walk c.token.new.self first c.in_default-take.ensures.value ∙ c.tokens.invariant.same;
+      strings = c.in_default-take.ensures.strings ∙ c.tokens.invariant.strings;
       end = ap (λ (w : Walk). w.end) (sym first) ∙ c.tokens.invariant.end;
       texts = on_others (HoldsTexts c.args.home.now.bytes.now c.args.home.now.unit) (token_seen c.in-Some.token) c.tokens.walk c.token.new.self first c.tokens.invariant.texts;
     }

@@ -9,6 +9,7 @@ use Rattle.shard_build.proofs.kept.ItemsSoFar.walk.Given as goal
 abbrev pub invariant-tokens : goal.invariant-tokens
 invariant-tokens l = record {
   same : behind_all l.home.sections.now (l.home.number, l.home.unit) (kept_seen l.self) l.walk.tokens ≡ behind_all l.home.sections.now (l.home.number, l.home.unit) (kept_seen l.initial.self) l.initial.walk.tokens;
+  strings : l.self.nodes.strings ≡ l.initial.self.nodes.strings;
   end : l.walk.end ≡ l.initial.walk.end;
   texts : (d : Item) → Contains (items l.walk) d → HoldsTexts l.home.bytes.now l.home.unit d;
 }

@@ -37,7 +37,7 @@ returns-in_err-walk c =
     let k : ItemsSoFar = record { frame = c.blank-self.result; opened = c.clear.new.self; nodes = c.args.self.now.kept.nodes; spans = c.args.self.now.kept.spans; imports = c.args.self.now.kept.imports; places = c.args.self.now.kept.places } in
     let starts : Starts (kept_seen k) = record { frame = c.blank-self.ensures; opened = ap (λ (os : List Open). reverse os) c.clear.ensures.items } in
     let stop = c.in_err-walk.field-0.0 in
-    let here : StopsAs stop (behind_walk ss u (kept_seen k) (w ss u c.args.abbrevs.now c.requires.table).walk) = subst (λ (x : Walk). StopsAs stop (behind_walk ss u (kept_seen k) x)) walk c.in_err-walk.ensures in
+    let here : StopsAs stop (behind_walk ss u (kept_seen k) (w ss u c.args.abbrevs.now c.requires.table).walk) = subst (λ (x : Walk). StopsAs stop (behind_walk ss u (kept_seen k) x)) walk c.in_err-walk.ensures.value in
     let stops : StopsAs stop (scanned ss u) = unit_stops ss u c.args.abbrevs.now c.requires.table (kept_seen k) starts stop here in
     search rules
 
@@ -50,7 +50,7 @@ returns c =
     let walk : c.new.result ≡ (w ss u c.args.abbrevs.now c.requires.table).walk = c.new.ensures ∙ ap (λ (xs : List ℕ). let i : Input = record { at = unit.start + unit.body; rest = xs } in walk_of unit c.args.abbrevs.now i) rest in
     let k : ItemsSoFar = record { frame = c.blank-self.result; opened = c.clear.new.self; nodes = c.args.self.now.kept.nodes; spans = c.args.self.now.kept.spans; imports = c.args.self.now.kept.imports; places = c.args.self.now.kept.places } in
     let starts : Starts (kept_seen k) = record { frame = c.blank-self.ensures; opened = ap (λ (os : List Open). reverse os) c.clear.ensures.items } in
-    let here = subst (λ (x : Walk). behind_walk ss u (kept_seen k) x ≡ Ok (kept_seen c.walk.new.self)) walk c.in_ok-walk.ensures in
+    let here = subst (λ (x : Walk). behind_walk ss u (kept_seen k) x ≡ Ok (kept_seen c.walk.new.self)) walk c.in_ok-walk.ensures.value in
     let ok = unit_ok ss u c.args.abbrevs.now c.requires.table (kept_seen k) starts (kept_seen c.walk.new.self) here in
     let new : ShardSoFar = record { roots = c.push.new.self; kept = c.walk.new.self } in
-    rw ok.0 (holds_more ss c.args.self.now new (w ss u c.args.abbrevs.now c.requires.table) (kept_seen k) refl refl refl ok.1 c.in_ok-push.ensures.items)
+    rw ok.0 (holds_more ss c.args.self.now new (w ss u c.args.abbrevs.now c.requires.table) (kept_seen k) refl c.in_ok-walk.ensures.strings refl refl ok.1 c.in_ok-push.ensures.items)
