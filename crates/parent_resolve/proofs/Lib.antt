@@ -24,3 +24,4 @@ mod ComponentLaws
 pub mod CutFile
 pub mod ChainEnds
 pub mod TableLaws
+mod DeclaredLaws

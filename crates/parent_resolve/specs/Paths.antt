@@ -5,6 +5,7 @@ use Rattle.indexmap.specs.IndexMap.{IndexMap, get}
 use Rattle.index_model.specs.Program.{Program, Located, item_with_offset}
 use Rattle.index_model.specs.Parents.{parent_offset}
 use Rattle.index_model.specs.Names.{scope_path}
+use Rattle.index_model.specs.NodeSeen.{NodeSeen, IsDeclaredIn}
 use Rattle.shard_build.specs.Entries.{EntriesOf, ForProgram}
 use Rattle.parent_resolve.specs.declared.scope.Scope.{Scope}
 use Rattle.parent_resolve.specs.declared.scope.ScopeAround.{ScopeAround}
@@ -35,6 +36,10 @@ AreScopes e known = (parent : ℕ) (s : Scope) → get nat_eq known parent ≡ S
 -- and each of these, around what is in its parent
 abbrev pub AreRecent : EntriesOf → List ScopeAround → Type 0
 AreRecent e recent = (s : ScopeAround) → Contains recent s → IsScopeAround e s.parent s.scope
+
+-- the node is that of a declaration that refers to no other entry, and the path around it has a scope
+abbrev pub IsPassedOver : EntriesOf → NodeSeen → Type 0
+IsPassedOver e n = (around : ScopeAround) × IsDeclaredIn around.parent n × IsScopeAround e around.parent around.scope
 
 -- ---- the members that a path passed
 

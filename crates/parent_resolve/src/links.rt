@@ -75,6 +75,9 @@ fn links_of<'f>(
 {
     let mut entries = Vec::new(alloc);
     for k in 0..shard.nodes.len() {
+        if paths.passes(&shard.nodes, k) {
+            continue;
+        }
         // A node is read where it stands: to move it would cost as much as to make it.
         if let Some(node) = &shard.nodes.get(k) {
             add_link(alloc, shard, languages, paths, node, &mut entries)?;

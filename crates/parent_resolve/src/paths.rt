@@ -3,7 +3,7 @@
 //! Most entries stand in one that was passed before them, whose scope is at hand. The scope of any other path is kept by the
 //! place of its first member, for each member that is passed, and each member is passed once.
 
-ghost use Rattle.std.specs.Prelude.{◌≡◌, ◌+◌, ◌<◌, ◌≤◌, map, min, Contains, IfOk, IfSome, IsOkAnd, Ok, Err};
+ghost use Rattle.std.specs.Prelude.{◌≡◌, ◌+◌, ◌<◌, ◌≤◌, map, min, slice_get, true, Contains, IfOk, IfSome, IsOkAnd, Ok, Err};
 ghost use Rattle.std.specs.Arc.{arc_value};
 ghost use Rattle.ix_base.specs.declared.code.TheConstants.{REFERENCE_CHAIN};
 ghost use Rattle.ix_base.specs.declared.or_memory.OrMemory.TheVariants as stops;
@@ -15,7 +15,7 @@ ghost use Rattle.shard_build.specs.Entries.{AreShardsOfFile};
 ghost use Rattle.parent_resolve.specs.Followed.{followed_of, ForEntry, HasEntry};
 ghost use Rattle.parent_resolve.specs.Scopes.{greatest, IsScope};
 ghost use Rattle.parent_resolve.specs.Traced.{IsTraced};
-ghost use Rattle.parent_resolve.specs.Paths.{EndIn, ForAround, ForEnd, IsScopeAround};
+ghost use Rattle.parent_resolve.specs.Paths.{EndIn, ForAround, ForEnd, IsPassedOver, IsScopeAround};
 ghost use Rattle.parent_resolve.specs.declared.scope.ScopeAround.{ScopeAround as ScopeAroundOf};
 
 use crate::members::{step_at, too_long};
@@ -23,7 +23,7 @@ use crate::references::References;
 use crate::scope::{PathMember, Scope, ScopeAround, component, may_hold_scopes, part_length};
 use crate::traced::Traced;
 use file_image::Image;
-use index_model::{Node, Shard};
+use index_model::{Node, Nodes, Shard};
 use indexmap::IndexMap;
 use ix_base::{MAX_PATH_STEPS, NoMemory, Stop};
 use std::alloc::Global;
@@ -153,6 +153,18 @@ impl<'s, 'f> Paths<'s, 'f> {
         Ok(())
     }
 
+    /// Whether a few looks tell that the node with this index is that of a declaration, which no index lists, and that nothing is wrong
+    /// with its references.
+    #[inline(always)]
+    pub(crate) fn passes(&self, nodes: &Nodes<'f>, index: usize) -> bool
+        ensures { result ≡ true → IfSome (slice_get nodes.now index) (IsPassedOver self.now) }
+    {
+        match last_of(&self.recent) {
+            Some(around) => nodes.is_declared_in(index, around.parent),
+            None => false,
+        }
+    }
+
     // The scope that is known of the path around an entry with this lexical parent.
     fn known_at(&self, parent: u64) -> Option<Scope>
         ensures { IfSome result (IsScopeAround self.now parent) }
@@ -215,11 +227,19 @@ impl<'s, 'f> Paths<'s, 'f> {
     }
 }
 
+// The last of these scopes.
+#[inline(always)]
+fn last_of(recent: &Vec<ScopeAround>) -> Option<ScopeAround>
+    ensures { IfSome result (Contains recent.now.items) }
+{
+    recent.last().copied()
+}
+
 // The last of these scopes, if it is that around what is in this parent.
 fn last_around(recent: &Vec<ScopeAround>, parent: u64) -> Option<Scope>
     ensures { IfSome result (λ s. Contains recent.now.items (record { parent = parent; scope = s })) }
 {
-    let last = recent.last()?;
+    let last = last_of(recent)?;
     if last.parent == parent {
         Some(last.scope)
     } else {

@@ -10,6 +10,8 @@ use Rattle.index_model.specs.NodeSeen.{NodeSeen, node_seen}
 use Rattle.index_model.specs.Shards.{AreShardsOf}
 use Rattle.index_model.specs.ShardParts.{kept_in, IsNodeOf, IsSeenOf}
 use Rattle.shard_build.specs.Entries.{EntriesOf}
+use Rattle.parent_resolve.specs.Paths.{IsPassedOver}
+use Rattle.parent_resolve.proofs.DeclaredLaws.{passed_over, there_in}
 use Rattle.parent_resolve.proofs.NodeLinks.{kept_there}
 use Rattle.parent_resolve.proofs.RunLinks.{all_taken, paired, stops_here, take_whole, takes_more}
 use Rattle.parent_resolve.specs.Runs.{links_at, AddsLinks}
@@ -49,6 +51,24 @@ add_link-requires-clause-entry c =
       entry = pair.at;
       there = (kept_there h.program h.run h.part pair.at pair.member).2;
       is = subst (λ (n : NodeSeen). IsSeenOf h.program.sections n pair.at) (get_or_from_slice_get s.nodes k (node_seen node) (node_seen node) there) pair.holds;
+    }
+
+pub loop-k-preserved-then-passes : goal.loop-k-preserved-then-passes
+loop-k-preserved-then-passes c =
+    let inv = c.loop-k.invariant in
+    let s = c.args.shard.now in
+    let k = c.loop-k.k in
+    let within : k < length s.nodes = omega (arith, c.loop-k-test.true, c.len-k-end.ensures) in
+    let node = there_in (IsPassedOver c.loop-k.paths) s.nodes k within (c.passes.ensures c.if-passes.true) in
+    record {
+      paths = inv.paths;
+      languages = inv.languages;
+      taken = λ p run file are is_run stands.
+          let pair = paired (IsSeenOf p.sections) s.nodes (kept_in run) k node.0 stands.nodes within in
+          let own : IsSeenOf p.sections node.0 pair.at = subst (λ (n : NodeSeen). IsSeenOf p.sections n pair.at) (get_or_from_slice_get s.nodes k node.0 node.0 node.1) pair.holds in
+          let here = ap (λ (e : EntriesOf). program_of e.image.file) inv.paths ∙ file in
+          let nothing = passed_over c.loop-k.paths p pair.at node.0 here (kept_there p run is_run pair.at pair.member).2 own node.2 c.loop-k.entries.items in
+          takes_more p run k c.loop-k.entries.items (inv.taken p run file are is_run stands) pair.at pair.next _ nothing _ (omega arith);
     }
 
 pub loop-k-preserved : goal.loop-k-preserved
