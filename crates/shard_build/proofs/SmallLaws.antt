@@ -1,9 +1,8 @@
 -- The node of an entry whose texts are strings of `.debug_str`.
 use Rattle.std.proofs.Common.{◌≡◌, ℕ, Bool, List, ◌++◌, [], ◌∷◌, true, cond, Option, Some, None, option_map, option_and_then, Result, Ok, Err, refl, sym, ap, ◌∙◌}
-use Rattle.index_model.specs.declared.small_node.OwnFacts.{OwnFacts}
 use Rattle.index_model.specs.declared.small_node.SmallNode.{SmallNode}
 use Rattle.index_model.specs.declared.unit.Unit.{Unit as UnitHeader}
-use Rattle.index_model.specs.Attributes.{attribute, as_text, read_as, linkage_value, next_reference}
+use Rattle.index_model.specs.Attributes.{attribute, linkage_value, next_reference}
 use Rattle.index_model.specs.Forms.{Str}
 use Rattle.index_model.specs.Leaves.{small_seen, string_of}
 use Rattle.index_model.specs.Meaning.{value_of}

@@ -1,5 +1,5 @@
 -- Nodes by the offsets of their texts.
-use Rattle.std.specs.Prelude.{◌≡◌, ℕ, Bool, List, Option, None, option_and_then, Result, Ok}
+use Rattle.std.specs.Prelude.{◌≡◌, ℕ, Bool, List, Option, None, option_and_then, Ok}
 use Rattle.index_model.specs.declared.small_node.OwnFacts.{OwnFacts}
 use Rattle.index_model.specs.declared.small_node.SmallNode.{SmallNode}
 use Rattle.index_model.specs.declared.unit.Unit.{Unit as UnitHeader}
