@@ -46,7 +46,7 @@ says ss n d h = record {
 
 -- ---- the next entry
 
-no_reference : (o : Option Reference) → None ≡ option_map as_next o → o ≡ None
+pub no_reference : (o : Option Reference) → None ≡ option_map as_next o → o ≡ None
 no_reference None h = refl
 no_reference (Some r) h = absurd cc
 

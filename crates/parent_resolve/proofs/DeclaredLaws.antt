@@ -1,18 +1,17 @@
 -- A declaration that refers to no other entry isn't indexed, and nothing is wrong with its references.
-use Rattle.std.proofs.Common.{◌≡◌, ℕ, ◌<◌, Bool, true, false, not, ◌&&◌, List, [], ◌∷◌, Option, Some, None, option_map, Result, Ok, Err, refl, sym, ap, ◌∙◌, length, arith}
+use Rattle.std.proofs.Common.{◌≡◌, ℕ, ◌<◌, Bool, true, false, not, ◌&&◌, List, [], ◌∷◌, Option, Some, None, Result, Ok, Err, refl, sym, ap, ◌∙◌, length, arith}
 use Rattle.std.specs.Prelude.{Contains, IfSome, IsOkAnd, filter_map, slice_get}
-use Rattle.ix_base.specs.declared.fault.Fault.{Fault}
 use Rattle.index_model.specs.declared.shard.LinkedEntry.{LinkedEntry}
 use Rattle.index_model.specs.declared.shard.Node.{Node}
-use Rattle.index_model.specs.Attributes.{Reference, is_declaration, next_reference, signature_of}
-use Rattle.index_model.specs.Chains.{chain_of, first, name_by_signature, next_of, spelled_name}
+use Rattle.index_model.specs.Attributes.{is_declaration, next_reference, signature_of}
+use Rattle.index_model.specs.Chains.{first, name_by_signature, next_of, spelled_name}
 use Rattle.index_model.specs.Faults.{program_of}
 use Rattle.index_model.specs.Links.{Link, facts_of, is_link_indexed, link_of}
-use Rattle.index_model.specs.Meaning.{◌>>=◌, at_place, if_some, some_else}
+use Rattle.index_model.specs.Meaning.{at_place}
 use Rattle.index_model.specs.NodeSeen.{NodeSeen, IsDeclaredIn}
 use Rattle.index_model.specs.Parents.{parent_offset}
 use Rattle.index_model.specs.Program.{Program, Located}
-use Rattle.index_model.specs.ShardParts.{IsSeenOf, as_next, node_facts}
+use Rattle.index_model.specs.ShardParts.{IsSeenOf, node_facts}
 use Rattle.index_model.specs.Strings.{own_name}
 use Rattle.shard_build.specs.Entries.{EntriesOf}
 use Rattle.parent_resolve.specs.EntryLinks.{IsEntryOf, link_with}
@@ -21,16 +20,12 @@ use Rattle.parent_resolve.specs.Paths.{IsPassedOver}
 use Rattle.parent_resolve.specs.Runs.{is_followed, links_at, AddsLinks, IsLinkedNode}
 use Rattle.parent_resolve.specs.Scopes.{IsScope}
 use Rattle.index_model.specs.Names.{Member, scope_path}
-use Rattle.parent_resolve.proofs.ChainLaws.{alone_ends}
+use Rattle.parent_resolve.proofs.ChainLaws.{alone_ends, no_reference}
 use Rattle.parent_resolve.proofs.LinkParts.{link_is, not_indexed}
 use Rattle.parent_resolve.proofs.NodeLaws.{seen_parts}
 use Rattle.parent_resolve.proofs.NodeLinks.{follows, skips}
 use Rattle.parent_resolve.proofs.PlaceLaws.{past}
 use Rattle.parent_resolve.proofs.RunLinks.{adds_given, grown_none}
-
-no_reference : (o : Option Reference) → None ≡ option_map as_next o → o ≡ None
-no_reference None h = refl
-no_reference (Some r) h = absurd cc
 
 -- a declaration isn't indexed
 off : (visited named rest declaration : Bool) → declaration ≡ true → (((visited && not declaration) && named) && rest) ≡ false
