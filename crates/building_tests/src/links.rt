@@ -45,23 +45,24 @@ fn entries_with_their_names(rt: HostRuntime) -> Result<(), Fail> {
     Ok(())
 }
 
-// The offset at which the chain of an entry's references ends, and whether it gives the entry this name and makes it external.
+// The lexical parent of the entry at which the chain of another one's references ends, and whether the chain gives that one this
+// name and makes it external.
 fn end(
     references: &mut References<'_, '_>,
     alloc: Global,
     name: &[u8],
-) -> Option<(u64, bool, bool)> {
+) -> Option<(Option<u64>, bool, bool)> {
     let node = match references.at(alloc, 0x13) {
         Ok(Some(node)) => node,
         _ => return None,
     };
     match references.follow(alloc, &node, 0x13) {
-        Ok(end) => Some((end.end.offset, end.spelled == Some(name), end.external)),
+        Ok(end) => Some((end.around, end.spelled == Some(name), end.external)),
         Err(_) => None,
     }
 }
 
-fn followed(alloc: Global, image: &Image<'_>) -> Result<Option<(u64, bool, bool)>, Fail> {
+fn followed(alloc: Global, image: &Image<'_>) -> Result<Option<(Option<u64>, bool, bool)>, Fail> {
     let shards = scanned(alloc, image)?;
     let mut references = References::new(alloc, image, &shards)?;
     Ok(end(&mut references, alloc, b"f"))
@@ -71,6 +72,6 @@ fn followed(alloc: Global, image: &Image<'_>) -> Result<Option<(u64, bool, bool)
 fn a_chain_over_three_units(rt: HostRuntime) -> Result<(), Fail> {
     let image = Image::open(rt.alloc(), &THREE_UNITS)?;
     let end = followed(rt.alloc(), &image)?;
-    assert_eq!(rt; end, Some((0x58, true, true)));
+    assert_eq!(rt; end, Some((Some(0x55), true, true)));
     Ok(())
 }

@@ -16,6 +16,7 @@ use Rattle.index_model.specs.Attributes.{Reference, next_reference, has_external
 use Rattle.index_model.specs.Chains.{first, next_of, hops_from, chain_of, chain_end, is_external, linkage_name_of}
 use Rattle.index_model.specs.Gives.{GivesFor, StopsAs}
 use Rattle.index_model.specs.Meaning.{◌>>=◌, fault, at_place, if_some, some_or}
+use Rattle.index_model.specs.Parents.{parent_offset}
 use Rattle.index_model.specs.Program.{Walked, Program, Located, item_with_offset}
 use Rattle.index_model.specs.References.{entry_named, target_of}
 use Rattle.index_model.specs.Sections.{Section}
@@ -26,6 +27,7 @@ use Rattle.parent_resolve.specs.declared.chain.Chain.{Chain}
 use Rattle.parent_resolve.specs.Chained.{IsChain, IsNext, name_on}
 use Rattle.parent_resolve.specs.Followed.{all_entries}
 use Rattle.parent_resolve.proofs.Entries.{found_entry}
+use Rattle.parent_resolve.proofs.NodeLaws.{node_parts}
 
 -- ---- a node's references
 
@@ -71,18 +73,18 @@ pub nothing_meant : (ss : List Section) (o : Option Located) → IsNodeIn ss Non
 nothing_meant ss None h = refl
 nothing_meant ss (Some e) h = absurd h
 
-module _ (p : Program) (n : Node) (d : Located) (h : IsNodeOf p.sections n d) where
+module _ (p : Program) (next : Option Next) (d : Located) (h : next ≡ option_map as_next (next_reference d.item)) where
   abbrev onwards : Option Reference → Result (Option Located) ℕ
   onwards o = if_some o (λ r. entry_named p d.home r >>= λ target. Ok (Some target))
 
   -- without a reference nothing comes next
-  pub next_none : n.next ≡ None → next_of p d ≡ Ok None
+  pub next_none : next ≡ None → next_of p d ≡ Ok None
   unfolding next_of
-  next_none is = ap onwards (no_reference (next_reference d.item) (sym is ∙ (says p.sections n d h).next))
+  next_none is = ap onwards (no_reference (next_reference d.item) (sym is ∙ h))
 
-  module _ (q : Next) (is : n.next ≡ Some q) where
+  module _ (q : Next) (is : next ≡ Some q) where
     pub reference : (r : Reference) × (next_reference d.item ≡ Some r) × (q ≡ as_next r)
-    reference = a_reference (next_reference d.item) q (sym is ∙ (says p.sections n d h).next)
+    reference = a_reference (next_reference d.item) q (sym is ∙ h)
 
     abbrev pub r : Reference
     r = reference.0
@@ -134,10 +136,12 @@ module _ (p : Program) (d : Located) where
   seen_or None y = refl
   seen_or (Some t) y = refl
 
-  pub alone : (n : Node) → IsNodeOf p.sections n d → Contains (all_entries p) d → IsChain p d (record { end = n; external = n.external; name = n.name; linkage = n.linkage }) (d ∷ [])
+  pub alone : (n : Node) → IsNodeOf p.sections n d → Contains (all_entries p) d → IsChain p d (record { unit = n.unit; next = n.next; around = n.parent; external = n.external; name = n.name; linkage = n.linkage }) (d ∷ [])
   unfolding is_external linkage_name_of
   alone n h there = record {
-    end = h;
+    unit = (says p.sections n d h).unit;
+    next = (says p.sections n d h).next;
+    around = (node_parts p.sections n d h).1;
     there = there;
     external = (says p.sections n d h).external ∙ sym (or_false (has_external d.item));
     name = h.name ∙ sym (first_push (own_name p.sections) [] d);
@@ -145,12 +149,14 @@ module _ (p : Program) (d : Located) where
   }
 
   pub one_more : (c : Chain) (chain : List Located) (n : Node) (e : Located) → IsChain p d c chain → IsNodeOf p.sections n e → Contains (all_entries p) e →
-      IsChain p d (record { end = n; external = c.external || n.external; name = option_or c.name n.name; linkage = option_or c.linkage n.linkage }) (chain ++ e ∷ [])
+      IsChain p d (record { unit = n.unit; next = n.next; around = n.parent; external = c.external || n.external; name = option_or c.name n.name; linkage = option_or c.linkage n.linkage }) (chain ++ e ∷ [])
   unfolding is_external linkage_name_of
   one_more c chain n e h is there =
       let last = sym (end_push d chain e) in
       record {
-        end = subst (IsNodeOf p.sections n) last is;
+        unit = (says p.sections n e is).unit ∙ ap (λ (x : Located). x.home.number) last;
+        next = (says p.sections n e is).next ∙ ap (λ (x : Located). option_map as_next (next_reference x.item)) last;
+        around = (node_parts p.sections n e is).1 ∙ ap parent_offset last;
         there = subst (Contains (all_entries p)) last there;
         external = ap (λ (b : Bool). b || n.external) h.external ∙ ap (λ (b : Bool). is_external chain || b) ((says p.sections n e is).external ∙ sym (or_false (has_external e.item))) ∙ sym (list_any-append (λ x. has_external x.item) chain (e ∷ []));
         name = seen_or c.name n.name ∙ ap (λ (o : Option (List ℕ)). option_or o (seen n.name)) h.name ∙ ap (option_or (name_on p chain)) is.name ∙ sym (first_push (own_name p.sections) chain e);

@@ -6,7 +6,8 @@ use Rattle.index_model.specs.Meaning.{◌>>=◌, some_else}
 use Rattle.index_model.specs.Program.{Program, Located}
 use Rattle.parent_resolve.specs.declared.chain.Chain.{Chain}
 use Rattle.parent_resolve.specs.Chained.{IsChain}
-use Rattle.parent_resolve.specs.Followed.{IsFollowed, IsText, Named, followed_of}
+use Rattle.parent_resolve.specs.Followed.{IsText, Named, followed_of}
+use Rattle.parent_resolve.specs.Traced.{IsTraced}
 
 -- the text of a name
 abbrev pub text : Option (Bor (List ℕ)) → Option (List ℕ)
@@ -49,8 +50,8 @@ module _ (p : Program) (d : Located) where
     unfolding followed_of
     whole all found s = ap onwards all ∙ ap (λ (r : Result (Option (List ℕ)) ℕ). r >>= λ spelled. let n : Named = record { chain = chain; spelled = spelled } in Ok n) s.is
 
-    pub is_followed : (found : Option (Bor (List ℕ))) (s : IsSpelled chain found) → IsFollowed p d (record { end = c.end; external = c.external; spelled = found; linkage = c.linkage }) (record { chain = chain; spelled = s.name })
-    is_followed found s = record { end = h.end; there = h.there; external = h.external; spelled = s.same; linkage = h.linkage }
+    pub is_traced : (found : Option (Bor (List ℕ))) (s : IsSpelled chain found) → IsTraced p d (record { around = c.around; external = c.external; spelled = found; linkage = c.linkage }) (record { chain = chain; spelled = s.name })
+    is_traced found s = record { there = h.there; around = h.around; external = h.external; spelled = s.same; linkage = h.linkage }
 
   -- a fault of the chain is that of the whole
   pub wrong_chain : (code : ℕ) → chain_of p d ≡ Err code → followed_of p d ≡ Err code

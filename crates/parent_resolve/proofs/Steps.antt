@@ -15,12 +15,12 @@ use Rattle.index_model.specs.Sections.{Section}
 use Rattle.index_model.specs.Tags.{namespace, is_record_tag, enumeration}
 use Rattle.shard_build.specs.Entries.{IsNodeIn}
 use Rattle.index_model.specs.ShardParts.{IsNodeOf}
-use Rattle.parent_resolve.specs.declared.followed.Followed.{Followed}
 use Rattle.parent_resolve.specs.declared.members.Step.{Step}
-use Rattle.parent_resolve.specs.Followed.{all_entries, followed_of, Named, IsFollowed}
+use Rattle.parent_resolve.specs.declared.traced.Traced.{Traced}
+use Rattle.parent_resolve.specs.Followed.{all_entries, followed_of, Named}
 use Rattle.parent_resolve.specs.Scopes.{Passed, IsStep, followed_at, passed_at, root_passed}
+use Rattle.parent_resolve.specs.Traced.{IsTraced}
 use Rattle.parent_resolve.proofs.Entries.{home_in, unit_in_order}
-use Rattle.parent_resolve.proofs.NodeLaws.{node_parts}
 
 -- the node that stands for what is at an offset
 pub node_there : (ss : List Section) (o : Option Node) (q : Option Located) (n : Node) (m : Located) → IsNodeIn ss o q → o ≡ Some n → q ≡ Some m → IsNodeOf ss n m
@@ -80,13 +80,13 @@ module _ (p : Program) (d : Located) where
   unfolding followed_at
   followed_wrong code is = ap (λ (r : Result Named ℕ). r >>= λ n. Ok (passed_named n)) is
 
-  pub followed_gives : (f : Followed) (n : Named) → followed_of p d ≡ Ok n → IsFollowed p d f n → (part : Option (Bor (List ℕ))) → option_map (λ t. t.now) part ≡ component (record { entry = d; name = name_with d (option_map (λ t. t.now) f.spelled) }) →
-      (s : Step) → s.component ≡ part → s.around ≡ f.end.parent → (followed_at p d ≡ Ok (passed_named n)) × IsStep p s (passed_named n)
+  pub followed_gives : (f : Traced) (n : Named) → followed_of p d ≡ Ok n → IsTraced p d f n → (part : Option (Bor (List ℕ))) → option_map (λ t. t.now) part ≡ component (record { entry = d; name = name_with d (option_map (λ t. t.now) f.spelled) }) →
+      (s : Step) → s.component ≡ part → s.around ≡ f.around → (followed_at p d ≡ Ok (passed_named n)) × IsStep p s (passed_named n)
   unfolding followed_at
   followed_gives f n is h part given s own around = (
     ap (λ (r : Result Named ℕ). r >>= λ n. Ok (passed_named n)) is,
     record {
       component = ap (option_map (λ t. t.now)) own ∙ given ∙ ap (λ (o : Option (List ℕ)). component (record { entry = d; name = name_with d o })) h.spelled;
-      around = (h.there, around ∙ (node_parts p.sections f.end (chain_end d n.chain) h.end).1);
+      around = (h.there, around ∙ h.around);
     },
   )

@@ -7,23 +7,12 @@ use Rattle.index_model.specs.declared.shard.Node.{Node}
 use Rattle.index_model.specs.Program.{Program, Located}
 use Rattle.index_model.specs.ShardParts.{IsNodeOf}
 use Rattle.parent_resolve.specs.declared.chain.Chain.{Chain}
-use Rattle.parent_resolve.specs.declared.followed.Followed.{Followed}
 use Rattle.parent_resolve.specs.declared.traced.Traced.{Traced}
-use Rattle.parent_resolve.specs.Followed.{IsFollowed, Named, all_entries}
+use Rattle.parent_resolve.specs.Followed.{all_entries}
 use Rattle.parent_resolve.specs.Traced.{IsTraced, IsTracedAlone}
 use Rattle.parent_resolve.proofs.ChainLaws.{alone, alone_ends, next_none, says}
-use Rattle.parent_resolve.proofs.FollowLaws.{IsSpelled, is_followed, of_chain, of_signature, text, whole}
-use Rattle.parent_resolve.proofs.NodeLaws.{node_parts}
+use Rattle.parent_resolve.proofs.FollowLaws.{IsSpelled, is_traced, of_chain, of_signature, text, whole}
 use Rattle.parent_resolve.proofs.SignatureLaws.{name_unsigned}
-
-pub of_followed : (p : Program) (d : Located) (n : Named) (f : Followed) → IsFollowed p d f n → IsTraced p d (record { around = f.end.parent; external = f.external; spelled = f.spelled; linkage = f.linkage }) n
-of_followed p d n f h = record {
-  there = h.there;
-  around = (node_parts p.sections f.end _ h.end).1;
-  external = h.external;
-  spelled = h.spelled;
-  linkage = h.linkage;
-}
 
 no_next : (next : Option Next) (rest : Bool) → (is_some next || rest) ≡ false → next ≡ None
 no_next None rest off = refl
@@ -31,7 +20,7 @@ no_next (Some n) rest off = absurd cc
 
 module _ (p : Program) (d : Located) (n : Node) (own : IsNodeOf p.sections n d) (there : Contains (all_entries p) d) where
   abbrev chain : Chain
-  chain = record { end = n; external = n.external; name = n.name; linkage = n.linkage }
+  chain = record { unit = n.unit; next = n.next; around = n.parent; external = n.external; name = n.name; linkage = n.linkage }
 
   -- the name, which is its own, or neither it has nor a signature
   spelled : (name : Option (Bor (List ℕ))) (signature : Option ℕ) → n.name ≡ name → n.signature ≡ signature → (is_some n.next || (is_none name && is_some signature)) ≡ false → IsSpelled p d (d ∷ []) n.name
@@ -47,7 +36,7 @@ pub traced_alone : (n : Node) → (is_some n.next || (is_none n.name && is_some 
 traced_alone n off p d there own =
     let k = chain p d n own there in
     let is = alone p d n own there in
-    let next = next_none p n d own (no_next n.next (is_none n.name && is_some n.signature) off) in
+    let next = next_none p n.next d (says p.sections n d own).next (no_next n.next (is_none n.name && is_some n.signature) off) in
     let s = spelled p d n own there n.name n.signature refl refl off in
     let t : Traced = record { around = n.parent; external = n.external; spelled = n.name; linkage = n.linkage } in
-    subst (λ r. IsOkAnd r (IsTraced p d t)) (sym (whole p d (d ∷ []) k is (alone_ends p d next) n.name s)) (of_followed p d _ _ (is_followed p d (d ∷ []) k is n.name s))
+    subst (λ r. IsOkAnd r (IsTraced p d t)) (sym (whole p d (d ∷ []) k is (alone_ends p d next) n.name s)) (is_traced p d (d ∷ []) k is n.name s)

@@ -5,10 +5,9 @@ use Rattle.index_model.specs.declared.shard.Node.{Node}
 use Rattle.index_model.specs.Meaning.{◌>>=◌}
 use Rattle.index_model.specs.Faults.{program_of}
 use Rattle.index_model.specs.Program.{Program, Located, located}
-use Rattle.index_model.specs.Chains.{chain_of, chain_end, spelled_name, is_external, linkage_name_of}
+use Rattle.index_model.specs.Chains.{chain_of, spelled_name}
 use Rattle.index_model.specs.ShardParts.{IsNodeOf}
 use Rattle.shard_build.specs.Entries.{EntriesOf}
-use Rattle.parent_resolve.specs.declared.followed.Followed.{Followed}
 
 -- the entries of a program
 abbrev pub all_entries : Program → List Located
@@ -25,14 +24,6 @@ followed_of p d = do
   chain ← chain_of p d
   spelled ← spelled_name p d chain
   Ok (record { chain = chain; spelled = spelled })
-
--- what is known of them
-pub record IsFollowed (p : Program) (d : Located) (f : Followed) (n : Named) : Type 0 where
-  pub end : IsNodeOf p.sections f.end (chain_end d n.chain)
-  pub there : Contains (all_entries p) (chain_end d n.chain)
-  pub external : f.external ≡ is_external n.chain
-  pub spelled : option_map (λ t. t.now) f.spelled ≡ n.spelled
-  pub linkage : option_map (λ t. t.now) f.linkage ≡ linkage_name_of p n.chain
 
 -- the text is that of the name, or there is neither
 abbrev pub IsText : Option (Bor (List ℕ)) → Option (List ℕ) → Type 0

@@ -6,7 +6,6 @@ mod chain;
 mod classes;
 mod components;
 mod entry;
-mod followed;
 mod importers;
 mod languages;
 mod links;
@@ -18,7 +17,7 @@ mod signatures;
 mod traced;
 mod visits;
 
-pub use followed::Followed;
 pub use languages::Languages;
 pub use links::link;
 pub use references::References;
+pub use traced::Traced;

@@ -53,10 +53,10 @@ fn step_over<'f>(
     ensures value { ForEntry references.old member.now (λ p m. GivesFor (IsStep p) result (at_place at (followed_at p m))) }
     ensures kept { references.new ≡ references.old }
 {
-    let followed = references.follow(alloc, member, at)?;
+    let traced = references.follow(alloc, member, at)?;
     Ok(Step {
-        component: component(member, followed.spelled),
-        around: followed.end.parent,
+        component: component(member, traced.spelled),
+        around: traced.around,
     })
 }
 

@@ -81,8 +81,7 @@ impl<'s, 'f> Paths<'s, 'f> {
         if let Some(traced) = Traced::alone(node) {
             return Ok(traced);
         }
-        let followed = self.references.follow(alloc, node, at)?;
-        Ok(Traced::of(&followed))
+        self.references.follow(alloc, node, at)
     }
 
     /// The scope of the path around an entry with this lexical parent, or with none. A fault has the place `at`.

@@ -7,12 +7,13 @@ ghost use Rattle.index_model.specs.Gives.{GivesFor};
 ghost use Rattle.index_model.specs.Meaning.{at_place};
 ghost use Rattle.index_model.specs.Program.{item_with_offset};
 ghost use Rattle.shard_build.specs.Entries.{AreShardsOfFile, ForProgram, IsNodeIn};
-ghost use Rattle.parent_resolve.specs.Followed.{ForEntry, IsFollowed, IsText, followed_of};
+ghost use Rattle.parent_resolve.specs.Followed.{ForEntry, IsText, followed_of};
 ghost use Rattle.parent_resolve.specs.Signed.{AreTypeUnitsOf};
+ghost use Rattle.parent_resolve.specs.Traced.{IsTraced};
 
 use crate::chain::chain_of;
-use crate::followed::Followed;
 use crate::signatures::Signatures;
+use crate::traced::Traced;
 use file_image::Image;
 use index_model::{Next, Node, Shard};
 use ix_base::code::BAD_REFERENCE;
@@ -82,8 +83,8 @@ impl<'s, 'f> References<'s, 'f> {
     /// The chain of an entry (DWARF 5, sections 2.13.2 and 3.3.8.1), and the name that the file spells for it: the first on
     /// the chain, else that of the type unit with the entry's own signature (section 7.32). A fault has the place `at`: a
     /// reference that names no entry (code 16), or a chain of more than 8 hops (17).
-    pub fn follow(&mut self, alloc: Global, node: &Node<'f>, at: u64) -> Result<Followed<'f>, Stop>
-        ensures value { ForEntry self.old node.now (λ p d. GivesFor (IsFollowed p d) result (at_place at (followed_of p d))) }
+    pub fn follow(&mut self, alloc: Global, node: &Node<'f>, at: u64) -> Result<Traced<'f>, Stop>
+        ensures value { ForEntry self.old node.now (λ p d. GivesFor (IsTraced p d) result (at_place at (followed_of p d))) }
         ensures kept { self.new ≡ self.old }
     {
         let chain = chain_of(&mut self.entries, alloc, node, at)?;
@@ -91,8 +92,8 @@ impl<'s, 'f> References<'s, 'f> {
             Some(name) => Some(name),
             None => name_by_signature(&mut self.entries, &self.signatures, alloc, node, at)?,
         };
-        Ok(Followed {
-            end: chain.end,
+        Ok(Traced {
+            around: chain.around,
             external: chain.external,
             spelled,
             linkage: chain.linkage,

@@ -1,24 +1,21 @@
 //! What counts of an entry whose references were followed.
 
 ghost use Rattle.std.specs.Prelude.{◌≡◌, ◌&&◌, ◌||◌, is_none, is_some, IfSome};
-ghost use Rattle.index_model.specs.Program.{Located, Program};
-ghost use Rattle.parent_resolve.specs.Followed.{IsFollowed, Named};
-ghost use Rattle.parent_resolve.specs.Traced.{IsTraced, IsTracedAlone};
+ghost use Rattle.parent_resolve.specs.Traced.{IsTracedAlone};
 
-use crate::followed::Followed;
 use index_model::Node;
 
 /// What the chain and the signature of an entry give (DWARF 5, sections 2.13.2, 3.3.8 and 7.32).
 #[derive(Clone, Copy)]
-pub(crate) struct Traced<'f> {
+pub struct Traced<'f> {
     /// The joint offset of the lexical parent of the last entry of its chain.
-    pub(crate) around: Option<u64>,
+    pub around: Option<u64>,
     /// Whether some entry of its chain is external.
-    pub(crate) external: bool,
+    pub external: bool,
     /// The name that the file spells for it: the first on its chain, else that of the type with its signature.
-    pub(crate) spelled: Option<&'f [u8]>,
+    pub spelled: Option<&'f [u8]>,
     /// The first linkage name on its chain.
-    pub(crate) linkage: Option<&'f [u8]>,
+    pub linkage: Option<&'f [u8]>,
 }
 
 impl<'f> Traced<'f> {
@@ -35,18 +32,6 @@ impl<'f> Traced<'f> {
             spelled: node.name,
             linkage: node.linkage,
         })
-    }
-
-    /// What counts of an entry that was followed.
-    pub(crate) fn of(followed: &Followed<'f>) -> Traced<'f>
-        ensures { (p : Program) (d : Located) (n : Named) → IsFollowed p d followed.now n → IsTraced p d result n }
-    {
-        Traced {
-            around: followed.end.parent,
-            external: followed.external,
-            spelled: followed.spelled,
-            linkage: followed.linkage,
-        }
     }
 }
 

@@ -5,9 +5,10 @@ use Rattle.index_model.specs.Faults.{program_of}
 use Rattle.index_model.specs.Meaning.{at_place}
 use Rattle.shard_build.specs.Entries.{EntriesOf}
 use Rattle.parent_resolve.specs.Chained.{IsChain}
-use Rattle.parent_resolve.specs.Followed.{IsFollowed, IsText, followed_of}
+use Rattle.parent_resolve.specs.Followed.{IsText, followed_of}
+use Rattle.parent_resolve.specs.Traced.{IsTraced}
 use Rattle.parent_resolve.proofs.ChainLaws.{given_for, gives_for, gives_stop, stops_like}
-use Rattle.parent_resolve.proofs.FollowLaws.{IsSpelled, text, of_chain, of_signature, wrong_chain, wrong_signature, whole, is_followed}
+use Rattle.parent_resolve.proofs.FollowLaws.{IsSpelled, text, of_chain, of_signature, wrong_chain, wrong_signature, whole, is_traced}
 use Rattle.parent_resolve.proofs.references.References.follow.Goals as goal
 use Rattle.parent_resolve.proofs.references.References.follow.Goals.{in-Some, in-None+in_ok-spelled-in-None}
 
@@ -16,7 +17,7 @@ returns-in_err-chain-clause-value c p file d there is =
     let of_file : program_of c.self.inside.entries.image.file ≡ Ok p = subst (λ (e : EntriesOf). program_of e.image.file ≡ Ok p) (sym c.self.view_is) file in
     let v = c.in_err-chain.ensures.value p of_file d there is in
     let e = err_from_is_err_and c.from_residual.result c.from_residual.ensures.1 in
-    gives_stop (IsFollowed p d) c.from_residual.result c.in_err-chain.field-0.0 (at_place c.args.at (followed_of p d)) (e.1 ∙ ap Err e.2) (stops_like c.args.at (chain_of p d) (followed_of p d) (wrong_chain p d) c.in_err-chain.field-0.0 v)
+    gives_stop (IsTraced p d) c.from_residual.result c.in_err-chain.field-0.0 (at_place c.args.at (followed_of p d)) (e.1 ∙ ap Err e.2) (stops_like c.args.at (chain_of p d) (followed_of p d) (wrong_chain p d) c.in_err-chain.field-0.0 v)
 
 pub returns-in_err-spelled-in-None-clause-value : goal.returns-in_err-spelled-in-None-clause-value
 returns-in_err-spelled-in-None-clause-value c p file d there is =
@@ -26,7 +27,7 @@ returns-in_err-spelled-in-None-clause-value c p file d there is =
     let later : program_of c.chain_of.new.entries.image.file ≡ Ok p = subst (λ (e : EntriesOf). program_of e.image.file ≡ Ok p) (sym c.chain_of.ensures.kept) of_file in
     let w = c.in_err-spelled-in-None.ensures.value p later d there is in
     let e = err_from_is_err_and c.from_residual-in_err-spelled-in-None.result c.from_residual-in_err-spelled-in-None.ensures.1 in
-    gives_stop (IsFollowed p d) c.from_residual-in_err-spelled-in-None.result c.in_err-spelled-in-None.field-0.0 (at_place c.args.at (followed_of p d)) (e.1 ∙ ap Err e.2) (stops_like c.args.at (name_by_signature p d) (followed_of p d) (wrong_signature p d g.0 c.in_ok-chain.chain g.2 g.1 c.in-None.is) c.in_err-spelled-in-None.field-0.0 w)
+    gives_stop (IsTraced p d) c.from_residual-in_err-spelled-in-None.result c.in_err-spelled-in-None.field-0.0 (at_place c.args.at (followed_of p d)) (e.1 ∙ ap Err e.2) (stops_like c.args.at (name_by_signature p d) (followed_of p d) (wrong_signature p d g.0 c.in_ok-chain.chain g.2 g.1 c.in-None.is) c.in_err-spelled-in-None.field-0.0 w)
 
 pub returns-clause-value : goal.returns-clause-value
 returns-clause-value c p file d there is =
@@ -40,4 +41,4 @@ returns-clause-value c p file d there is =
           let s = given_for IsText w.in_ok-spelled-in-None.spelled c.args.at (name_by_signature p d) (w.in_ok-spelled-in-None.ensures.value p later d there is) in
           of_signature p d g.0 c.in_ok-chain.chain g.2 c.match-chain.spelled w.in-None.is s.0 s.1 (ap text w.spelled-is ∙ s.2)
     ] in
-    gives_for (IsFollowed p d) _ _ (at_place c.args.at (followed_of p d)) (ap (at_place c.args.at) (whole p d g.0 c.in_ok-chain.chain g.2 g.1 c.match-chain.spelled spelled)) (is_followed p d g.0 c.in_ok-chain.chain g.2 c.match-chain.spelled spelled)
+    gives_for (IsTraced p d) _ _ (at_place c.args.at (followed_of p d)) (ap (at_place c.args.at) (whole p d g.0 c.in_ok-chain.chain g.2 g.1 c.match-chain.spelled spelled)) (is_traced p d g.0 c.in_ok-chain.chain g.2 c.match-chain.spelled spelled)
