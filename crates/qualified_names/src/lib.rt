@@ -2,6 +2,7 @@
 #![tactic(auto)]
 
 mod entry;
+mod fronts;
 mod links;
 mod main_program;
 mod names;

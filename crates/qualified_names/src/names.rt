@@ -8,7 +8,8 @@ ghost use Rattle.index_model.specs.Names.{scoped_name};
 ghost use Rattle.shard_build.specs.Entries.{AreShardsOfFile};
 ghost use Rattle.qualified_names.specs.Indexed.{ForLink, HasLink};
 
-use crate::links::{Around, go_around};
+use crate::fronts::{Around, Fronts};
+use crate::links::go_around;
 use entry_rules::Class;
 use file_image::Image;
 use index_model::{LinkedEntry, Shard, Text};
@@ -20,24 +21,26 @@ use std::marker::Model;
 use std::sync::Arc;
 
 /// The names of a file's entries, and the languages of its units. What stands before the name of the C++ entry that was
-/// named last is at hand.
+/// named last is at hand, and what stood before others is kept.
 #[derive(Drop)]
 pub(crate) struct QualifiedNames<'s, 'f> {
     references: References<'s, 'f>,
     languages: Languages<'s, 'f>,
     around: Around,
+    fronts: Fronts,
 }
 
 impl<'s, 'f> Model for QualifiedNames<'s, 'f> {
     ghost use Rattle.std.specs.Prelude.{◌≡◌};
     ghost use Rattle.shard_build.specs.Entries.{EntriesOf};
+    ghost use Rattle.qualified_names.specs.Fronts.{AreFronts};
     ghost use Rattle.qualified_names.specs.Paths.{IsFrontAround};
 
     ghost Value = { EntriesOf };
 
     ghost view = { λ n. n.references };
 
-    ghost invariant = { λ n. (n.languages ≡ n.references.shards) × IsFrontAround n.references n.around.parent n.around.front.items };
+    ghost invariant = { λ n. (n.languages ≡ n.references.shards) × IsFrontAround n.references n.around.parent n.around.front.items × AreFronts n.references n.fronts.kept.items };
 }
 
 impl<'s, 'f> QualifiedNames<'s, 'f> {
@@ -57,6 +60,7 @@ impl<'s, 'f> QualifiedNames<'s, 'f> {
                 parent: None,
                 front: Vec::new(alloc),
             },
+            fronts: Fronts::new(alloc)?,
         })
     }
 
@@ -96,7 +100,13 @@ impl<'s, 'f> QualifiedNames<'s, 'f> {
         ensures value { ForLink self.old entry.now (λ p k. IfOk result (λ v. option_map (scoped_name k.path) (name_in k) ≡ Some v.items)) }
         ensures kept { self.new ≡ self.old }
     {
-        go_around(&mut self.around, &mut self.references, alloc, entry)?;
+        go_around(
+            &mut self.around,
+            &mut self.fronts,
+            &mut self.references,
+            alloc,
+            entry,
+        )?;
         behind(alloc, self.around.front.as_slice(), entry.name)
     }
 }
