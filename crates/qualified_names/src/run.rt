@@ -44,11 +44,21 @@ pub fn run_of<'f>(
     ensures { ForLinkedRun image.now (map arc_value shards.now) (map arc_value linked.now) k (λ p ks. IfOk result (λ run. run ≡ entries_of p ks)) }
 {
     let entries = linked[k].entries.as_slice();
-    if formed_bytes(entries) > most_formed(shards.len()) {
+    let size = size_of_run(entries);
+    if size.formed > most_formed(shards.len()) {
         return Err(NoMemory);
     }
     let mut names = QualifiedNames::new(alloc, image, shards)?;
-    entries_of(alloc, &mut names, entries)
+    entries_of(alloc, &mut names, entries, size.entries)
+}
+
+// What the entries of a run take.
+#[derive(Clone, Copy)]
+struct RunSize {
+    // How many there are at most, with linkage entries.
+    entries: usize,
+    // How many bytes those of their names have that are put together.
+    formed: u64,
 }
 
 // How many bytes the names of one of so many runs may have that are put together.
@@ -56,27 +66,34 @@ fn most_formed(runs: usize) -> u64 {
     (FORMED / (runs.max(1) as u64)).max(FORMED_IN_RUN)
 }
 
-// How many bytes the names of these entries have that are put together.
-fn formed_bytes(linked: &[LinkedEntry<'_>]) -> u64 {
-    let mut bytes: u64 = 0;
+// What the entries of a run take, by what the references of its indexed entries give.
+fn size_of_run(linked: &[LinkedEntry<'_>]) -> RunSize {
+    let mut size = RunSize {
+        entries: linked.len(),
+        formed: 0,
+    };
     for entry in linked {
         if entry.length as usize != entry.name.len() {
-            bytes = bytes.saturating_add(u64::from(entry.length));
+            size.formed = size.formed.saturating_add(u64::from(entry.length));
+        }
+        if entry.linkage.is_some() {
+            size.entries = size.entries.saturating_add(1);
         }
     }
-    bytes
+    size
 }
 
-// The entries of a run, by what the references of its indexed entries give.
+// The entries of a run, of which there are as many at most.
 fn entries_of<'f>(
     alloc: Global,
     names: &mut QualifiedNames<'_, 'f>,
     linked: &[LinkedEntry<'f>],
+    most: usize,
 ) -> Result<Run<'f>, NoMemory>
     requires { HaveLinks names.old linked.now }
     ensures { ForLinksOf names.old linked.now (λ p ks. IfOk result (λ run. run ≡ entries_of p ks)) }
 {
-    let mut entries = Vec::with_capacity(alloc, linked.len())?;
+    let mut entries = Vec::with_capacity(alloc, most)?;
     for entry in linked {
         push_entries(&mut entries, names, alloc, entry)?;
     }
