@@ -22,6 +22,9 @@ use ix_base::Stop;
 use std::alloc::Global;
 use std::sync::Arc;
 
+// One in so many nodes is mostly that of an indexed entry, or fewer are. A list that grows from nothing is copied time and again.
+const INDEXED: usize = 2;
+
 /// What the references of the visited entries in shard `k` give: for each indexed entry, in section order, its name, its
 /// linkage name, whether it is external, and the length of its qualified name in bytes. The shards are those of consecutive
 /// runs that make up all units of the image's file.
@@ -73,7 +76,7 @@ fn links_of<'f>(
     requires run { HasRun paths.old shard.now }
     ensures { ForStanding paths.old shard.now (λ p run. GivesFor (λ v. AreLinksOf p v.items) result (links_at p (kept_in run))) }
 {
-    let mut entries = Vec::new(alloc);
+    let mut entries = Vec::with_capacity(alloc, shard.nodes.len() / INDEXED)?;
     for k in 0..shard.nodes.len() {
         if paths.passes(&shard.nodes, k) {
             continue;

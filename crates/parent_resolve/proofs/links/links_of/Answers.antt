@@ -33,7 +33,7 @@ returns-in_err-add_link c p run file are is_run stands =
     let shards = subst (AreShardsOf p) (sym (ap (λ (e : EntriesOf). e.shards) inv.paths)) are in
     let stop = c.in_err-add_link.field-0.0 in
     let one = c.in_err-add_link.ensures.value p run here shards is_run stands pair.at pair.member own in
-    let q = err_from_is_err_and c.from_residual.result c.from_residual.ensures.1 in
+    let q = err_from_is_err_and c.from_residual-in_err-add_link.result c.from_residual-in_err-add_link.ensures.1 in
     rw (q.1, q.2) (stops_here p run k c.loop-k.entries.items (inv.taken p run file are is_run stands) pair.at pair.rest pair.whole stop one)
 
 pub add_link-requires-clause-entry : goal.add_link-requires-clause-entry
